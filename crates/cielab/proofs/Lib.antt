@@ -1,0 +1,14 @@
+pub mod Units
+pub mod NearestDouble
+pub mod Floats
+pub mod LinearTable
+pub mod Cubes
+pub mod RootPattern
+pub mod Signs
+pub mod Order
+pub mod Magnitude
+pub mod Range
+pub mod OwnDifference
+pub mod Turns
+pub mod Distances
+pub mod FirstNearest

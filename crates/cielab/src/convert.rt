@@ -1,0 +1,57 @@
+// 8-bit sRGB to CIELAB (D65): `rgb_to_lab_one` of color.rs, its operations in its order.
+use crate::LinearRgb;
+use crate::cube_root::root;
+use crate::curve::linear_rgb_in;
+use limits::Lab;
+use limits::Rgb;
+ghost use mathlib.Core.Path.{_≡_};
+ghost use lib.Dec.{T};
+ghost use Rattle.cielab.specs.Curve.{linearTable};
+ghost use Rattle.cielab.specs.Convert.{labF, rowOf, labOfLinear, labOf, LinearValues, Converted};
+ghost use Rattle.cielab.specs.Range.{AtMost, Bounded};
+
+// The root where t is above 0.008856, and the line below it. For a ratio of at most 2 the root is never
+// asked outside its range.
+fn lab_f(t: f64) -> f64
+    requires { ⌜ AtMost 2 t ⌝ }
+    ensures { λ r. ⌜ Bounded 32 r (labF t) ⌝ }
+{
+    if t > 0.008856 {
+        root(t)
+    } else {
+        7.787 * t + 16.0 / 116.0
+    }
+}
+
+// A row of the matrix times a colour, summed left to right.
+fn row(v: LinearRgb, m0: f64, m1: f64, m2: f64) -> f64
+    ensures { λ r. ⌜ r ≡ rowOf v m0 m1 m2 ⌝ }
+{
+    v.r * m0 + v.g * m1 + v.b * m2
+}
+
+// The steps after the curve, for any three linear values from 0 to 1.
+pub fn lab_of_linear(v: LinearRgb) -> Lab
+    requires { ⌜ LinearValues v ⌝ }
+    ensures { λ r. ⌜ Converted r (labOfLinear v) ⌝ }
+{
+    let x = row(v, 0.412453, 0.357580, 0.180423);
+    let y = row(v, 0.212671, 0.715160, 0.072169);
+    let z = row(v, 0.019334, 0.119193, 0.950227);
+    let fx = lab_f(x / 0.95047);
+    let fy = lab_f(y / 1.0);
+    let fz = lab_f(z / 1.08883);
+    Lab {
+        l: 116.0 * fy - 16.0,
+        a: 500.0 * (fx - fy),
+        b: 200.0 * (fy - fz),
+    }
+}
+
+// The LAB of a colour, with the curve's table lent.
+pub fn lab_in(t: &[f64; 245], rgb: Rgb) -> Lab
+    requires { ⌜ now t ≡ linearTable ⌝ }
+    ensures { λ r. ⌜ Converted r (labOf rgb) ⌝ }
+{
+    lab_of_linear(linear_rgb_in(t, rgb))
+}

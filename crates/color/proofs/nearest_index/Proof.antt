@@ -1,0 +1,110 @@
+-- `nearest_index`: each test is the check in its place, and past them `nearest_in` finds the first of the nearest. Assumes nothing.
+use mathlib.Core.Path.{_≡_, sym, ap, subst, _∙_}
+use mathlib.Core.Bool.{true, false}
+use mathlib.Core.List.{List}
+use Prim.Native.Nat.{ℕ, _*_}
+use native.Mathlib.Omega.{arith}
+use borrow.Author.Needs.{needs}
+use borrow.Author.Tests.{lt-ltb, le-ltb, eq-eqb, ne-eqb}
+use lib.Dec.{ltb, eqb}
+use lib.ListN.{length, take}
+use lib.Seq.{length-take-le}
+use lib.Ieee.{Float}
+use Rattle.limits.specs.Checks.{firstOf, refusedOr}
+use Rattle.limits.specs.declared.Lab.{Lab}
+use Rattle.lists.specs.Lists.{some}
+use Rattle.cielab.specs.Finite.{unfit, unfitTriple}
+use Rattle.cielab.specs.Nearest.{FirstNearest}
+use Rattle.cielab.specs.declared.Near.{Near}
+use Rattle.cielab.proofs.FirstNearest.{first-nearest}
+use Rattle.color.specs.declared.Found.the-variants.{Entry, Refused}
+use Rattle.color.specs.Calls.{nearestChecks, nearestIndexOf, NearestEntry}
+use Rattle.color.proofs.nearest_index.Statement.{statement}
+use Rattle.color.proofs.nearest_index.Tie as tie
+
+refused : (target : Lab) (lab : List Float) (k n : ℕ) → Refused n ≡ nearestIndexOf target lab k → NearestEntry target lab k (Refused n)
+refused target lab k n e = record { value = e; first = λ i h. absurd (never i h) }
+  where
+    never : (i : ℕ) → Refused n ≡ Entry i → ⊥
+    never i h = let z : _≡_ {A = ℕ} 0 1 = cc in omega arith
+
+entry : (target : Lab) (lab : List Float) (k i : ℕ) → Entry i ≡ nearestIndexOf target lab k → FirstNearest target lab k i → NearestEntry target lab k (Entry i)
+entry target lab k i e f = record { value = e; first = λ j h. let same : i ≡ j = cc in subst (FirstNearest target lab k) same f }
+
+returns : tie.Need-returns
+unfolding nearestIndexOf nearestChecks firstOf refusedOr
+returns c = refused _ _ _ _ (rw (lt-ltb _ _ (c .if1 .taken)))
+
+returns-2 : tie.Need-returns-2
+unfolding nearestIndexOf nearestChecks firstOf refusedOr
+returns-2 c = refused _ _ _ _ (rw (le-ltb _ _ (c .before .if1 .left), ne-eqb _ _ (c .if2 .taken)))
+
+mul-n : tie.Need-mul-n
+mul-n c = search needs
+
+slice-aggregate-any-unfit : tie.Need-slice-aggregate-any-unfit
+slice-aggregate-any-unfit c = sym (length-take-le _ _ (omega arith))
+
+any-unfit-requires : tie.Need-any-unfit-requires
+any-unfit-requires c κs = search needs
+
+-- past the third check: k and the length are within their limits, and the k entries are finite
+record Past (lab : List Float) (k : ℕ) : Type 0 where
+  few : ltb 255 k ≡ false
+  sized : eqb (length lab) 765 ≡ true
+  fit : some unfit (take (3 * k) lab) ≡ false
+
+past-storage : (c : tie.Else3) → Past (c .before .before .before .before .before .before .args .lab .now) (c .before .before .before .before .before .before .args .k)
+past-storage c =
+    record {
+      few = le-ltb _ _ (c .before .before .before .before .if1 .left);
+      sized = eq-eqb _ _ (c .before .before .before .if2 .left);
+      fit = sym (c .before .any-unfit .ensures) ∙ c .if3 .left;
+    }
+
+returns-3 : tie.Need-returns-3
+unfolding nearestIndexOf nearestChecks firstOf refusedOr
+returns-3 c = refused _ _ _ _ (rw (le-ltb _ _ (c .before .before .before .before .if1 .left), eq-eqb _ _ (c .before .before .before .if2 .left), ← c .before .any-unfit .ensures, c .if3 .taken))
+
+unfit-triple-requires : tie.Need-unfit-triple-requires
+unfit-triple-requires c κs = search needs
+
+returns-4 : tie.Need-returns-4
+unfolding nearestIndexOf nearestChecks firstOf refusedOr
+returns-4 c = let h = past-storage (c .before .before) in refused _ _ _ _ (rw (h .few, h .sized, h .fit, ← c .before .unfit-triple .ensures, c .if4 .taken))
+
+-- past the fourth check the triple is finite too
+past-triple : (c : tie.Else4) → unfitTriple (c .before .before .before .before .before .before .before .before .args .target) ≡ false
+past-triple c = sym (c .before .unfit-triple .ensures) ∙ c .if4 .left
+
+returns-5 : tie.Need-returns-5
+unfolding nearestIndexOf nearestChecks firstOf refusedOr
+returns-5 c = let h = past-storage (c .before .before .before) in refused _ _ _ _ (rw (h .few, h .sized, h .fit, past-triple (c .before), eq-eqb _ _ (c .if5 .taken)))
+
+nearest-in-requires : tie.Need-nearest-in-requires
+nearest-in-requires c κs = search needs
+
+returns-6 : tie.Need-returns-6
+unfolding nearestIndexOf nearestChecks firstOf refusedOr
+returns-6 c =
+    let h = past-storage (c .before .before .before .before) in
+    let e = ap (λ (s : Near). s .entry) (c .nearest-in .ensures) in
+    entry _ _ _ _
+    (rw (h .few, h .sized, h .fit, past-triple (c .before .before), ne-eqb _ _ (c .before .if5 .left)) (ap Entry e))
+    (subst (FirstNearest _ _ _) (sym e) (first-nearest _ _ _ (past-triple (c .before .before)) (h .fit) (omega arith) (omega arith)))
+
+pub nearest-index-spec : {M : Type 1} → statement M
+nearest-index-spec =
+    tie.close
+    (tie.spec
+    returns
+    returns-2
+    mul-n
+    slice-aggregate-any-unfit
+    any-unfit-requires
+    returns-3
+    unfit-triple-requires
+    returns-4
+    returns-5
+    nearest-in-requires
+    returns-6)

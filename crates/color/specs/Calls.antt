@@ -1,0 +1,51 @@
+-- The calls that refuse: their checks, in document 01's order, and their answers. Definitions only. Assumes nothing.
+use mathlib.Core.Path.{_≡_}
+use mathlib.Core.Bool.{not}
+use mathlib.Core.List.{List, [], _∷_}
+use Prim.Native.Nat.{ℕ, _*_, _^_}
+use lib.Dec.{T, ltb, eqb}
+use lib.ListN.{length, take}
+use lib.Ieee.{Float, binary64, toBits}
+use Rattle.limits.specs.Limits.{maxEntries, storage}
+use Rattle.limits.specs.Numbers.{badSheet, unfitLab, noSuchEntry, rootRange}
+use Rattle.limits.specs.Checks.{Check, _when_, checked}
+use Rattle.limits.specs.declared.Lab.{Lab}
+use Rattle.lists.specs.Lists.{some}
+use Rattle.cielab.specs.NearestDouble.{unitsOf, NoneNearer}
+use Rattle.cielab.specs.CubeRoot.{inRootRange, rootOf}
+use Rattle.cielab.specs.Finite.{unfit, unfitTriple}
+use Rattle.cielab.specs.Nearest.{nearestOf, FirstNearest}
+use Rattle.color.specs.declared.Root.{Root}
+use Rattle.color.specs.declared.Root.the-variants as root
+use Rattle.color.specs.declared.Found.{Found}
+use Rattle.color.specs.declared.Found.the-variants as found
+
+-- ---- `cbrt`: "root range: cube root outside 1/128..2, or not a number"
+unfoldable pub rootChecks : Float → List Check
+rootChecks t = rootRange when not (inRootRange t) ∷ []
+
+unfoldable pub cbrtOf : Float → Root
+cbrtOf t = checked (rootChecks t) root.Refused (root.Value (rootOf t))
+
+-- the answer, and that no double is nearer to the exact root
+pub record CubeRoot (t : Float) (r : Root) : Type 0 where
+  pub value : r ≡ cbrtOf t
+  pub nearest : T (inRootRange t) → NoneNearer 3 (unitsOf (toBits binary64 t)) (2 ^ 1074) (toBits binary64 (rootOf t))
+
+-- ---- `nearest_index`: "a used or searched LAB number not finite", "a nearest search with k = 0"
+unfoldable pub nearestChecks : Lab → List Float → ℕ → List Check
+nearestChecks target lab k =
+    badSheet when ltb maxEntries k
+    ∷ badSheet when not (eqb (length lab) storage)
+    ∷ unfitLab when some unfit (take (3 * k) lab)
+    ∷ unfitLab when unfitTriple target
+    ∷ noSuchEntry when eqb k 0
+    ∷ []
+
+unfoldable pub nearestIndexOf : Lab → List Float → ℕ → Found
+nearestIndexOf target lab k = checked (nearestChecks target lab k) found.Refused (found.Entry (nearestOf target lab k .entry))
+
+-- the answer, and that its entry is the first of the nearest
+pub record NearestEntry (target : Lab) (lab : List Float) (k : ℕ) (r : Found) : Type 0 where
+  pub value : r ≡ nearestIndexOf target lab k
+  pub first : (i : ℕ) → r ≡ found.Entry i → FirstNearest target lab k i

@@ -1,0 +1,89 @@
+// The calls of color.rs: each answers every input.
+//
+// They check what they are handed, in document 01's order, and leave the work to cielab.
+use limits::BAD_SHEET;
+use limits::Lab;
+use limits::MAX_ENTRIES;
+use limits::NO_SUCH_ENTRY;
+use limits::ROOT_RANGE;
+use limits::Rgb;
+use limits::STORAGE;
+use limits::UNFIT_LAB;
+ghost use mathlib.Core.Path.{_≡_};
+ghost use Rattle.cielab.specs.Curve.{Linear};
+ghost use Rattle.cielab.specs.Convert.{labOf, Converted};
+ghost use Rattle.cielab.specs.Nearest.{dist2Of};
+ghost use Rattle.color.specs.Calls.{CubeRoot, NearestEntry};
+
+// What `cbrt` answers.
+pub enum Root {
+    Value(f64),
+    Refused(u8),
+}
+
+// What a search for an entry answers.
+pub enum Found {
+    Entry(usize),
+    Refused(u8),
+}
+
+// The linear value of a byte of sRGB.
+pub fn linear(c: u8) -> f64
+    ensures { λ r. ⌜ Linear c r ⌝ }
+{
+    let t = cielab::table();
+    cielab::linear_in(&t, c)
+}
+
+// The cube root of t: the double nearest to the exact root. Outside 1/128..2, and for a NaN, 20.
+pub fn cbrt(t: f64) -> Root
+    ensures { λ r. ⌜ CubeRoot t r ⌝ }
+{
+    if t >= 0.0078125 {
+        if t <= 2.0 {
+            return Root::Value(cielab::root(t));
+        }
+    }
+    Root::Refused(ROOT_RANGE)
+}
+
+// The CIELAB (D65) triple of a colour. Its numbers are finite for every colour.
+pub fn rgb8_to_lab(rgb: Rgb) -> Lab
+    ensures { λ r. ⌜ Converted r (labOf rgb) ⌝ }
+{
+    let t = cielab::table();
+    cielab::lab_in(&t, rgb)
+}
+
+// The squared distance of two triples, as the source computes it; for numbers that are not finite too.
+pub fn dist2(p: Lab, q: Lab) -> f64
+    ensures { λ r. ⌜ r ≡ dist2Of p q ⌝ }
+{
+    cielab::dist2(p, q)
+}
+
+// The nearest of the first k entries of a LAB storage, the first of them where several are. A k or a
+// length past the limits is 1, a number among the k entries or in the target that is not finite 3, and
+// no entry at all 7.
+pub fn nearest_index(target: Lab, lab: &[f64], k: usize) -> Found
+    ensures { λ r. ⌜ NearestEntry target (now (lab .entry)) k r ⌝ }
+{
+    if MAX_ENTRIES < k {
+        return Found::Refused(BAD_SHEET);
+    }
+    if lab.len() != STORAGE {
+        return Found::Refused(BAD_SHEET);
+    }
+    let n = 3 * k;
+    if cielab::any_unfit(&lab[..n]) {
+        return Found::Refused(UNFIT_LAB);
+    }
+    if cielab::unfit_triple(target) {
+        return Found::Refused(UNFIT_LAB);
+    }
+    if k == 0 {
+        return Found::Refused(NO_SUCH_ENTRY);
+    }
+    let near = cielab::nearest_in(target, lab, k);
+    Found::Entry(near.entry)
+}

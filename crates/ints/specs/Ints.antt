@@ -1,0 +1,21 @@
+-- Whole numbers with a sign, as the definitions of other crates use them. Definitions only. Assumes nothing.
+use Prim.Native.Nat.{ℕ}
+use mathlib.Core.Bool.{Bool, false}
+use lib.Dec.{ltb, eqb}
+use lib.IntN.{ℤ, pos, negsuc, natAbs}
+use Rattle.limits.specs.Limits.{maxDistance}
+
+unfoldable pub eqZ : ℤ → ℤ → Bool
+eqZ (pos a) (pos b) = eqb a b
+eqZ (pos a) (negsuc b) = false
+eqZ (negsuc a) (pos b) = false
+eqZ (negsuc a) (negsuc b) = eqb a b
+
+-- "Points and shifts lie in -65,536..65,536": beyond that
+unfoldable pub far : ℤ → Bool
+far z = ltb maxDistance (natAbs z)
+
+-- a number, or 0 where it is negative
+unfoldable pub fromZero : ℤ → ℕ
+fromZero (pos n) = n
+fromZero (negsuc n) = 0

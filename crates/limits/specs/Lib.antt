@@ -1,0 +1,4 @@
+pub mod Limits
+pub mod Numbers
+pub mod Checks
+pub mod Answer
