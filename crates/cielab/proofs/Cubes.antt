@@ -1,7 +1,7 @@
 -- Squares and cubes by their digits in base 2 ^ 28, and cubes compared. Assumes nothing.
 use mathlib.Core.Path.{_≡_, sym, ap, _∙_}
 use Prim.Native.Nat.{ℕ, _+_, _-_, _*_, _/_, _%_, _^_, _≤_, _<_}
-use native.Mathlib.Nat.{add-assoc, add-comm, add-left-comm, mul-assoc, mul-comm, mul-left-comm, mul-add, add-mul, mod-add-div', mul-le-mul, add-mul-div-right, div-div-eq-div-mul, le-div-iff-mul-le, div-lt-iff-lt-mul, le-trans, lt-of-le-of-lt, lt-of-lt-of-le, mul-le-mul-right, le-of-lt}
+use native.Mathlib.Nat.{add-assoc, add-comm, add-left-comm, mul-assoc, mul-comm, mul-left-comm, mul-add, add-mul, mul-one, one-mul, div-mul-le-self, mod-add-div', mul-le-mul, add-mul-div-right, div-div-eq-div-mul, le-div-iff-mul-le, div-lt-iff-lt-mul, le-trans, lt-of-le-of-lt, lt-of-lt-of-le, mul-le-mul-right, le-of-lt}
 use lib.Dec.{lit<}
 use native.Mathlib.Omega.{arith}
 use lib.Pow.{pow-pos}
@@ -140,3 +140,65 @@ over-low n h = lt-of-lt-of-le (lit< tt) (mul-le-mul-right (2 ^ 107) h)
 
 pub end-low : (n m : ℕ) → 2 ^ 52 ≤ n → m ≤ 2 ^ 52 → cube (2 * m - 1) < target n
 end-low n m h k = lt-of-le-of-lt (cube-mono (2 * m - 1) (2 ^ 53 - 1) (omega arith)) (over-low n h)
+
+-- ---- one cube shows both comparisons, with a little to spare
+pub top-small : (q : ℕ) → q ≤ 2 ^ 56 → top q < 2 ^ 61 + 1
+unfolding top cube
+top-small q h = div-lt-iff-lt-mul (pow-pos 107) .1 (lt-of-le-of-lt (mul-le-mul (mul-le-mul h h) h) (lit< tt))
+
+times2 : (a b m : ℕ) → a * m * (b * m) ≡ a * b * (m * m)
+times2 a b m = simp (mul-assoc, mul-comm, mul-left-comm)
+
+times3 : (a b d m : ℕ) → a * m * (b * m) * (d * m) ≡ a * b * d * (m * m * m)
+times3 a b d m = simp (mul-assoc, mul-comm, mul-left-comm)
+
+square-next : (q : ℕ) → (q + 1) * (q + 1) ≡ q * q + 2 * q + 1
+square-next q = simp (twice, mul-add, add-mul, mul-one, one-mul, add-assoc, add-comm, add-left-comm)
+
+cube-next : (q : ℕ) → (q + 1) * (q + 1) * (q + 1) ≡ q * q * q + (q * q + q * q + q * q) + (q + q + q) + 1
+cube-next q = simp (mul-add, add-mul, mul-one, one-mul, mul-assoc, mul-comm, mul-left-comm, add-assoc, add-comm, add-left-comm)
+
+-- m³ in units of 2 ^ 98, rounded down
+cube-from : (m : ℕ) → top (8 * m) * 2 ^ 98 ≤ m * m * m
+unfolding top cube
+cube-from m = let l = div-mul-le-self (8 * m * (8 * m) * (8 * m)) (2 ^ 107) in omega (arith, l, times3 8 8 8 m)
+
+cube-to : (m : ℕ) → m * m * m < (top (8 * m) + 1) * 2 ^ 98
+unfolding top cube
+cube-to m =
+    let l : 8 * m * (8 * m) * (8 * m) < (8 * m * (8 * m) * (8 * m) / 2 ^ 107 + 1) * 2 ^ 107 = div-lt-iff-lt-mul (pow-pos 107) .0 (omega arith) in
+    omega (arith, l, times3 8 8 8 m)
+
+above-by : (n c w M3 M2 C : ℕ) → c * 2 ^ 98 ≤ M3 → w * 2 ^ 99 ≤ 3 * M2 → n * 64 ≤ c + w → 8 * M3 + 12 * M2 ≤ C → n * 2 ^ 107 ≤ C
+above-by n c w M3 M2 C h k l e = omega arith
+
+below-by : (n c w M3 M2 m C : ℕ) → M3 < (c + 1) * 2 ^ 98 → w * 2 ^ 99 ≤ 3 * M2 → c + 2 ≤ n * 64 + w → m ≤ 2 ^ 53 → C + 12 * M2 ≤ 8 * M3 + 6 * m → C < n * 2 ^ 107
+below-by n c w M3 M2 m C h k l b e = omega arith
+
+cube-up : (m : ℕ) → 8 * (m * m * m) + 12 * (m * m) ≤ cube (2 * m + 1)
+unfolding cube
+cube-up m = omega (arith, cube-next (2 * m), times3 2 2 2 m, times2 2 2 m)
+
+cube-down : (m : ℕ) → 1 ≤ m → cube (2 * m - 1) + 12 * (m * m) ≤ 8 * (m * m * m) + 6 * m
+unfolding cube
+cube-down m h =
+    let e : 2 * m - 1 + 1 ≡ 2 * m = omega arith in
+    omega (arith, rw e at (cube-next (2 * m - 1)), rw e at (square-next (2 * m - 1)), times3 2 2 2 m, times2 2 2 m)
+
+-- w is at most 3/2 m², in the same units
+pub reach : (m : ℕ) → 3 * (m / 0x400_0000 * (m / 0x400_0000)) / 0x8000_0000_0000 * 2 ^ 99 ≤ 3 * (m * m)
+reach m =
+    let h = m / 0x400_0000 in
+    let below : 0x400_0000 * h ≤ m = omega arith in
+    omega (arith, mul-le-mul below below, times2 0x400_0000 0x400_0000 h)
+
+pub half-square : (m : ℕ) → m ≤ 2 ^ 53 → m / 0x400_0000 * (m / 0x400_0000) ≤ 2 ^ 54
+half-square m h = let below : m / 0x400_0000 ≤ 2 ^ 27 = omega arith in mul-le-mul below below
+
+pub up-settled : (n m w : ℕ) → w * 2 ^ 99 ≤ 3 * (m * m) → n * 64 ≤ top (8 * m) + w → target n ≤ cube (2 * m + 1)
+unfolding target
+up-settled n m w k l = above-by n (top (8 * m)) w (m * m * m) (m * m) _ (cube-from m) k l (cube-up m)
+
+pub down-settled : (n m w : ℕ) → w * 2 ^ 99 ≤ 3 * (m * m) → top (8 * m) + 2 ≤ n * 64 + w → 1 ≤ m → m ≤ 2 ^ 53 → cube (2 * m - 1) < target n
+unfolding target
+down-settled n m w k l o b = below-by n (top (8 * m)) w (m * m * m) (m * m) m _ (cube-to m) k l b (cube-down m o)

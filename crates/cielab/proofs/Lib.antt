@@ -9,6 +9,6 @@ pub mod Order
 pub mod Magnitude
 pub mod Range
 pub mod OwnDifference
-pub mod Turns
+pub mod Halves
 pub mod Distances
 pub mod FirstNearest

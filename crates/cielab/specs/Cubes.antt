@@ -30,4 +30,4 @@ pub record Digits (q s0 s1 s2 s3 : ℕ) : Type 0 where
   pub low0 : s0 < 2 ^ 28
   pub low1 : s1 < 2 ^ 28
   pub low2 : s2 < 2 ^ 28
-  pub low3 : s3 < 2 ^ 26
+  pub low3 : s3 < 2 ^ 29

@@ -18,7 +18,7 @@ struct Square {
 }
 
 fn squared(q: u64) -> Square
-    requires { ⌜ q < 2 ^ 55 ⌝ }
+    requires { ⌜ q ≤ 2 ^ 56 ⌝ }
     ensures { λ r. ⌜ Digits q (r .s0) (r .s1) (r .s2) (r .s3) ⌝ }
 {
     let a0 = q % 0x1000_0000;
@@ -36,7 +36,7 @@ fn squared(q: u64) -> Square
 
 // The cube of q without its lowest 107 binary digits.
 fn cube_top(q: u64) -> u64
-    requires { ⌜ q < 2 ^ 55 ⌝ }
+    requires { ⌜ q ≤ 2 ^ 56 ⌝ }
     ensures { λ r. ⌜ r ≡ top q ⌝ }
 {
     let s = squared(q);
@@ -83,16 +83,17 @@ fn lowered(n: u64, from: u64) -> u64
     m
 }
 
-// Whether both half steps show that m is the nearest. It is the usual case, so both cubes are made
-// before either is tested.
+// Whether the cube of m alone shows that m is the nearest: it misses the number by less than 3/2 m^2, in
+// units of 2^98 and with two of them to spare. It is the usual case; of the others it says nothing.
 fn settled(n: u64, m: u64) -> bool
-    requires { ⌜ (2 ^ 52 ≤ m) × (m ≤ 2 ^ 53) ⌝ }
+    requires { ⌜ (n < 2 ^ 55) × (2 ^ 52 ≤ m) × (m ≤ 2 ^ 53) ⌝ }
     ensures { λ r. ⌜ (r ≡ true → NearestRoot n m) ⌝ }
 {
-    let up = cube_top(2 * m + 1);
-    let down = cube_top(2 * m - 1);
-    if down < n {
-        if n <= up {
+    let c = cube_top(8 * m);
+    let h = m / 0x400_0000;
+    let w = 3 * (h * h) / 0x8000_0000_0000;
+    if n * 64 <= c + w {
+        if c + 2 <= n * 64 + w {
             return true;
         }
     }
@@ -124,40 +125,43 @@ fn nearest_root(n: u64, guess: u64) -> u64
     lowered(n, raised(n, m))
 }
 
-// A start near the cube root of t, whose pattern is b: a third of the pattern, then a polynomial, for
-// about 23 binary digits.
-fn start(t: f64, b: u64) -> f64
+// A start near the cube root of t, from t's pattern b and z = 1/t: a third of the pattern, then a polynomial
+// in y^3/t, for about 19 binary digits.
+fn start(b: u64, z: f64) -> f64
     requires { ⌜ b < 2 ^ 63 ⌝ }
 {
     let y = f64::from_bits(b / 3 + 0x2a9f_7893_0000_0000);
-    let r = y * y * (y / t);
-    let low = 1.87595182427177009643 + r * (-1.88497979543377169875 + r * 1.621429720105354466140);
-    let high = -0.758397934778766047437 + r * 0.145996192886612446982;
-    y * (low + r * r * r * high)
+    let r = y * y * y * z;
+    let low = 1.7282240706472218 - 1.2944945718253995 * r;
+    let high = 0.7376562204346357 - 0.1713871300013265 * r;
+    y * (low + r * r * high)
 }
 
-// y to 23 binary digits, so that its square is exact.
+// y to 17 binary digits, so that its cube is exact.
 fn short(y: f64) -> f64 {
     if y < 2.0 {
         let p = f64::to_bits(y);
         if p < 0x4000_0000_0000_0000 {
-            return f64::from_bits((p + 0x2000_0000) / 0x4000_0000 * 0x4000_0000);
+            return f64::from_bits((p + 0x8_0000_0000) / 0x10_0000_0000 * 0x10_0000_0000);
         }
     }
     1.0
 }
 
-// One step of Newton's method towards the cube root of t.
-fn newton(y: f64, t: f64) -> f64 {
-    let q = t / (y * y);
-    y + y * ((q - y) / (y + y + q))
+// One step from y towards the cube root of t, with z = 1/t: with d = (t - y^3)/t the root is
+// y (1 - d)^(-1/3), and these are the first terms of its series.
+fn stepped(y: f64, t: f64, z: f64) -> f64 {
+    let d = (t - y * y * y) * z;
+    y + y * d * (1.0 / 3.0 + d * (2.0 / 9.0) + d * d * (14.0 / 81.0))
 }
 
-// A guess at the pattern of the cube root of t, whose pattern is b. Any number would do.
+// A guess at the pattern of the cube root of t, whose pattern is b. Any number would do; this one is
+// nearly always right.
 fn guess_bits(t: f64, b: u64) -> u64
     requires { ⌜ b < 2 ^ 63 ⌝ }
 {
-    let y = newton(short(start(t, b)), t);
+    let z = 1.0 / t;
+    let y = stepped(short(start(b, z)), t, z);
     if y < 2.0 {
         f64::to_bits(y)
     } else {

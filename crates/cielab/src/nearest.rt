@@ -1,9 +1,8 @@
 // The nearest entry: `dist2` and `nearest_index` of color.rs.
 use crate::Near;
 use limits::Lab;
-use lists::either;
 ghost use mathlib.Core.Path.{_≡_};
-ghost use mathlib.Core.Bool.{_||_};
+ghost use mathlib.Core.Bool.{cond};
 ghost use Prim.Native.Nat.{_+_, _*_, _≤_};
 ghost use lib.ListN.{length};
 ghost use lib.Ieee.{lt};
@@ -56,51 +55,35 @@ fn take(s: Near, target: Lab, lab: &[f64], i: usize) -> Near
     }
 }
 
-// Whether one of two entries is strictly nearer than d. Both are measured, side by side.
-fn pair_nearer(d: f64, target: Lab, lab: &[f64], i: usize) -> bool
-    requires { ⌜ 3 * (i + 2) ≤ length (now lab) ⌝ }
-    ensures { λ r. ⌜ r ≡ lt (distance target (now (lab .entry)) i) d || lt (distance target (now (lab .entry)) (i + 1)) d ⌝ }
+// The nearer of two that were found, the one before where both are as near.
+fn nearer(s: Near, u: Near) -> Near
+    ensures { λ r. ⌜ r ≡ cond (lt (u .distance) (s .distance)) u s ⌝ }
 {
-    let d0 = distance_to(target, lab, i);
-    let d1 = distance_to(target, lab, i + 1);
-    either(d0 < d, d1 < d)
+    if u.distance < s.distance { u } else { s }
 }
 
-// Four entries from i on: one test says whether any takes over, which is seldom.
-fn take_four(s: Near, target: Lab, lab: &[f64], i: usize) -> Near
-    requires { ⌜ 3 * (i + 4) ≤ length (now lab) ⌝ }
-    ensures { λ r. ⌜ r ≡ closer target (now (lab .entry)) (i + 3) (closer target (now (lab .entry)) (i + 2) (closer target (now (lab .entry)) (i + 1) (closer target (now (lab .entry)) i s))) ⌝ }
-{
-    let d = s.distance;
-    if either(
-        pair_nearer(d, target, lab, i),
-        pair_nearer(d, target, lab, i + 2),
-    ) {
-        let s1 = take(s, target, lab, i);
-        let s2 = take(s1, target, lab, i + 1);
-        let s3 = take(s2, target, lab, i + 2);
-        return take(s3, target, lab, i + 3);
-    }
-    s
-}
-
-// The nearest of the first k entries, the first of them where several are.
+// The nearest of the first k entries, the first of them where several are. The two halves are searched
+// side by side: neither waits for the other, and no branch is left in the machine code of a turn.
 pub fn nearest_in(target: Lab, lab: &[f64], k: usize) -> Near
     requires { ⌜ 3 * k ≤ length (now lab) ⌝ }
     ensures { λ r. ⌜ r ≡ nearestOf target (now (lab .entry)) k ⌝ }
 {
-    let mut s = Near {
+    let far = Near {
         entry: 0,
         distance: f64::from_bits(0x7ff0_0000_0000_0000),
     };
-    let mut i: usize = 0;
-    while 3 < k - i {
-        s = take_four(s, target, lab, i);
-        i += 4;
-    }
-    while i < k {
+    let half = k / 2;
+    let mut s = far;
+    let mut u = far;
+    let mut i = 0;
+    while i < half {
         s = take(s, target, lab, i);
+        u = take(u, target, lab, half + i);
         i += 1;
     }
-    s
+    let near = nearer(s, u);
+    if half + half < k {
+        return take(near, target, lab, half + half);
+    }
+    near
 }

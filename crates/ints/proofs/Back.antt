@@ -1,6 +1,6 @@
 -- A signed number is its bits in the code, and reads back as itself. Assumes nothing.
 use mathlib.Core.Path.{_≡_, refl, sym}
-use mathlib.Core.Bool.{Bool, true, false}
+use mathlib.Core.Bool.{Bool, true, false, cond}
 use Prim.Native.Nat.{ℕ, suc, _^_, _<_, _-_}
 use native.Mathlib.Omega.{arith}
 use borrow.Author.Tests.{ltb-true, ltb-false, lt-ltb, le-ltb, eq-eqb, ne-eqb, eqb-true, eqb-false}
@@ -10,7 +10,7 @@ use lib.Signed.{mag, ltZ, leZ, nonNeg}
 use mir.Syntax.{Width, w16, w64}
 use mir.Val.{toZ, ofZ, hbits, SFits, Fits}
 use mir.Facts.{toZ-ofZ, fits-natAbs}
-use Rattle.ints.specs.Ints.{eqZ, far, fromZero}
+use Rattle.ints.specs.Ints.{eqZ, far, fromZero, onAxis}
 
 -- what a copy of an element of a slice, or a call's result, gives
 pub back : (w : Width) (z : ℤ) → mag z < 2 ^ hbits w → toZ w (ofZ w z) ≡ z
@@ -71,3 +71,13 @@ eq-bits (negsuc a) (negsuc b) h k = eq-by a b (eqb a b) h k refl
 
 pub eq-back : {a b : ℤ} → SFits w16 a → SFits w16 b → eqb (ofZ w16 a) (ofZ w16 b) ≡ eqZ a b
 eq-back {a} {b} h k = eq-bits a b (h .sfits) (k .sfits)
+
+pub axis-neg : (z : ℤ) (size : ℕ) → ltZ z (pos 0) ≡ true → size ≡ onAxis z size
+unfolding onAxis
+axis-neg (pos n) size e = absurd (omega (arith, ltb-true n 0 e))
+axis-neg (negsuc n) size e = refl
+
+pub axis-nat : (z : ℤ) (size : ℕ) → ltZ z (pos 0) ≡ false → cond (ltb (fromZero z) size) (fromZero z) size ≡ onAxis z size
+unfolding onAxis fromZero
+axis-nat (pos n) size e = refl
+axis-nat (negsuc n) size e = never (sym e)

@@ -1,6 +1,6 @@
 -- Whole numbers with a sign, as the definitions of other crates use them. Definitions only. Assumes nothing.
 use Prim.Native.Nat.{ℕ}
-use mathlib.Core.Bool.{Bool, false}
+use mathlib.Core.Bool.{Bool, false, cond}
 use lib.Dec.{ltb, eqb}
 use lib.IntN.{ℤ, pos, negsuc, natAbs}
 use Rattle.limits.specs.Limits.{maxDistance}
@@ -19,3 +19,8 @@ far z = ltb maxDistance (natAbs z)
 unfoldable pub fromZero : ℤ → ℕ
 fromZero (pos n) = n
 fromZero (negsuc n) = 0
+
+-- a coordinate on an axis of `size` positions, or `size` where it is off the axis
+unfoldable pub onAxis : ℤ → ℕ → ℕ
+onAxis (pos n) size = cond (ltb n size) n size
+onAxis (negsuc n) size = size

@@ -1,7 +1,7 @@
 // Signed numbers: the tests and the readings that loops and checks make of them, each with an equation on
 // whole numbers, so that callers meet no bit pattern.
 ghost use mathlib.Core.Path.{_≡_};
-ghost use Rattle.ints.specs.Ints.{eqZ, far, fromZero};
+ghost use Rattle.ints.specs.Ints.{eqZ, far, fromZero, onAxis};
 
 // Whether a and b are the same index.
 pub fn same(a: i16, b: i16) -> bool
@@ -25,4 +25,15 @@ pub fn from_zero(z: i32) -> usize
     ensures { λ r. ⌜ r ≡ fromZero z ⌝ }
 {
     if z < 0 { 0 } else { z as usize }
+}
+
+// A coordinate on an axis of `size` positions, or `size` where it is off the axis.
+pub fn on_axis(z: i32, size: usize) -> usize
+    ensures { λ r. ⌜ r ≡ onAxis z size ⌝ }
+{
+    let n = from_zero(z);
+    if z < 0 {
+        return size;
+    }
+    if n < size { n } else { size }
 }

@@ -12,10 +12,15 @@ infix 70 _when_
 abbrev pub _when_ : ℕ → Bool → Check
 _when_ n b = record { number = n; applies = b }
 
+-- the first of two numbers that is not 0
+abbrev pub orElse : ℕ → ℕ → ℕ
+orElse zero m = m
+orElse (suc n) m = suc n
+
 -- the number of the first check that applies, 0 where none does
 unfoldable pub firstOf : List Check → ℕ
 firstOf [] = 0
-firstOf (c ∷ cs) = cond (c .applies) (c .number) (firstOf cs)
+firstOf (c ∷ cs) = orElse (cond (c .applies) (c .number) 0) (firstOf cs)
 
 -- "A refusal returns its number alone": what is refused with the number, or the result where the number is 0
 unfoldable pub refusedOr : {R : Type 0} → ℕ → (ℕ → R) → R → R

@@ -1,5 +1,5 @@
 -- `cube_top`: each product of two digits is bounded once, and the carries give the cube's upper part. Assumes nothing.
-use Prim.Native.Nat.{ℕ, _*_, _+_, _/_, _%_, _^_, _≤_, _<_}
+use Prim.Native.Nat.{ℕ, _*_, _+_, _/_, _%_, _^_, _≤_}
 use native.Mathlib.Nat.{mul-le-mul}
 use native.Mathlib.Omega.{arith}
 use borrow.Author.Needs.{needs}
@@ -11,23 +11,23 @@ use Rattle.cielab.proofs.cube_root.cube_top.Statement.{statement}
 use Rattle.cielab.proofs.cube_root.cube_top.Tie as tie
 
 record Bounds (a b s0 s1 s2 s3 : ℕ) : Type 0 where
-  m00 : a * s0 ≤ 0xfff_ffff * 0xfff_ffff
-  m01 : a * s1 ≤ 0xfff_ffff * 0xfff_ffff
-  m02 : a * s2 ≤ 0xfff_ffff * 0xfff_ffff
-  m03 : a * s3 ≤ 0xfff_ffff * 0x3ff_ffff
-  m10 : b * s0 ≤ 0x7ff_ffff * 0xfff_ffff
-  m11 : b * s1 ≤ 0x7ff_ffff * 0xfff_ffff
-  m12 : b * s2 ≤ 0x7ff_ffff * 0xfff_ffff
-  m13 : b * s3 ≤ 0x7ff_ffff * 0x3ff_ffff
+  m00 : a * s0 ≤ 2 ^ 56
+  m01 : a * s1 ≤ 2 ^ 56
+  m02 : a * s2 ≤ 2 ^ 56
+  m03 : a * s3 ≤ 2 ^ 57
+  m10 : b * s0 ≤ 2 ^ 56
+  m11 : b * s1 ≤ 2 ^ 56
+  m12 : b * s2 ≤ 2 ^ 56
+  m13 : b * s3 ≤ 2 ^ 57
 
-bounds : (q s0 s1 s2 s3 : ℕ) → q < 2 ^ 55 → Digits q s0 s1 s2 s3 → Bounds (q % 0x1000_0000) (q / 0x1000_0000) s0 s1 s2 s3
+bounds : (q s0 s1 s2 s3 : ℕ) → q ≤ 2 ^ 56 → Digits q s0 s1 s2 s3 → Bounds (q % 0x1000_0000) (q / 0x1000_0000) s0 s1 s2 s3
 bounds q s0 s1 s2 s3 h d =
-    let a : q % 0x1000_0000 ≤ 0xfff_ffff = omega arith in
-    let b : q / 0x1000_0000 ≤ 0x7ff_ffff = omega arith in
-    let t0 : s0 ≤ 0xfff_ffff = omega arith in
-    let t1 : s1 ≤ 0xfff_ffff = omega arith in
-    let t2 : s2 ≤ 0xfff_ffff = omega arith in
-    let t3 : s3 ≤ 0x3ff_ffff = omega arith in
+    let a : q % 0x1000_0000 ≤ 2 ^ 28 = omega arith in
+    let b : q / 0x1000_0000 ≤ 2 ^ 28 = omega arith in
+    let t0 : s0 ≤ 2 ^ 28 = omega arith in
+    let t1 : s1 ≤ 2 ^ 28 = omega arith in
+    let t2 : s2 ≤ 2 ^ 28 = omega arith in
+    let t3 : s3 ≤ 2 ^ 29 = omega arith in
     record {
       m00 = mul-le-mul a t0;
       m01 = mul-le-mul a t1;
@@ -44,26 +44,26 @@ at : (c : tie.After-squared) → Bounds (c .before .args .q % 0x1000_0000) (c .b
 at c = bounds (c .before .args .q) _ _ _ _ (c .before .pre) (c .squared .ensures)
 
 -- a place's sum, and its carry, as numbers of their own: with the carries written out, `omega` meets numbers of more than 38 digits
-sum3 : (u v w : ℕ) → u ≤ 0xfff_ffff * 0xfff_ffff → v ≤ 0x7ff_ffff * 0xfff_ffff → w ≤ 2 ^ 30 → u + v + w ≤ 2 ^ 58
+sum3 : (u v w : ℕ) → u ≤ 2 ^ 57 → v ≤ 2 ^ 56 → w ≤ 2 ^ 30 → u + v + w ≤ 2 ^ 58
 sum3 u v w h k l = omega arith
 
 carried : (x : ℕ) → x ≤ 2 ^ 58 → x / 0x1000_0000 ≤ 2 ^ 30
 carried x h = omega arith
 
-small : (x : ℕ) → x ≤ 0xfff_ffff * 0x3ff_ffff → x ≤ 0xfff_ffff * 0xfff_ffff
+small : (x : ℕ) → x ≤ 2 ^ 56 → x ≤ 2 ^ 57
 small x h = omega arith
 
 fits58 : (x : ℕ) → x ≤ 2 ^ 58 → Fits w64 x
 fits58 x h = omega arith
 
-fits-end : (x y : ℕ) → x ≤ 2 ^ 58 → y ≤ 0x7ff_ffff * 0x3ff_ffff → Fits w64 (x / 0x80_0000 + y * 32)
+fits-end : (x y : ℕ) → x ≤ 2 ^ 58 → y ≤ 2 ^ 57 → Fits w64 (x / 0x80_0000 + y * 32)
 fits-end x y h k = omega arith
 
 third : (a b s0 s1 s2 s3 : ℕ) → Bounds a b s0 s1 s2 s3
     → a * s3 + b * s2 + (a * s2 + b * s1 + (a * s1 + b * s0 + a * s0 / 0x1000_0000) / 0x1000_0000) / 0x1000_0000 ≤ 2 ^ 58
 third a b s0 s1 s2 s3 m =
-    sum3 (a * s3) (b * s2) _ (small _ (m .m03)) (m .m12)
-    (carried _ (sum3 (a * s2) (b * s1) _ (m .m02) (m .m11) (carried _ (sum3 (a * s1) (b * s0) _ (m .m01) (m .m10) (carried _ (omega (arith, m .m00)))))))
+    sum3 (a * s3) (b * s2) _ (m .m03) (m .m12)
+    (carried _ (sum3 (a * s2) (b * s1) _ (small _ (m .m02)) (m .m11) (carried _ (sum3 (a * s1) (b * s0) _ (small _ (m .m01)) (m .m10) (carried _ (omega (arith, m .m00)))))))
 
 squared-requires : tie.Need-squared-requires
 squared-requires c κs = search needs

@@ -10,8 +10,8 @@ start-requires c κs = search needs
 short-requires : tie.Need-short-requires
 short-requires c κs = search needs
 
-newton-requires : tie.Need-newton-requires
-newton-requires c κs = search needs
+stepped-requires : tie.Need-stepped-requires
+stepped-requires c κs = search needs
 
 float-to-bits-result : tie.Need-float-to-bits-result
 float-to-bits-result c = lt-no-nan _ _ (c .if1 .taken)
@@ -25,4 +25,4 @@ returns-2 c = search needs
 pub guess-bits-spec : {M : Type 1} → statement M
 guess-bits-spec =
     tie.close
-    (tie.spec start-requires short-requires newton-requires float-to-bits-result returns returns-2)
+    (tie.spec start-requires short-requires stepped-requires float-to-bits-result returns returns-2)

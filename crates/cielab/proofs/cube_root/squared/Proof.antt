@@ -1,5 +1,5 @@
 -- `squared`: each product of two digits is bounded once, and the carries give the digits. Assumes nothing.
-use Prim.Native.Nat.{ℕ, _*_, _/_, _%_, _^_, _≤_, _<_}
+use Prim.Native.Nat.{ℕ, _*_, _/_, _%_, _^_, _≤_}
 use native.Mathlib.Nat.{mul-le-mul}
 use native.Mathlib.Omega.{arith}
 use Rattle.cielab.proofs.Cubes.{square-digits}
@@ -8,13 +8,13 @@ use Rattle.cielab.proofs.cube_root.squared.Tie as tie
 
 record Bounds (a b : ℕ) : Type 0 where
   aa : a * a ≤ 0xfff_ffff * 0xfff_ffff
-  ab : a * b ≤ 0xfff_ffff * 0x7ff_ffff
-  bb : b * b ≤ 0x7ff_ffff * 0x7ff_ffff
+  ab : a * b ≤ 0xfff_ffff * 0x1000_0000
+  bb : b * b ≤ 0x1000_0000 * 0x1000_0000
 
-bounds : (q : ℕ) → q < 2 ^ 55 → Bounds (q % 0x1000_0000) (q / 0x1000_0000)
+bounds : (q : ℕ) → q ≤ 2 ^ 56 → Bounds (q % 0x1000_0000) (q / 0x1000_0000)
 bounds q h =
     let a : q % 0x1000_0000 ≤ 0xfff_ffff = omega arith in
-    let b : q / 0x1000_0000 ≤ 0x7ff_ffff = omega arith in
+    let b : q / 0x1000_0000 ≤ 0x1000_0000 = omega arith in
     record { aa = mul-le-mul a a; ab = mul-le-mul a b; bb = mul-le-mul b b }
 
 mul-p0 : tie.Need-mul-p0

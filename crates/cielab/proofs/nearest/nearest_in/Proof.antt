@@ -1,66 +1,77 @@
--- `nearest::nearest_in` meets its contract. The invariant of both loops: s is the nearest of the first i entries. Assumes nothing.
-use mathlib.Core.Path.{_≡_, refl, _∙_}
-use Prim.Native.Nat.{_≤_, _-_}
+-- `nearest::nearest_in` meets its contract. The loop's invariant: s is the nearest of the first i entries, and u of the i entries from the half on.
+-- Assumes nothing.
+use mathlib.Core.Path.{_≡_, refl, ap, _∙_}
+use Prim.Native.Nat.{_+_, _/_, _≤_, _-_}
 use native.Mathlib.Nat.{le-antisymm}
+use native.Mathlib.Omega.{arith}
 use borrow.Author.Needs.{needs}
 use lib.Ieee.{ofBits, nanBits}
 use Rattle.cielab.specs.Nearest.{nearestOf}
-use Rattle.cielab.proofs.Turns.{turn, four-turns}
+use Rattle.cielab.proofs.Halves.{far, from, turn, from-turn, halves}
 use Rattle.cielab.proofs.nearest.nearest_in.Statement.{statement}
 use Rattle.cielab.proofs.nearest.nearest_in.Tie as tie
 
 abbrev Inv-loop : tie.InvT-loop
-Inv-loop target lab k s₀ i₀ s i = (i ≤ k) × (s ≡ nearestOf target lab i)
+Inv-loop target lab k half s₀ u₀ i₀ s u i = (i ≤ half) × (s ≡ nearestOf target lab i) × (u ≡ from target lab far half i)
 
 abbrev μ-loop : tie.MeasureT-loop
-μ-loop target lab k s₀ i₀ s i = k - i
+μ-loop target lab k half s₀ u₀ i₀ s u i = half - i
 
-abbrev Inv-loop2 : tie.InvT-loop2
-Inv-loop2 = Inv-loop
-
-abbrev μ-loop2 : tie.MeasureT-loop2
-μ-loop2 = μ-loop
-
-float-from-bits-t6 : tie.Need-float-from-bits-t6 Inv-loop μ-loop Inv-loop2 μ-loop2
+float-from-bits-t10 : tie.Need-float-from-bits-t10 Inv-loop μ-loop
 unfolding nanBits
-float-from-bits-t6 c = search needs
+float-from-bits-t10 c = search needs
 
-loop-holds : tie.Need-loop-holds Inv-loop μ-loop Inv-loop2 μ-loop2
-unfolding nearestOf ofBits
-loop-holds c = (search needs, refl)
+loop-holds : tie.Need-loop-holds Inv-loop μ-loop
+unfolding nearestOf from ofBits
+loop-holds c = (search needs, refl, refl)
 
-sub-loop : tie.Need-sub-loop Inv-loop μ-loop Inv-loop2 μ-loop2
-sub-loop c = search needs
-
-take-four-requires : tie.Need-take-four-requires Inv-loop μ-loop Inv-loop2 μ-loop2
-take-four-requires c κs = search needs
-
-add-i : tie.Need-add-i Inv-loop μ-loop Inv-loop2 μ-loop2
-add-i c = search needs
-
-loop-less : tie.Need-loop-less Inv-loop μ-loop Inv-loop2 μ-loop2
-loop-less c = search needs
-
-loop-again : tie.Need-loop-again Inv-loop μ-loop Inv-loop2 μ-loop2
-loop-again c = (search needs, c .take-four .ensures ∙ four-turns _ _ _ _ (c .before .before .loop .inv .1))
-
-loop2-holds : tie.Need-loop2-holds Inv-loop μ-loop Inv-loop2 μ-loop2
-loop2-holds c = c .before .loop .inv
-
-take-requires : tie.Need-take-requires Inv-loop μ-loop Inv-loop2 μ-loop2
+take-requires : tie.Need-take-requires Inv-loop μ-loop
 take-requires c κs = search needs
 
-add-i-2 : tie.Need-add-i-2 Inv-loop μ-loop Inv-loop2 μ-loop2
-add-i-2 c = search needs
+add-take : tie.Need-add-take Inv-loop μ-loop
+add-take c = search needs
 
-loop2-less : tie.Need-loop2-less Inv-loop μ-loop Inv-loop2 μ-loop2
-loop2-less c = search needs
+take-requires-2 : tie.Need-take-requires-2 Inv-loop μ-loop
+take-requires-2 c κs = search needs
 
-loop2-again : tie.Need-loop2-again Inv-loop μ-loop Inv-loop2 μ-loop2
-loop2-again c = (search needs, c .take .ensures ∙ turn _ _ _ _ (c .before .before .loop2 .inv .1))
+add-i : tie.Need-add-i Inv-loop μ-loop
+add-i c = search needs
 
-returns : tie.Need-returns Inv-loop μ-loop Inv-loop2 μ-loop2
-returns c = rw (le-antisymm (c .before .loop2 .inv .0) (c .loop2-test .left)) at (c .before .loop2 .inv .1)
+loop-less : tie.Need-loop-less Inv-loop μ-loop
+loop-less c = search needs
+
+loop-again : tie.Need-loop-again Inv-loop μ-loop
+loop-again c =
+    let at = c .before .before .before .loop in
+    (search needs, c .before .take .ensures ∙ turn _ _ _ _ (at .inv .1), c .take2 .ensures ∙ from-turn _ _ _ _ _ _ (at .inv .2))
+
+-- the two halves, joined
+found : (c : tie.After-nearer Inv-loop μ-loop)
+    → let at-start = c .before .before .before .before in
+    c .nearer .result ≡ nearestOf (at-start .args .target) (at-start .args .lab .now) (at-start .args .k / 2 + at-start .args .k / 2)
+found c =
+    let at = c .before .before .loop in
+    let all = le-antisymm (at .inv .0) (c .before .loop-test .left) in
+    c .nearer .ensures ∙ rw (rw all at (at .inv .1), rw all at (at .inv .2)) (halves _ _ _)
+
+nearer-requires : tie.Need-nearer-requires Inv-loop μ-loop
+nearer-requires c κs = search needs
+
+add-if1 : tie.Need-add-if1 Inv-loop μ-loop
+add-if1 c = search needs
+
+add-take-2 : tie.Need-add-take-2 Inv-loop μ-loop
+add-take-2 c = search needs
+
+take-requires-3 : tie.Need-take-requires-3 Inv-loop μ-loop
+take-requires-3 c κs = search needs
+
+returns : tie.Need-returns Inv-loop μ-loop
+returns c =
+    c .take3 .ensures ∙ turn _ _ _ _ (found (c .before .before)) ∙ ap (nearestOf _ _) (omega arith)
+
+returns-2 : tie.Need-returns-2 Inv-loop μ-loop
+returns-2 c = found (c .before) ∙ ap (nearestOf _ _) (omega arith)
 
 pub nearest-in-spec : {M : Type 1} → statement M
 nearest-in-spec =
@@ -68,18 +79,17 @@ nearest-in-spec =
     (tie.spec
     Inv-loop
     μ-loop
-    Inv-loop2
-    μ-loop2
-    float-from-bits-t6
+    float-from-bits-t10
     loop-holds
-    sub-loop
-    take-four-requires
+    take-requires
+    add-take
+    take-requires-2
     add-i
     loop-less
     loop-again
-    loop2-holds
-    take-requires
-    add-i-2
-    loop2-less
-    loop2-again
-    returns)
+    nearer-requires
+    add-if1
+    add-take-2
+    take-requires-3
+    returns
+    returns-2)

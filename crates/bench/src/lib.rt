@@ -1,0 +1,135 @@
+// What bench/driver.rs times, exported to C over slices: as many calls as there are inputs, and none
+// where the results have too few places. Of these loops it is proved that they stay inside and end; what
+// the calls answer stands in their own contracts.
+use color::Found;
+use color::Root;
+use limits::Lab;
+use limits::Rgb;
+ghost use mathlib.Core.Path.{_≡_};
+ghost use Prim.Native.Nat.{_+_, _*_, _≤_};
+ghost use lib.ListN.{length};
+
+// Colour i of a list with three bytes a colour.
+fn rgb_at(rgb: &[u8], i: usize) -> Rgb
+    requires { ⌜ 3 * (i + 1) ≤ length (now rgb) ⌝ }
+{
+    let at = 3 * i;
+    Rgb {
+        r: rgb[at],
+        g: rgb[at + 1],
+        b: rgb[at + 2],
+    }
+}
+
+// Triple i of a list.
+fn lab_at(lab: &[f64], i: usize) -> Lab
+    requires { ⌜ 3 * (i + 1) ≤ length (now lab) ⌝ }
+{
+    let at = 3 * i;
+    Lab {
+        l: lab[at],
+        a: lab[at + 1],
+        b: lab[at + 2],
+    }
+}
+
+// Writes triple i of a list.
+fn put(lab: &mut [f64], i: usize, x: Lab)
+    requires { ⌜ 3 * (i + 1) ≤ length (now lab) ⌝ }
+{
+    let at = 3 * i;
+    lab[at] = x.l;
+    lab[at + 1] = x.a;
+    lab[at + 2] = x.b;
+}
+
+// The LAB of each colour.
+#[no_mangle]
+pub extern "C" fn bench_lab(rgb: &[u8], lab: &mut [f64]) {
+    let n = rgb.len() / 3;
+    if lab.len() / 3 < n {
+        return;
+    }
+    let mut i = 0;
+    while i < n {
+        put(lab, i, color::rgb8_to_lab(rgb_at(rgb, i)));
+        i += 1;
+    }
+}
+
+// The same, with the curve's table lent once.
+#[no_mangle]
+pub extern "C" fn bench_lab_lent(rgb: &[u8], lab: &mut [f64]) {
+    let n = rgb.len() / 3;
+    if lab.len() / 3 < n {
+        return;
+    }
+    let t = cielab::table();
+    let mut i = 0;
+    while i < n {
+        put(lab, i, cielab::lab_in(&t, rgb_at(rgb, i)));
+        i += 1;
+    }
+}
+
+// The root, or 0.0 for a refusal.
+fn value_of(r: Root) -> f64 {
+    match r {
+        Root::Value(x) => x,
+        Root::Refused(_) => 0.0,
+    }
+}
+
+// The cube root of each number, or 0.0.
+#[no_mangle]
+pub extern "C" fn bench_cbrt(t: &[f64], roots: &mut [f64]) {
+    let n = t.len();
+    if roots.len() < n {
+        return;
+    }
+    let mut i = 0;
+    while i < n {
+        roots[i] = value_of(color::cbrt(t[i]));
+        i += 1;
+    }
+}
+
+// The entry, or 255, which is none, for a refusal.
+fn entry_of(f: Found) -> usize {
+    match f {
+        Found::Entry(i) => i,
+        Found::Refused(_) => 255,
+    }
+}
+
+// The entry nearest to each triple, or 255.
+#[no_mangle]
+pub extern "C" fn bench_nearest(targets: &[f64], lab: &[f64], k: usize, found: &mut [usize]) {
+    let n = targets.len() / 3;
+    if found.len() < n {
+        return;
+    }
+    let mut i = 0;
+    while i < n {
+        found[i] = entry_of(color::nearest_index(lab_at(targets, i), lab, k));
+        i += 1;
+    }
+}
+
+// The same without the checks of the call.
+#[no_mangle]
+pub extern "C" fn bench_nearest_in(targets: &[f64], lab: &[f64], k: usize, found: &mut [usize]) {
+    let n = targets.len() / 3;
+    if found.len() < n {
+        return;
+    }
+    if lab.len() / 3 < k {
+        return;
+    }
+    let mut i = 0;
+    while i < n {
+        let near = cielab::nearest_in(lab_at(targets, i), lab, k);
+        found[i] = near.entry;
+        i += 1;
+    }
+}

@@ -1,0 +1,41 @@
+-- The first check that applies, of a list that is made of parts. Assumes nothing.
+use mathlib.Core.Path.{_≡_, refl, ap, _∙_}
+use mathlib.Core.Bool.{cond}
+use mathlib.Core.List.{List, [], _∷_, _++_}
+use Prim.Native.Nat.{ℕ, zero, suc}
+use Rattle.limits.specs.Checks.{Check, orElse, firstOf, refusedOr, checked}
+
+or-else-assoc : (a b c : ℕ) → orElse a (orElse b c) ≡ orElse (orElse a b) c
+or-else-assoc zero b c = refl
+or-else-assoc (suc a) b c = refl
+
+-- the first part's number, or the second's where that has none
+pub first-append : (cs ds : List Check) → firstOf (cs ++ ds) ≡ orElse (firstOf cs) (firstOf ds)
+unfolding firstOf
+first-append [] ds = refl
+first-append (c ∷ cs) ds =
+    let n = cond (c .applies) (c .number) 0 in
+    ap (orElse n) (first-append cs ds) ∙ or-else-assoc n (firstOf cs) (firstOf ds)
+
+-- where the first part has none, the second decides
+pub first-past : (cs ds : List Check) → firstOf cs ≡ 0 → firstOf (cs ++ ds) ≡ firstOf ds
+first-past cs ds e = rw (first-append cs ds, e)
+
+-- where the first part has one, it decides
+pub first-here : (cs ds : List Check) (n : ℕ) → n ≡ firstOf cs → (n ≡ 0 → ⊥) → n ≡ firstOf (cs ++ ds)
+first-here cs ds n e h = rw (first-append cs ds, ← e) (kept n h)
+  where
+    kept : (n : ℕ) → (n ≡ 0 → ⊥) → n ≡ orElse n (firstOf ds)
+    kept zero h = absurd (h refl)
+    kept (suc n) h = refl
+
+-- ---- what a call answers
+module _ {R : Type 0} (cs : List Check) (refused : ℕ → R) (result : R) where
+  pub refused-first : (n : ℕ) → n ≡ firstOf cs → (n ≡ 0 → ⊥) → refused n ≡ checked cs refused result
+  unfolding refusedOr
+  refused-first zero e h = absurd (h refl)
+  refused-first (suc n) e h = rw (← e)
+
+  pub result-first : firstOf cs ≡ 0 → result ≡ checked cs refused result
+  unfolding refusedOr
+  result-first e = rw e
