@@ -1,7 +1,8 @@
 -- A signed number is its bits in the code, and reads back as itself. Assumes nothing.
-use mathlib.Core.Path.{_≡_, refl, sym}
+use mathlib.Core.Path.{_≡_, refl, sym, ap, _∙_}
 use mathlib.Core.Bool.{Bool, true, false, cond}
-use Prim.Native.Nat.{ℕ, suc, _^_, _<_, _-_}
+use Prim.Native.Nat.{ℕ, suc, _^_, _<_, _-_, _+_, _≤_}
+use native.Mathlib.Numerals.{add-one}
 use native.Mathlib.Omega.{arith}
 use borrow.Author.Tests.{ltb-true, ltb-false, lt-ltb, le-ltb, eq-eqb, ne-eqb, eqb-true, eqb-false}
 use lib.Dec.{T, ltb, eqb}
@@ -10,11 +11,22 @@ use lib.Signed.{mag, ltZ, leZ, nonNeg}
 use mir.Syntax.{Width, w16, w64}
 use mir.Val.{toZ, ofZ, hbits, SFits, Fits}
 use mir.Facts.{toZ-ofZ, fits-natAbs}
-use Rattle.ints.specs.Ints.{eqZ, far, fromZero, onAxis}
+use Rattle.ints.specs.Ints.{eqZ, far, fromZero, onAxis, upTo}
 
 -- what a copy of an element of a slice, or a call's result, gives
 pub back : (w : Width) (z : ℤ) → mag z < 2 ^ hbits w → toZ w (ofZ w z) ≡ z
 back w z h = toZ-ofZ (record { sfits = h })
+
+-- what a callee ensures of a number that it was handed, said of the number
+pub by-value : {A : Type 0} {w : Width} {z : ℤ} {r : A} (f : ℤ → A) → SFits w z → r ≡ f (toZ w (ofZ w z)) → r ≡ f z
+by-value f h e = rw (toZ-ofZ h) at e
+
+pub by-values : {A : Type 0} {w : Width} {a b : ℤ} {r : A} (f : ℤ → ℤ → A) → SFits w a → SFits w b → r ≡ f (toZ w (ofZ w a)) (toZ w (ofZ w b)) → r ≡ f a b
+by-values f h k e = rw (toZ-ofZ h, toZ-ofZ k) at e
+
+-- the same where the number is another callee's result
+pub by-result : (w : Width) {A : Type 0} {z v : ℤ} {r : A} (f : ℤ → A) → mag z < 2 ^ hbits w → z ≡ v → r ≡ f (toZ w (ofZ w z)) → r ≡ f v
+by-result w {z = z} f h q e = e ∙ ap f (back w z h ∙ q)
 
 pub never : {X : Type 0} → false ≡ true → X
 never e = let z : _≡_ {A = ℕ} 0 1 = cc in absurd (omega arith)
@@ -46,6 +58,16 @@ unfolding fromZero
 from-zero-nat (pos n) e = refl
 from-zero-nat (negsuc n) e = never (sym e)
 
+pub up-to-neg : (z : ℤ) → ltZ z (pos 0) ≡ true → 0 ≡ upTo z
+unfolding upTo
+up-to-neg (pos n) e = absurd (omega (arith, ltb-true n 0 e))
+up-to-neg (negsuc n) e = refl
+
+pub up-to-nat : (z : ℤ) → ltZ z (pos 0) ≡ false → natAbs z + 1 ≡ upTo z
+unfolding upTo
+up-to-nat (pos n) e = add-one n
+up-to-nat (negsuc n) e = never (sym e)
+
 -- ---- the tests
 pub far-below : (z : ℤ) → ltZ z (negsuc 65535) ≡ true → true ≡ far z
 unfolding far
@@ -56,6 +78,10 @@ pub far-above : (z : ℤ) → ltZ z (negsuc 65535) ≡ false → ltZ (pos 65536)
 unfolding far
 far-above (pos n) e = refl
 far-above (negsuc n) e = sym (le-ltb 65536 (suc n) (omega (arith, ltb-false 65535 n e)))
+
+pub near-abs : (z : ℤ) → far z ≡ false → natAbs z ≤ 65536
+unfolding far
+near-abs z e = ltb-false 65536 (natAbs z) e
 
 -- `==` compares the bits
 eq-by : (a b : ℕ) (t : Bool) → a < 32768 → b < 32768 → eqb a b ≡ t → eqb (65536 - suc a) (65536 - suc b) ≡ t

@@ -1,8 +1,9 @@
 -- Whole numbers with a sign, as the definitions of other crates use them. Definitions only. Assumes nothing.
-use Prim.Native.Nat.{ℕ}
+use Prim.Native.Nat.{ℕ, suc}
 use mathlib.Core.Bool.{Bool, false, cond}
 use lib.Dec.{ltb, eqb}
 use lib.IntN.{ℤ, pos, negsuc, natAbs}
+use lib.Signed.{ltZ}
 use Rattle.limits.specs.Limits.{maxDistance}
 
 unfoldable pub eqZ : ℤ → ℤ → Bool
@@ -24,3 +25,15 @@ fromZero (negsuc n) = 0
 unfoldable pub onAxis : ℤ → ℕ → ℕ
 onAxis (pos n) size = cond (ltb n size) n size
 onAxis (negsuc n) size = size
+
+-- how many numbers there are from 0 to this one, both included
+unfoldable pub upTo : ℤ → ℕ
+upTo (pos n) = suc n
+upTo (negsuc n) = 0
+
+-- Rust's `min` and `max`
+unfoldable pub minZ : ℤ → ℤ → ℤ
+minZ a b = cond (ltZ b a) b a
+
+unfoldable pub maxZ : ℤ → ℤ → ℤ
+maxZ a b = cond (ltZ a b) b a

@@ -1,7 +1,9 @@
 // Signed numbers: the tests and the readings that loops and checks make of them, each with an equation on
-// whole numbers, so that callers meet no bit pattern.
+// whole numbers, so that callers meet no bit pattern; and of what Rust gives every number, `min`, `max` and
+// `saturating_sub`.
 ghost use mathlib.Core.Path.{_≡_};
-ghost use Rattle.ints.specs.Ints.{eqZ, far, fromZero, onAxis};
+ghost use Prim.Native.Nat.{_-_, min};
+ghost use Rattle.ints.specs.Ints.{eqZ, far, fromZero, onAxis, upTo, minZ, maxZ};
 
 // Whether a and b are the same index.
 pub fn same(a: i16, b: i16) -> bool
@@ -36,4 +38,37 @@ pub fn on_axis(z: i32, size: usize) -> usize
         return size;
     }
     if n < size { n } else { size }
+}
+
+// How many coordinates there are from 0 to z, both included.
+pub fn up_to(z: i32) -> usize
+    ensures { λ r. ⌜ r ≡ upTo z ⌝ }
+{
+    if z < 0 { 0 } else { z as usize + 1 }
+}
+
+// Rust's `min` and `max`.
+pub fn min_i32(a: i32, b: i32) -> i32
+    ensures { λ r. ⌜ r ≡ minZ a b ⌝ }
+{
+    if b < a { b } else { a }
+}
+
+pub fn max_i32(a: i32, b: i32) -> i32
+    ensures { λ r. ⌜ r ≡ maxZ a b ⌝ }
+{
+    if a < b { b } else { a }
+}
+
+pub fn min_usize(a: usize, b: usize) -> usize
+    ensures { λ r. ⌜ r ≡ min a b ⌝ }
+{
+    if b < a { b } else { a }
+}
+
+// Rust's `saturating_sub`: a without b, or 0 where b is more.
+pub fn saturating_sub(a: usize, b: usize) -> usize
+    ensures { λ r. ⌜ r ≡ a - b ⌝ }
+{
+    if a < b { 0 } else { a - b }
 }

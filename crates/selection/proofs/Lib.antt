@@ -1,0 +1,6 @@
+pub mod Checks
+pub mod Spans
+pub mod Moved
+pub mod Pointer
+pub mod Rows
+mod Examples

@@ -1,0 +1,61 @@
+-- LAB storage that is filled an entry a turn. Assumes nothing.
+use mathlib.Core.Path.{_≡_, refl, _∙_}
+use mathlib.Core.List.{List, [], _∷_, _++_}
+use Prim.Native.Nat.{ℕ, zero, suc, _+_, _*_, _≤_}
+use native.Mathlib.Omega.{arith}
+use native.Mathlib.Numerals.{add-one, add-two}
+use lib.Ieee.{Float}
+use lib.ListN.{length, take, drop}
+use lib.Seq.{length-take-le, take-add}
+use Rattle.limits.specs.declared.Rgb.{Rgb}
+use Rattle.limits.specs.declared.Lab.{Lab}
+use Rattle.cielab.specs.Convert.{labOf}
+use Rattle.sheet.specs.Document.{labsOf, rgbAt, withLab}
+use Rattle.sheet.proofs.Front.{written}
+use Rattle.sheet.proofs.Entries.{bytesOf, entry}
+
+-- a triple's numbers, in order
+abbrev numbersOf : Lab → List Float
+numbersOf x = x .l ∷ x .a ∷ x .b ∷ []
+
+-- i colours, three bytes each
+data Colours : List ℕ → ℕ → Type 0 where
+  none : Colours [] 0
+  more : {r g b : ℕ} {p : List ℕ} {i : ℕ} → Colours p i → Colours (r ∷ g ∷ b ∷ p) (suc i)
+
+colours : (i : ℕ) (p : List ℕ) → length p ≡ 3 * i → Colours p i
+colours zero [] e = none
+colours zero (r ∷ p) e = absurd (omega arith)
+colours (suc i) [] e = absurd (omega arith)
+colours (suc i) (r ∷ []) e = absurd (omega arith)
+colours (suc i) (r ∷ g ∷ []) e = absurd (omega arith)
+colours (suc i) (r ∷ g ∷ b ∷ p) e = more (colours i p (omega arith))
+
+labs-more : {p : List ℕ} {i : ℕ} → Colours p i → (c : Rgb) → labsOf (p ++ bytesOf c) ≡ labsOf p ++ numbersOf (labOf c)
+unfolding labsOf
+labs-more none c = refl
+labs-more (more s) c = rw (labs-more s c)
+
+labs-length : {p : List ℕ} {i : ℕ} → Colours p i → length (labsOf p) ≡ 3 * i
+unfolding labsOf
+labs-length none = refl
+labs-length (more s) = omega (arith, labs-length s)
+
+-- an entry's three stores
+with-lab : (w d : List Float) (i : ℕ) (x : Lab) → length w ≡ 3 * i → 3 * i + 3 ≤ length d → withLab (w ++ drop (3 * i) d) i x ≡ w ++ numbersOf x ++ drop (3 * i + 3) d
+unfolding withLab
+with-lab w d i x e h = rw (add-one (3 * i), add-two (3 * i)) (written w (numbersOf x) d (3 * i) e h)
+
+-- the LAB of the first i entries of a palette, then what stood there
+abbrev pub filled : List ℕ → List Float → ℕ → List Float
+filled p d i = labsOf (take (3 * i) p) ++ drop (3 * i) d
+
+module _ (p : List ℕ) (d : List Float) (i : ℕ) where
+  first : 3 * i + 3 ≤ length p → Colours (take (3 * i) p) i
+  first h = colours i (take (3 * i) p) (length-take-le (3 * i) p (omega arith))
+
+  pub filled-next : 3 * i + 3 ≤ length p → 3 * i + 3 ≤ length d → withLab (filled p d i) i (labOf (rgbAt p i)) ≡ filled p d (i + 1)
+  filled-next h k =
+      let next : 3 * (i + 1) ≡ 3 * i + 3 = omega arith in
+      with-lab (labsOf (take (3 * i) p)) d i (labOf (rgbAt p i)) (labs-length (first h)) k
+      ∙ rw (next, take-add (3 * i) 3 p, entry p i h, labs-more (first h) (rgbAt p i))

@@ -1,0 +1,4 @@
+pub mod Sheet
+pub mod Checks
+pub mod Document
+pub mod Tables
