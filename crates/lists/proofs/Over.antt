@@ -14,6 +14,11 @@ module _ {A : Type 0} where
   unfolding over
   over-none l = refl
 
+  -- the result's length, known as n
+  pub over-is : (f l : List A) (n : ℕ) → length f ≡ n → f ++ drop n l ≡ over f l
+  unfolding over
+  over-is f l n e = rw (← e)
+
   pub length-over : (f l : List A) → length f ≤ length l → length (over f l) ≡ length l
   unfolding over
   length-over f l h = simp (length-append, length-drop) (omega arith)

@@ -15,7 +15,7 @@ use Rattle.limits.specs.Answer.{filled}
 use Rattle.limits.specs.declared.Answer.the-variants as answer
 use Rattle.limits.specs.declared.Counted.the-variants as counted
 use Rattle.limits.proofs.First.{first-past, first-here, refused-first}
-use Rattle.lists.specs.Lists.{some}
+use Rattle.lists.specs.Lists.{some, over}
 use Rattle.sheet.specs.Sheet.{Sheet, stray}
 use Rattle.sheet.specs.Checks.{limitChecks, indexChecks, sheetChecks, Limits, Limited, WellFormed, Judged}
 use Rattle.sheet.specs.Document.{newLab, newMade, newOf, countOf, countsOf, sumOf, countsCall, Counts, Baseline, baselineChecks, Based, maskOf, diffMaskOf}
@@ -54,9 +54,9 @@ module _ (s : Sheet) (out : List ℕ) where
   unfolding countsCall firstOf refusedOr
   counts-short f h = record { value = rw (past-sheet s f, lt-ltb _ _ h); total = λ m e. absurd (no-count e) }
 
-  pub counts-done : WellFormed s → s .k ≤ length out → (buffer : List ℕ) → buffer ≡ countsOf (s .k) (s .indices) ++ drop (s .k) out
+  pub counts-done : WellFormed s → s .k ≤ length out → (buffer : List ℕ) → buffer ≡ over (countsOf (s .k) (s .indices)) out
       → Counts s out (filled (counted.Count (s .k)) buffer)
-  unfolding countsCall firstOf refusedOr
+  unfolding countsCall firstOf refusedOr over
   counts-done f h buffer e =
       record {
         value = rw (past-sheet s f, le-ltb _ _ h, e);
@@ -65,9 +65,9 @@ module _ (s : Sheet) (out : List ℕ) where
             subst (λ (i : ℕ). sumOf (take i buffer) + countOf (negsuc 0) (s .indices) ≡ s .w * s .h) n (summed (e));
       }
     where
-      summed : buffer ≡ countsOf (s .k) (s .indices) ++ drop (s .k) out → sumOf (take (s .k) buffer) + countOf (negsuc 0) (s .indices) ≡ s .w * s .h
+      summed : buffer ≡ over (countsOf (s .k) (s .indices)) out → sumOf (take (s .k) buffer) + countOf (negsuc 0) (s .indices) ≡ s .w * s .h
       summed e =
-          rw (e, take-at (countsOf (s .k) (s .indices)) (drop (s .k) out) (s .k) (counts-length (s .k) (s .indices)))
+          rw (e, take-at (countsOf (s .k) (s .indices)) (drop (length (countsOf (s .k) (s .indices))) out) (s .k) (counts-length (s .k) (s .indices)))
           (counts-total (s .k) (s .indices) (f .in-range) ∙ f .limits .indices-length)
 
 -- ---- `diff_mask`
@@ -91,7 +91,7 @@ module _ (s : Sheet) (b : Baseline) (mask : List ℕ) where
   diff-short f d h = rw (past-both f d, lt-ltb _ _ (rw (f .limits .indices-length) at h))
 
   pub diff-done : WellFormed s → Based (s .w) (s .h) b 0 → length (s .indices) ≤ length mask → (buffer : List ℕ)
-      → buffer ≡ maskOf (s .palette) (b .palette) (s .indices) (b .indices) ++ drop (length (s .indices)) mask
+      → buffer ≡ over (maskOf (s .palette) (b .palette) (s .indices) (b .indices)) mask
       → filled (counted.Count (length (s .indices))) buffer ≡ diffMaskOf s b mask
   unfolding diffMaskOf firstOf refusedOr
   diff-done f d h buffer e = rw (past-both f d, le-ltb _ _ (rw (f .limits .indices-length) at h), e, f .limits .indices-length)

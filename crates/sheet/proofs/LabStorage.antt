@@ -10,6 +10,8 @@ use lib.Seq.{length-take-le, take-add}
 use Rattle.limits.specs.declared.Rgb.{Rgb}
 use Rattle.limits.specs.declared.Lab.{Lab}
 use Rattle.cielab.specs.Convert.{labOf}
+use Rattle.lists.specs.Lists.{over}
+use Rattle.lists.proofs.Over.{over-is}
 use Rattle.sheet.specs.Document.{labsOf, rgbAt, withLab}
 use Rattle.sheet.proofs.Front.{written}
 use Rattle.sheet.proofs.Entries.{bytesOf, entry}
@@ -59,3 +61,6 @@ module _ (p : List ℕ) (d : List Float) (i : ℕ) where
       let next : 3 * (i + 1) ≡ 3 * i + 3 = omega arith in
       with-lab (labsOf (take (3 * i) p)) d i (labOf (rgbAt p i)) (labs-length (first h)) k
       ∙ rw (next, take-add (3 * i) 3 p, entry p i h, labs-more (first h) (rgbAt p i))
+
+pub filled-all : (p : List ℕ) (d : List Float) (k : ℕ) → 3 * k ≤ length p → filled p d k ≡ over (labsOf (take (3 * k) p)) d
+filled-all p d k h = over-is (labsOf (take (3 * k) p)) d (3 * k) (labs-length (colours k (take (3 * k) p) (length-take-le (3 * k) p h)))

@@ -14,7 +14,7 @@ use Rattle.limits.specs.declared.Rgb.{Rgb}
 use Rattle.limits.specs.declared.Lab.{Lab}
 use Rattle.limits.specs.declared.Answer.{Answer}
 use Rattle.limits.specs.declared.Answer.the-variants as answer
-use Rattle.lists.specs.Lists.{some}
+use Rattle.lists.specs.Lists.{some, over}
 use Rattle.ints.specs.Ints.{eqZ, far}
 use Rattle.cielab.specs.Convert.{labOf}
 use Rattle.sheet.specs.declared.Got.{Got}
@@ -44,7 +44,7 @@ unfoldable pub withLab : List Float → ℕ → Lab → List Float
 withLab lab i x = set (set (set lab (3 * i) (x .l)) (3 * i + 1) (x .a)) (3 * i + 2) (x .b)
 
 unfoldable pub newLab : Sheet → List Float
-newLab s = labsOf (take (3 * s .k) (s .palette)) ++ drop (3 * s .k) (s .lab)
+newLab s = over (labsOf (take (3 * s .k) (s .palette))) (s .lab)
 
 pub record New : Type 0 where
   pub answer : Answer
@@ -85,7 +85,7 @@ unfoldable pub countsCall : Sheet → List ℕ → Filled ℕ
 countsCall s out =
     checked (sheetChecks [] s ++ (noSpace when ltb (length out) (s .k) ∷ []))
     (λ n. filled (counted.Refused n) out)
-    (filled (counted.Count (s .k)) (countsOf (s .k) (s .indices) ++ drop (s .k) out))
+    (filled (counted.Count (s .k)) (over (countsOf (s .k) (s .indices)) out))
 
 -- "Entry counts plus transparent pixels total w × h"
 pub record Counts (s : Sheet) (out : List ℕ) (r : Filled ℕ) : Type 0 where
@@ -157,4 +157,4 @@ unfoldable pub diffMaskOf : Sheet → Baseline → List ℕ → Filled ℕ
 diffMaskOf s b mask =
     checked (sheetChecks [] s ++ (baselineChecks (s .w) (s .h) b ++ (noSpace when ltb (length mask) (s .w * s .h) ∷ [])))
     (λ n. filled (counted.Refused n) mask)
-    (filled (counted.Count (s .w * s .h)) (maskOf (s .palette) (b .palette) (s .indices) (b .indices) ++ drop (s .w * s .h) mask))
+    (filled (counted.Count (s .w * s .h)) (over (maskOf (s .palette) (b .palette) (s .indices) (b .indices)) mask))

@@ -45,7 +45,14 @@ pub(crate) fn any_stray(indices: &[i16], k: usize) -> bool
 }
 
 // Number 1 of a sheet's size, palette count and storage, or 0.
-pub(crate) fn limits_no(w: usize, h: usize, k: usize, palette: &[u8], lab: &[f64], indices: &[i16]) -> u8
+pub(crate) fn limits_no(
+    w: usize,
+    h: usize,
+    k: usize,
+    palette: &[u8],
+    lab: &[f64],
+    indices: &[i16],
+) -> u8
     ensures { λ r. ⌜ Limited (sheetOf w h k (now (palette .entry)) (now (lab .entry)) (now (indices .entry))) r ⌝ }
 {
     if MAX_SIDE < w {

@@ -10,7 +10,7 @@ ghost use mathlib.Core.List.{_++_};
 ghost use Prim.Native.Nat.{_≤_};
 ghost use lib.Dec.{eqb};
 ghost use lib.ListN.{length, drop, getD};
-ghost use Rattle.lists.specs.Lists.{some};
+ghost use Rattle.lists.specs.Lists.{some, over};
 ghost use Rattle.sheet.specs.Sheet.{stray};
 ghost use Rattle.sheet.specs.Document.{maskOf, mark};
 ghost use Rattle.sheet.specs.Tables.{slotOf, Numbered, Shades};
@@ -65,7 +65,7 @@ pub(crate) fn mark_differences(
     mask: &mut [u8],
 )
     requires { ⌜ (length (now palette) ≡ 765) × (length (now base) ≡ 765) × (some (stray 255) (now indices) ≡ false) × (some (stray 255) (now «base_indices») ≡ false) × (length (now indices) ≡ length (now «base_indices»)) × (length (now indices) ≤ length (now mask)) ⌝ }
-    ensures { λ _. ⌜ now (mask .exit) ≡ maskOf (now (palette .entry)) (now (base .entry)) (now (indices .entry)) (now («base_indices» .entry)) ++ drop (length (now (indices .entry))) (now (mask .entry)) ⌝ }
+    ensures { λ _. ⌜ now (mask .exit) ≡ over (maskOf (now (palette .entry)) (now (base .entry)) (now (indices .entry)) (now («base_indices» .entry))) (now (mask .entry)) ⌝ }
 {
     let mut shown: [u32; 256] = [0; 256];
     fill_shades(palette, &mut shown);

@@ -5,6 +5,7 @@ ghost use mathlib.Core.Path.{_≡_};
 ghost use mathlib.Core.List.{_++_};
 ghost use Prim.Native.Nat.{_+_, _*_, _≤_};
 ghost use lib.ListN.{length, take, drop};
+ghost use Rattle.lists.specs.Lists.{over};
 ghost use Rattle.sheet.specs.Document.{labsOf, rgbAt, withLab};
 
 // Entry i of the palette.
@@ -35,7 +36,7 @@ fn put_lab(lab: &mut [f64], i: usize, x: Lab)
 // once.
 pub(crate) fn fill_labs(palette: &[u8], lab: &mut [f64], k: usize)
     requires { ⌜ (3 * k ≤ length (now palette)) × (3 * k ≤ length (now lab)) ⌝ }
-    ensures { λ _. ⌜ now (lab .exit) ≡ labsOf (take (3 * k) (now (palette .entry))) ++ drop (3 * k) (now (lab .entry)) ⌝ }
+    ensures { λ _. ⌜ now (lab .exit) ≡ over (labsOf (take (3 * k) (now (palette .entry)))) (now (lab .entry)) ⌝ }
 {
     let t = cielab::table();
     let mut i: usize = 0;

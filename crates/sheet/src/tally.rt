@@ -4,7 +4,7 @@ ghost use mathlib.Core.Bool.{false};
 ghost use mathlib.Core.List.{_++_};
 ghost use Prim.Native.Nat.{_≤_};
 ghost use lib.ListN.{length, drop, replicate};
-ghost use Rattle.lists.specs.Lists.{some};
+ghost use Rattle.lists.specs.Lists.{some, over};
 ghost use Rattle.sheet.specs.Sheet.{stray};
 ghost use Rattle.sheet.specs.Document.{countsOf};
 ghost use Rattle.sheet.specs.Tables.{tally, Room};
@@ -36,7 +36,7 @@ fn count_one(out: &mut [u32], z: i16)
 // Counts the pixels of each of the k entries into the first k numbers. The others keep.
 pub(crate) fn count_entries(indices: &[i16], k: usize, out: &mut [u32])
     requires { ⌜ (length (now indices) ≤ 1048576) × (some (stray k) (now indices) ≡ false) × (k ≤ length (now out)) ⌝ }
-    ensures { λ _. ⌜ now (out .exit) ≡ countsOf k (now (indices .entry)) ++ drop k (now (out .entry)) ⌝ }
+    ensures { λ _. ⌜ now (out .exit) ≡ over (countsOf k (now (indices .entry))) (now (out .entry)) ⌝ }
 {
     clear(out, k);
     let mut i: usize = 0;

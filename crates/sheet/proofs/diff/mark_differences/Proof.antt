@@ -1,5 +1,5 @@
 -- `diff::mark_differences` meets its contract. The loop's invariant: the mask of the first i pixels, then what stood there. Assumes nothing.
-use mathlib.Core.Path.{_≡_, refl}
+use mathlib.Core.Path.{_≡_, refl, _∙_}
 use mathlib.Core.Bool.{false}
 use Prim.Native.Nat.{_≤_, _-_}
 use native.Mathlib.Omega.{arith}
@@ -12,6 +12,8 @@ use Rattle.ints.proofs.Back.{back}
 use Rattle.sheet.specs.Sheet.{stray}
 use Rattle.sheet.proofs.Pixels.{read-none}
 use Rattle.sheet.proofs.Shades.{marked}
+use Rattle.lists.proofs.Over.{over-is}
+use Rattle.sheet.proofs.Totals.{mask-length}
 use Rattle.sheet.proofs.Mask.{Masked, masked-none, masked-next, masked-all}
 use Rattle.sheet.proofs.diff.mark_differences.Statement.{statement}
 use Rattle.sheet.proofs.diff.mark_differences.Tie as tie
@@ -90,7 +92,9 @@ same-length : tie.Need-same-length Inv-loop μ-loop
 same-length c = search needs
 
 returns : tie.Need-returns Inv-loop μ-loop
-returns c = masked-all (c .before .loop .inv .2) (start (c .before) .pre .4) (c .before .loop .inv .0) (c .loop-test .left)
+returns c =
+    masked-all (c .before .loop .inv .2) (start (c .before) .pre .4) (c .before .loop .inv .0) (c .loop-test .left)
+    ∙ over-is _ _ _ (mask-length _ _ _ _ (start (c .before) .pre .4))
 
 pub mark-differences-spec : {M : Type 1} → statement M
 mark-differences-spec =

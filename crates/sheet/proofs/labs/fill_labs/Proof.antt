@@ -1,12 +1,12 @@
 -- `labs::fill_labs` meets its contract. The loop's invariant: the LAB of the first i entries, then what stood there. Assumes nothing.
-use mathlib.Core.Path.{_≡_, refl}
+use mathlib.Core.Path.{_≡_, refl, _∙_}
 use Prim.Native.Nat.{_≤_, _-_}
 use native.Mathlib.Omega.{arith}
 use native.Mathlib.Nat.{le-antisymm}
 use borrow.Author.Needs.{needs}
 use lib.ListN.{length}
 use Rattle.sheet.specs.Document.{labsOf}
-use Rattle.sheet.proofs.LabStorage.{filled, filled-next}
+use Rattle.sheet.proofs.LabStorage.{filled, filled-next, filled-all}
 use Rattle.sheet.proofs.labs.fill_labs.Statement.{statement}
 use Rattle.sheet.proofs.labs.fill_labs.Tie as tie
 
@@ -48,7 +48,7 @@ same-length : tie.Need-same-length Inv-loop μ-loop
 same-length c = search needs
 
 returns : tie.Need-returns Inv-loop μ-loop
-returns c = rw (le-antisymm (c .before .loop .inv .0) (c .loop-test .left)) at (c .before .loop .inv .2)
+returns c = (rw (le-antisymm (c .before .loop .inv .0) (c .loop-test .left)) at (c .before .loop .inv .2)) ∙ filled-all _ _ _ (c .before .before .before .before .before .pre .0)
 
 pub fill-labs-spec : {M : Type 1} → statement M
 fill-labs-spec =

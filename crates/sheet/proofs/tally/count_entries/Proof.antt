@@ -1,5 +1,5 @@
 -- `tally::count_entries` meets its contract. The loop's invariant: the counts of the first i pixels, then what stood there. Assumes nothing.
-use mathlib.Core.Path.{_≡_, refl}
+use mathlib.Core.Path.{_≡_, refl, _∙_}
 use mathlib.Core.Bool.{false}
 use Prim.Native.Nat.{_≤_, _-_}
 use borrow.Author.Needs.{needs}
@@ -10,6 +10,8 @@ use mir.Val.{toZ, ofZ}
 use Rattle.ints.proofs.Back.{back}
 use Rattle.sheet.specs.Sheet.{stray}
 use Rattle.sheet.proofs.Pixels.{read-none}
+use Rattle.lists.proofs.Over.{over-is}
+use Rattle.sheet.proofs.Totals.{counts-length}
 use Rattle.sheet.proofs.Counting.{Counted, counted-none, counted-room, counted-next, counted-all}
 use Rattle.sheet.proofs.tally.count_entries.Statement.{statement}
 use Rattle.sheet.proofs.tally.count_entries.Tie as tie
@@ -61,7 +63,7 @@ same-length : tie.Need-same-length Inv-loop μ-loop
 same-length c = search needs
 
 returns : tie.Need-returns Inv-loop μ-loop
-returns c = counted-all _ (c .before .loop .inv .2) (c .before .before .before .before .clear .ensures) (c .loop-test .left)
+returns c = counted-all _ (c .before .loop .inv .2) (c .before .before .before .before .clear .ensures) (c .loop-test .left) ∙ over-is _ _ _ (counts-length _ _)
 
 pub count-entries-spec : {M : Type 1} → statement M
 count-entries-spec =
