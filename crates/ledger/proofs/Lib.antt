@@ -1,0 +1,14 @@
+pub mod Soundness
+pub mod Saved
+pub mod Playing
+pub mod Refusals
+pub mod Trace
+pub mod Lengths
+pub mod Tally
+pub mod Checks
+pub mod Push
+pub mod Moves
+pub mod Struck
+pub mod Whole
+pub mod Full
+pub mod Need
