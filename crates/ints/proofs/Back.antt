@@ -107,3 +107,11 @@ pub axis-nat : (z : ℤ) (size : ℕ) → ltZ z (pos 0) ≡ false → cond (ltb 
 unfolding onAxis fromZero
 axis-nat (pos n) size e = refl
 axis-nat (negsuc n) size e = never (sym e)
+
+-- equal indices are equal
+pub same-index : (a b : ℤ) → eqZ a b ≡ true → a ≡ b
+unfolding eqZ
+same-index (pos a) (pos b) e = cc (eqb-true a b e)
+same-index (pos a) (negsuc b) e = never e
+same-index (negsuc a) (pos b) e = never e
+same-index (negsuc a) (negsuc b) e = cc (eqb-true a b e)

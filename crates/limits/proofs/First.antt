@@ -1,8 +1,9 @@
 -- The first check that applies, of a list that is made of parts. Assumes nothing.
-use mathlib.Core.Path.{_≡_, refl, ap, _∙_}
-use mathlib.Core.Bool.{cond}
+use mathlib.Core.Path.{_≡_, refl, sym, ap, _∙_}
+use mathlib.Core.Bool.{Bool, true, false, cond}
 use mathlib.Core.List.{List, [], _∷_, _++_}
-use Prim.Native.Nat.{ℕ, zero, suc}
+use Prim.Native.Nat.{ℕ, zero, suc, _<_}
+use native.Mathlib.Omega.{arith}
 use Rattle.limits.specs.Checks.{Check, orElse, firstOf, refusedOr, checked}
 
 or-else-assoc : (a b c : ℕ) → orElse a (orElse b c) ≡ orElse (orElse a b) c
@@ -39,3 +40,33 @@ module _ {R : Type 0} (cs : List Check) (refused : ℕ → R) (result : R) where
   pub result-first : firstOf cs ≡ 0 → result ≡ checked cs refused result
   unfolding refusedOr
   result-first e = rw e
+
+-- ---- none applies: not the first, and none after it
+pub record Past (c : Check) (cs : List Check) : Type 0 where
+  pub off : c .applies ≡ false
+  pub rest : firstOf cs ≡ 0
+
+pub past : (c : Check) (cs : List Check) → 0 < c .number → firstOf (c ∷ cs) ≡ 0 → Past c cs
+unfolding firstOf
+past c cs h e = go (c .number) (c .applies) h refl e
+  where
+    go : (n : ℕ) (b : Bool) → 0 < n → c .applies ≡ b → orElse (cond b n 0) (firstOf cs) ≡ 0 → Past c cs
+    go zero b h q e = absurd (omega arith)
+    go (suc n) true h q e = absurd (omega arith)
+    go (suc n) false h q e = record { off = q; rest = e }
+
+pub skip : (c : Check) (cs : List Check) → c .applies ≡ false → firstOf (c ∷ cs) ≡ firstOf cs
+unfolding firstOf
+skip c cs e = rw e
+
+-- ---- none of two lists
+pub record PastBoth (cs ds : List Check) : Type 0 where
+  pub left : firstOf cs ≡ 0
+  pub right : firstOf ds ≡ 0
+
+pub past-both : (cs ds : List Check) → firstOf (cs ++ ds) ≡ 0 → PastBoth cs ds
+past-both cs ds e = go (firstOf cs) refl (sym (first-append cs ds) ∙ e)
+  where
+    go : (n : ℕ) → firstOf cs ≡ n → orElse n (firstOf ds) ≡ 0 → PastBoth cs ds
+    go zero q e = record { left = q; right = e }
+    go (suc n) q e = absurd (omega arith)

@@ -10,7 +10,7 @@ use Rattle.limits.specs.declared.Rgb.{Rgb}
 use Rattle.sheet.specs.Document.{rgbAt}
 
 -- three elements that stand one after the other
-three : {A : Type 0} (l : List A) (n : ℕ) (d : A) → n + 3 ≤ length l → take 3 (drop n l) ≡ getD l n d ∷ getD l (n + 1) d ∷ getD l (n + 2) d ∷ []
+pub three : {A : Type 0} (l : List A) (n : ℕ) (d : A) → n + 3 ≤ length l → take 3 (drop n l) ≡ getD l n d ∷ getD l (n + 1) d ∷ getD l (n + 2) d ∷ []
 three l n d h = simp towards-suc (rw (drop-cons l n d (omega arith), drop-cons l (suc n) d (omega arith), drop-cons l (suc (suc n)) d (omega arith)))
 
 -- a colour's bytes, in order

@@ -1,0 +1,14 @@
+pub mod Painting
+pub mod Storage
+pub mod Entries
+pub mod FirstCheck
+pub mod Passed
+pub mod Removing
+pub mod Fits
+pub mod Redone
+pub mod Reverted
+pub mod Shown
+pub mod Again
+pub mod Numbers
+pub mod Typed
+pub mod Recorded

@@ -1,0 +1,5 @@
+pub mod Change
+pub mod Checks
+pub mod Storage
+pub mod Apply
+pub mod Accepted
