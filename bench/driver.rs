@@ -1,8 +1,11 @@
-//! Times the proved colour calls beside the Rust original and prints a table; `bench/run` builds and runs it.
+//! Times the proved calls beside the Rust original and prints two tables; `bench/run` builds and runs it.
 //!
 //! Ours is crates/bench, as `rt staticlib` compiles it. `color_platform` and `color_exact` are one and the same
 //! color.rs of pixelforge, built over the two stand-ins for its `libm`. All get the same inputs, and the results
 //! are compared bit for bit: a difference from the exact build ends the run.
+
+mod document;
+mod sheets;
 
 use std::hint::black_box;
 use std::time::Instant;
@@ -109,6 +112,7 @@ fn main() {
     let rgb: Vec<u8> = (0..MANY as u32).flat_map(colour).collect();
     one_colour_rows(&rgb);
     let (lab, colours) = bulk_rows(&rgb);
+    sheets::new_row();
     let roots = root_row();
     for k in [16, 64, 255] {
         search_rows(k, &lab);
@@ -125,6 +129,8 @@ fn main() {
         "The Rust answers in a Vec: some {vec:.0} ns of its time where a call has one colour."
     );
     println!("A search calls no libm: there the two builds of the Rust are the same code.");
+    println!();
+    sheets::print();
 }
 
 /// One of the 2^24 colours, each its own: every step here can be undone.
