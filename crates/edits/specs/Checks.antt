@@ -33,6 +33,9 @@ pub record Permitted : Type 0 where
   pub limited : Bool
   pub colours : List ℕ
 
+abbrev pub permittedOf : Bool → List ℕ → Permitted
+permittedOf limited colours = record { limited = limited; colours = colours }
+
 -- "not on a present list"
 unfoldable pub barred : Permitted → Rgb → Bool
 barred p c = p .limited && not (listed (p .colours) c)

@@ -1,0 +1,16 @@
+pub mod Complement
+pub mod Filling
+pub mod Unpacking
+pub mod Painting
+pub mod Mapped
+pub mod Steps
+pub mod Gaps
+pub mod Entries
+pub mod Passing
+pub mod Accepted
+pub mod Inside
+pub mod Marking
+pub mod Left
+pub mod Listed
+pub mod Targets
+pub mod Bare

@@ -1,0 +1,109 @@
+-- `any_left`: no pixel so far is left; the one that ends the scan is. Assumes nothing.
+use mathlib.Core.Path.{_≡_, _∙_}
+use mathlib.Core.Bool.{false}
+use Prim.Native.Nat.{ℕ, _≤_, _<_, _-_, _+_, _*_}
+use native.Mathlib.Omega.{arith}
+use borrow.Author.Needs.{needs}
+use Rattle.sheet.proofs.Places.{place}
+use Rattle.apply.proofs.Left.{leftAt, left-read, NoneLeft, none-yet, none-start, none-column, none-row, none-rows, left-hit}
+use Rattle.apply.proofs.remap.any_left.Statement.{statement}
+use Rattle.apply.proofs.remap.any_left.Tie as tie
+
+abbrev Inv-loop : tie.InvT-loop
+Inv-loop w h index indices marks left₀ y x₀ left x = (x ≤ w) × (left ≡ false) × NoneLeft index indices marks (y * w + x)
+
+abbrev μ-loop : tie.MeasureT-loop
+μ-loop w h index indices marks left₀ y x₀ left x = w - x
+
+abbrev Inv-rows : tie.InvT-rows
+Inv-rows w h index indices marks left₀ y₀ left y = (y ≤ h) × (left ≡ false) × NoneLeft index indices marks (y * w)
+
+abbrev μ-rows : tie.MeasureT-rows
+μ-rows w h index indices marks left₀ y₀ left y = h - y
+
+-- the start of the function, and the place that a turn of the inner loop looks at
+abbrev start : tie.In-loop Inv-loop μ-loop Inv-rows μ-rows → tie.Start Inv-loop μ-loop Inv-rows μ-rows
+start c = c .before .before .before .before .before
+
+abbrev at : tie.In-loop Inv-loop μ-loop Inv-rows μ-rows → ℕ
+at c = c .before .before .before .rows .y * start c .args .w + c .before .loop .x
+
+here : (c : tie.In-loop Inv-loop μ-loop Inv-rows μ-rows) → at c < start c .args .w * start c .args .h
+here c = place (c .before .before .rows-test .taken) (c .loop-test .taken)
+
+rows-holds : tie.Need-rows-holds Inv-loop μ-loop Inv-rows μ-rows
+rows-holds c = (search needs, search needs, none-yet _)
+
+loop-holds : tie.Need-loop-holds Inv-loop μ-loop Inv-rows μ-rows
+loop-holds c = (search needs, search needs, none-start _ _ (c .before .rows .inv .2))
+
+mul-p : tie.Need-mul-p Inv-loop μ-loop Inv-rows μ-rows
+mul-p c = omega (arith, here c)
+
+add-p : tie.Need-add-p Inv-loop μ-loop Inv-rows μ-rows
+add-p c = omega (arith, here c)
+
+mul-is-left : tie.Need-mul-is-left Inv-loop μ-loop Inv-rows μ-rows
+mul-is-left c = omega (arith, here c)
+
+shared-slice-copy-out-is-left : tie.Need-shared-slice-copy-out-is-left Inv-loop μ-loop Inv-rows μ-rows
+shared-slice-copy-out-is-left c = omega (arith, here c)
+
+shared-slice-read-is-left : tie.Need-shared-slice-read-is-left Inv-loop μ-loop Inv-rows μ-rows
+shared-slice-read-is-left c = omega (arith, here (c .before .before))
+
+is-left-requires : tie.Need-is-left-requires Inv-loop μ-loop Inv-rows μ-rows
+is-left-requires c κs = search needs
+
+add-x : tie.Need-add-x Inv-loop μ-loop Inv-rows μ-rows
+add-x c = search needs
+
+loop-less : tie.Need-loop-less Inv-loop μ-loop Inv-rows μ-rows
+loop-less c = search needs
+
+-- what the test says of it
+tested : (c : tie.After-is-left Inv-loop μ-loop Inv-rows μ-rows) → let a = start (c .before .before .before) .args in leftAt (a .index) (a .indices .now) (a .marks .now) (at (c .before .before .before)) ≡ c .is-left .result
+tested c = let a = start (c .before .before .before) .args in left-read (a .index) (a .indices .now) (a .marks .now) (at (c .before .before .before)) (c .before .before .is-left-arg .given) (c .is-left .ensures)
+
+loop-again : tie.Need-loop-again Inv-loop μ-loop Inv-rows μ-rows
+loop-again c = (search needs, search needs, none-column _ _ (c .before .before .before .before .before .loop .inv .2) (tested (c .before) ∙ c .if1 .left))
+
+add-y : tie.Need-add-y Inv-loop μ-loop Inv-rows μ-rows
+add-y c = search needs
+
+rows-less : tie.Need-rows-less Inv-loop μ-loop Inv-rows μ-rows
+rows-less c = search needs
+
+rows-again : tie.Need-rows-again Inv-loop μ-loop Inv-rows μ-rows
+rows-again c = (search needs, search needs, none-row _ _ _ (c .before .loop .inv .2) (c .before .loop .inv .0) (c .loop-test .left))
+
+returns : tie.Need-returns Inv-loop μ-loop Inv-rows μ-rows
+returns c = λ cs m. c .before .rows .inv .1 ∙ none-rows _ _ _ (c .before .rows .inv .2) (c .before .rows .inv .0) (c .rows-test .left) (c .before .before .before .pre .1) (c .before .before .before .pre .2) m
+
+returns-2 : tie.Need-returns-2 Inv-loop μ-loop Inv-rows μ-rows
+returns-2 c = λ cs m. left-hit _ _ _ m _ (omega (arith, here (c .before .before .before .before))) (omega (arith, here (c .before .before .before .before))) (tested (c .before) ∙ c .if1 .taken)
+
+pub any-left-spec : {M : Type 1} → statement M
+any-left-spec =
+    tie.close
+    (tie.spec
+    Inv-loop
+    μ-loop
+    Inv-rows
+    μ-rows
+    rows-holds
+    loop-holds
+    mul-p
+    add-p
+    mul-is-left
+    shared-slice-copy-out-is-left
+    shared-slice-read-is-left
+    is-left-requires
+    add-x
+    loop-less
+    loop-again
+    add-y
+    rows-less
+    rows-again
+    returns
+    returns-2)
