@@ -38,7 +38,7 @@ module _ {A : Type 0} where
       ∙ ap (λ s. over s l) (append-assoc f (a ∷ []) (b ∷ []))
 
   -- what is written behind the front
-  joined : (f g l : List A) (n : ℕ) → length f ≡ n → take n (over f l) ++ over g (drop n (over f l)) ≡ over (f ++ g) l
+  pub joined : (f g l : List A) (n : ℕ) → length f ≡ n → take n (over f l) ++ over g (drop n (over f l)) ≡ over (f ++ g) l
   unfolding over
   joined f g l n e = rw (← e) (rw (take-append-seam, drop-append-seam, drop-drop, length-append) (sym (append-assoc f g (drop (length f + length g) l))))
 

@@ -1,0 +1,14 @@
+pub mod LittleEndian
+pub mod Splice
+pub mod Changes
+pub mod Lengths
+pub mod ReadAgain
+pub mod Examples
+pub mod Signed
+pub mod Filled
+pub mod OnTheSheet
+pub mod Putting
+pub mod Written
+pub mod Finding
+pub mod Holds
+pub mod Parts
