@@ -12,3 +12,4 @@ pub mod OwnDifference
 pub mod Halves
 pub mod Distances
 pub mod FirstNearest
+pub mod Bytes

@@ -82,6 +82,22 @@ module _ (k N D : ℕ) where
       no : 0 < 0 → ⊥
       no l = omega arith
 
+  -- the edge is at p or before it where the root is below the middle of p and the next
+  pub at-most : (p : ℕ) → p < 2 ^ 63 → here (p + 1) ≡ false → nearestPattern k N D ≤ p
+  unfolding nearestPattern
+  at-most p h e =
+      let found = greatest-edge here 63 0 (λ l. absurd (no l)) (up (p + 1) (0 + 2 ^ 63) (omega arith) e) in
+      not-past (greatest 63 here 0) (λ l. differ (sym e ∙ down (p + 1) (greatest 63 here 0) (omega arith) (found .holds (omega arith))))
+    where
+      no : 0 < 0 → ⊥
+      no l = omega arith
+
+      not-past : (q : ℕ) → (p < q → ⊥) → q ≤ p
+      not-past q l = omega arith
+
+      differ : false ≡ true → ⊥
+      differ e = let z : _≡_ {A = ℕ} 0 1 = cc in omega arith
+
   -- ---- the edge as one test, which antt computes
   unfoldable pub nearestTest : ℕ → Bool
   nearestTest p = ltb 0 p && (ltb p (2 ^ 62) && (here p && not (here (p + 1))))

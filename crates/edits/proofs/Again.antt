@@ -37,7 +37,7 @@ module _ (s t : Sheet) where
   filled-unrefused p q (PaletteAdd c) cs n a = rw (lt-leb maxEntries (t .k) (passed false t p (PaletteAdd c) cs a), n)
   filled-unrefused p q (PaletteRemove i c lab) cs n a = a
 
-  filled-bytes : (e : Edit) → NewBytes e → NewBytes (filledEdit s e)
+  pub filled-bytes : (e : Edit) → NewBytes e → NewBytes (filledEdit s e)
   unfolding filledEdit
   filled-bytes (Pixels tool) b = b
   filled-bytes (PaletteSet i old new lab) b = b

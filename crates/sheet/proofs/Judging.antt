@@ -9,7 +9,8 @@ use borrow.Author.Tests.{le-ltb, ltb-false, eq-eqb, eqb-true, not-false}
 use lib.Dec.{ltb, eqb}
 use lib.ListN.{length, take}
 use Rattle.limits.specs.Checks.{Check, _when_, firstOf, checked}
-use Rattle.limits.proofs.First.{first-past, first-here, refused-first}
+use Rattle.limits.specs.Numbers.{strayIndex, unfitLab}
+use Rattle.limits.proofs.First.{first-past, first-here, refused-first, past, past-both}
 use Rattle.lists.specs.Lists.{some}
 use Rattle.lists.proofs.Scan.{or-left, or-right}
 use Rattle.cielab.specs.Finite.{unfit}
@@ -80,6 +81,19 @@ limited-bad s h = record { value = sym (by-tests s ∙ applies (some yes (tests 
 
 -- ---- 1 to 3 in order
 module _ (s : Sheet) where
+  -- what 0 means
+  pub none-applied : firstOf (sheetChecks [] s) ≡ 0 → WellFormed s
+  unfolding sheetChecks indexChecks labChecks
+  none-applied e =
+      let parts = past-both (limitChecks s) (indexChecks s ++ labChecks s) e in
+      let index = past (strayIndex when some (stray (s .k)) (s .indices)) (labChecks s) (omega arith) (parts .right) in
+      let lab = past (unfitLab when some unfit (take (3 * s .k) (s .lab))) [] (omega arith) (index .rest) in
+      record { limits = limits-of s (unset (some yes (tests s)) (sym (by-tests s) ∙ parts .left)); in-range = index .off; fit = lab .off }
+    where
+      unset : (b : Bool) → _≡_ {A = ℕ} (cond b 1 0) 0 → b ≡ false
+      unset true e = absurd (omega arith)
+      unset false e = refl
+
   pub judged-limits : (n : ℕ) → Limited s n → (n ≡ 0 → ⊥) → Judged s n
   unfolding sheetChecks
   judged-limits n l h = record { value = first-here (limitChecks s) (indexChecks s ++ labChecks s) n (l .value) h; fine = λ e. absurd (h e) }

@@ -1,0 +1,3 @@
+pub mod Recordable
+pub mod Keeps
+pub mod Demand3

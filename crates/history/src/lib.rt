@@ -1,0 +1,1 @@
+// The history of a sheet: push, undo, redo and mark-saved over a lent journal.
