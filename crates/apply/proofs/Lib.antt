@@ -7,6 +7,7 @@ pub mod Steps
 pub mod Gaps
 pub mod Entries
 pub mod Passing
+pub mod Redoing
 pub mod Accepted
 pub mod Inside
 pub mod Marking

@@ -1,13 +1,16 @@
-// The steps of op.rs as code: one change checked, painted or filled in, and the loops over a list of
-// changes, over the indices and over the palette's storage. They ask their caller for what they need;
-// the calls that answer every input stand in the crates above.
+// The steps of op.rs as code: one change checked, painted or filled in, the loops over a list of changes,
+// over the indices and over the palette's storage, and over these an edit's checks, its record filled in
+// and the edit done. They ask their caller for what they need; the calls that answer every input stand in
+// the crates above.
 //
 // A list of changes is lent as one number of 64 bits a change.
 mod change;
 mod checks;
 mod colours;
 mod indices;
+mod own;
 mod paint;
+mod redo;
 mod remap;
 mod storage;
 
@@ -24,9 +27,12 @@ pub use colours::check_color;
 pub use colours::has_rgb;
 pub use indices::lower_above;
 pub use indices::raise_from;
+pub use own::own_no;
 pub use paint::paint_new;
 pub use paint::paint_news;
 pub use paint::paint_old;
+pub use redo::fill_edit;
+pub use redo::redo_edit;
 pub use remap::move_no;
 pub use remap::removal_no;
 pub use storage::close_lab_gap;

@@ -14,6 +14,7 @@ pub use curve::table;
 pub use finite::any_unfit;
 pub use finite::unfit_triple;
 pub use nearest::dist2;
+pub use nearest::lab_at;
 pub use nearest::nearest_in;
 
 // A colour's three linear values, from 0 to 1.

@@ -19,7 +19,7 @@ pub fn dist2(p: Lab, q: Lab) -> f64
 }
 
 // Entry i of the LAB storage.
-fn lab_at(lab: &[f64], i: usize) -> Lab
+pub fn lab_at(lab: &[f64], i: usize) -> Lab
     requires { ⌜ 3 * (i + 1) ≤ length (now lab) ⌝ }
     ensures { λ r. ⌜ r ≡ labAt (now (lab .entry)) i ⌝ }
 {
