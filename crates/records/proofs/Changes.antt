@@ -39,7 +39,7 @@ unfolding changeBytes unpacked
 change-bytes v = rw (signed (v / 2 ^ 32 % 2 ^ 16) (omega arith), signed (v / 2 ^ 48 % 2 ^ 16) (omega arith)) (sym (pairs v))
 
 -- the lowest 16 bits of a number
-pub lowest : (v a b : ℕ) → a < 2 ^ 16 → v ≡ a + b * 2 ^ 16 → v % 2 ^ 16 ≡ a
+lowest : (v a b : ℕ) → a < 2 ^ 16 → v ≡ a + b * 2 ^ 16 → v % 2 ^ 16 ≡ a
 lowest v a b h e = omega arith
 
 module _ (c : Change) (h : FitChange c) where

@@ -4,7 +4,6 @@ pub mod Changes
 pub mod Lengths
 pub mod ReadAgain
 pub mod Examples
-pub mod Signed
 pub mod Filled
 pub mod OnTheSheet
 pub mod Putting

@@ -2,9 +2,9 @@
 use Prim.Native.Nat.{ℕ, _^_, _<_, _≤_}
 use mathlib.Core.Path.{_≡_}
 use mathlib.Core.List.{List, [], _∷_}
-use mathlib.Core.Bool.{Bool, false, not}
+use mathlib.Core.Bool.{false, not}
 use lib.IntN.{ℤ}
-use lib.Dec.{T, leb}
+use lib.Dec.{T}
 use lib.Ieee.{binary64, fits, isNan}
 use lib.ListN.{length}
 use mir.Syntax.{w16}
@@ -14,7 +14,8 @@ use Rattle.lists.specs.Lists.{some}
 use Rattle.sheet.specs.Sheet.{Sheet, sheetOf}
 use Rattle.edits.specs.declared.Edit.{Edit}
 use Rattle.edits.specs.declared.Edit.the-variants.{Pixels, PaletteSet, PaletteAdd, PaletteRemove}
-use Rattle.edits.specs.Change.{Change, place}
+use Rattle.edits.specs.Change.{Change}
+use Rattle.apply.specs.Inside.{past}
 use Rattle.records.specs.Record.{recordLength}
 
 -- "x, y unsigned 16-bit, old, new signed 16-bit"
@@ -47,10 +48,6 @@ pub record Fit (e : Edit) (cs : List Change) : Type 0 where
   pub whole : recordLength e (length cs) < 2 ^ 32
 
 -- ---- what the writers ask besides
-
--- a change whose place is not among n indices
-unfoldable pub past : ℕ → ℕ → Change → Bool
-past w n c = leb n (place w c)
 
 -- doubles that are numbers: the bits of any other are not told
 pub record Numbers (x : Lab) : Type 0 where

@@ -4,7 +4,6 @@
 // specs/ has the four forms and their readings (Record), and what a record can hold (Fit). proofs/ReadAgain
 // says that what was written is read, from both ends.
 mod bytes;
-mod change;
 mod find;
 mod write;
 

@@ -2,7 +2,7 @@
 use crate::bytes::put_f64;
 use crate::bytes::put_u32;
 use crate::bytes::put_u64;
-use crate::change::filled;
+use apply::filled_in;
 use edits::Edit;
 use limits::Lab;
 use limits::Rgb;
@@ -16,9 +16,10 @@ ghost use Rattle.edits.specs.declared.Edit.the-variants.{Pixels, PaletteSet, Pa
 ghost use Rattle.edits.specs.Change.{unpacked, filledIn};
 ghost use Rattle.edits.specs.Storage.{bytesOf};
 ghost use Rattle.edits.specs.Apply.{filledChanges};
+ghost use Rattle.apply.specs.Inside.{past};
 ghost use Rattle.records.specs.Bytes.{splice};
 ghost use Rattle.records.specs.Record.{changeBytes, labBytes, recordLength, recordOf};
-ghost use Rattle.records.specs.Fit.{past, Numbers, Writable, rowsOf};
+ghost use Rattle.records.specs.Fit.{Numbers, Writable, rowsOf};
 
 // Writes two bytes at the front: the kind, and the tool or the index.
 fn put_kind(part: &mut [u8], kind: u8, second: u8)
@@ -68,7 +69,7 @@ fn put_filled(part: &mut [u8], at: usize, list: &[u64], indices: &[i16], w: usiz
 {
     let mut i: usize = 0;
     while i < list.len() {
-        put_u64(part, at + 8 * i, filled(list[i], indices, w));
+        put_u64(part, at + 8 * i, filled_in(indices, w, list[i]));
         i += 1;
     }
 }

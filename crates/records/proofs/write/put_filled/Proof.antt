@@ -6,8 +6,9 @@ use lib.ListN.{length, length-map}
 use Rattle.edits.specs.Change.{unpacked}
 use mathlib.Core.Path.{_∙_}
 use Rattle.edits.specs.Change.{filledIn}
+use Rattle.apply.proofs.Inside.{inside-at}
 use Rattle.records.proofs.Putting.{Putting, putting-none, putting-next, putting-all}
-use Rattle.records.proofs.Filled.{filled-at, inside}
+use Rattle.records.proofs.Filled.{filled-at}
 use Rattle.records.proofs.write.put_filled.Statement.{statement}
 use Rattle.records.proofs.write.put_filled.Tie as tie
 
@@ -26,16 +27,16 @@ mul-put-u64 c = search needs
 add-put-u64 : tie.Need-add-put-u64 Inv-loop μ-loop
 add-put-u64 c = search needs
 
-mul-filled : tie.Need-mul-filled Inv-loop μ-loop
-mul-filled c = search needs
+mul-filled-in : tie.Need-mul-filled-in Inv-loop μ-loop
+mul-filled-in c = search needs
 
-shared-slice-read-filled : tie.Need-shared-slice-read-filled Inv-loop μ-loop
-shared-slice-read-filled c = search needs
+shared-slice-read-filled-in : tie.Need-shared-slice-read-filled-in Inv-loop μ-loop
+shared-slice-read-filled-in c = search needs
 
-filled-requires : tie.Need-filled-requires Inv-loop μ-loop
-filled-requires c κs =
+filled-in-requires : tie.Need-filled-in-requires Inv-loop μ-loop
+filled-in-requires c κs =
     let start = c .before .before .before .before .before .before in
-    inside (start .args .list .now) _ _ _ (start .pre .1) (c .before .before .loop-test .taken)
+    inside-at _ _ (start .args .list .now) _ (start .pre .1) (c .before .before .loop-test .taken)
 
 put-u64-requires : tie.Need-put-u64-requires Inv-loop μ-loop
 put-u64-requires c κs = search needs
@@ -53,7 +54,7 @@ loop-again c =
     let list = start .args .list .now in
     let fill = filledIn (start .args .w) (start .args .indices .now) in
     let count = length-map (map unpacked list) fill ∙ length-map list unpacked in
-    let filled = c .before .before .before .filled .ensures ∙ filled-at list _ _ _ in
+    let filled = c .before .before .before .filled-in .ensures ∙ filled-at list _ _ _ in
     let put = c .before .before .put-u64 .ensures in
     putting-next _ _ _ (fill (unpacked 0)) _ _ _ _ _ count (start .pre .0) (turn .before .loop .inv) (turn .loop-test .taken) filled put
 
@@ -72,9 +73,9 @@ put-filled-spec =
     loop-holds
     mul-put-u64
     add-put-u64
-    mul-filled
-    shared-slice-read-filled
-    filled-requires
+    mul-filled-in
+    shared-slice-read-filled-in
+    filled-in-requires
     put-u64-requires
     add-i
     loop-less
