@@ -78,7 +78,7 @@ pub fn fill_edit(palette: &[u8], lab: &[f64], edit: Edit) -> Edit
 }
 
 // Gives entry i a colour, and the LAB of that colour.
-fn store_entry(palette: &mut [u8], lab: &mut [f64], i: usize, c: Rgb)
+pub fn store_entry(palette: &mut [u8], lab: &mut [f64], i: usize, c: Rgb)
     requires { ⌜ (3 * i + 3 ≤ length (now palette)) × (3 * i + 3 ≤ length (now lab)) ⌝ }
     ensures { λ _. ⌜ now (palette .exit) ≡ stored (3 * i) (bytesOf c) (now (palette .entry)) ⌝ }
     ensures { λ _. ⌜ now (lab .exit) ≡ stored (3 * i) (numbersOf (labOf c)) (now (lab .entry)) ⌝ }

@@ -85,7 +85,7 @@ fn remap_no(w: usize, h: usize, k: usize, index: usize, indices: &[i16], list: &
 }
 
 // Takes every mark away.
-fn clear(marks: &mut [u8])
+pub fn clear(marks: &mut [u8])
     ensures { λ _. ⌜ now (marks .exit) ≡ replicate (length (now (marks .entry))) 0 ⌝ }
 {
     let mut i: usize = 0;
@@ -119,7 +119,7 @@ fn is_left(z: i16, mark: u8, index: usize) -> bool
 
 // Whether a pixel of the entry is not remapped, where the remap's places are marked: the scan ends at the
 // first one.
-fn any_left(w: usize, h: usize, index: usize, indices: &[i16], marks: &[u8]) -> bool
+pub fn any_left(w: usize, h: usize, index: usize, indices: &[i16], marks: &[u8]) -> bool
     requires { ⌜ (index ≤ 255) × (length (now indices) ≡ w * h) × (length (now marks) ≡ w * h) ⌝ }
     ensures { λ r. ⌜ ((cs : List Change) → Marks w cs (now (marks .entry)) → r ≡ leftFrom w index cs 0 (now (indices .entry))) ⌝ }
 {

@@ -1,5 +1,4 @@
 -- A record that lies in the journal: what it holds, by its kind and the offset at which it starts. Definitions only. Assumes nothing.
-use mathlib.Core.Path.{_≡_}
 use mathlib.Core.List.{List, []}
 use Prim.Native.Nat.{ℕ, _+_, _≤_}
 use lib.ListN.{length, getD}

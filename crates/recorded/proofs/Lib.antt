@@ -1,0 +1,4 @@
+pub mod Searched
+pub mod Numbers
+pub mod Redos
+pub mod RedoneAt
