@@ -19,14 +19,14 @@ ghost use Rattle.edits.specs.Checks.{pixelChecks};
 ghost use Rattle.apply.specs.Inside.{bare};
 
 // Whether both hold. Both are computed.
-pub(crate) fn both(a: bool, b: bool) -> bool
+pub fn both(a: bool, b: bool) -> bool
     ensures { λ r. ⌜ r ≡ a && b ⌝ }
 {
     a && b
 }
 
 // Whether an index lies outside -1..k-1.
-pub(crate) fn is_stray(z: i16, k: usize) -> bool
+pub fn is_stray(z: i16, k: usize) -> bool
     ensures { λ r. ⌜ r ≡ stray k z ⌝ }
 {
     if z < 0 { z < -1 } else { z as usize >= k }

@@ -29,7 +29,7 @@ use Rattle.recorded.specs.Sound.{anyColour, redoable}
 use Rattle.recorded.specs.Lies.{editAt, changesAt}
 
 -- ---- a record that redo takes
-and-right : (a b : Bool) → a && b ≡ true → b ≡ true
+pub and-right : (a b : Bool) → a && b ≡ true → b ≡ true
 and-right true b e = e
 and-right false b e = cc
 

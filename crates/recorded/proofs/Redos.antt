@@ -2,11 +2,9 @@
 use mathlib.Core.Path.{_≡_, refl}
 use mathlib.Core.Bool.{Bool, true, false}
 use mathlib.Core.List.{List, [], _∷_, _++_, flatMap}
-use Prim.Native.Nat.{ℕ, _+_, _*_, _<_, _≤_}
-use native.Mathlib.Omega.{arith}
+use Prim.Native.Nat.{ℕ, _+_, _<_, _≤_}
 use borrow.Author.Tests.{leb-true, leb-false, lt-ltb, le-ltb, le-leb, lt-leb}
 use lib.Dec.{leb, ltb, eqb}
-use lib.ListN.{length}
 use Rattle.limits.specs.Limits.{maxChanges, maxEntries}
 use Rattle.limits.specs.Numbers.{stillUsed}
 use Rattle.limits.specs.Checks.{_when_, firstOf}
@@ -19,10 +17,9 @@ use Rattle.edits.specs.Change.{Change}
 use Rattle.edits.specs.Checks.{barred, pixelChecks, remapChecks, leftFrom, ownChecks}
 use Rattle.apply.specs.Inside.{bare}
 use Rattle.apply.proofs.Bare.{bare-pixels, removal-left}
-use Rattle.records.specs.Record.{byKind, recordLength, changesIn}
+use Rattle.records.specs.Record.{changesIn}
 use Rattle.records.proofs.Finding.{length-in}
 use Rattle.recorded.specs.Sound.{anyColour, redoable}
-use Rattle.recorded.specs.Lies.{editAt, Lies}
 
 -- ---- a kind with a list: 21, then the edit's own checks
 module _ (s : Sheet) (journal : List ℕ) (at n : ℕ) where
@@ -74,24 +71,3 @@ module _ (s : Sheet) where
       by : (b : Bool) → leb maxEntries (s .k) ≡ b → ltb (s .k) maxEntries ≡ redoable s (PaletteAdd c) []
       by true q = rw (q, le-ltb (s .k) maxEntries (leb-true maxEntries (s .k) q))
       by false q = rw (q, lt-ltb (s .k) maxEntries (leb-false maxEntries (s .k) q))
-
--- ---- where a record's parts lie, by its kind
-module _ {journal : List ℕ} {kind start count : ℕ} (l : Lies journal kind start count) where
-  pub pixels-room : kind ≡ 1 → start + (10 + 8 * count) ≤ length journal
-  unfolding editAt byKind recordLength
-  pixels-room e = rw e at (l .inside)
-
-  pub set-room : kind ≡ 2 → start + 36 ≤ length journal
-  unfolding editAt byKind recordLength
-  set-room e = rw e at (l .inside)
-
-  pub add-room : kind ≡ 3 → start + 8 ≤ length journal
-  unfolding editAt byKind recordLength
-  add-room e = rw e at (l .inside)
-
-  pub remove-room : kind ≡ 4 → start + (37 + 8 * count) ≤ length journal
-  unfolding editAt byKind recordLength
-  remove-room e = rw e at (l .inside)
-
-  pub last-kind : (kind ≡ 1 → ⊥) → (kind ≡ 2 → ⊥) → (kind ≡ 3 → ⊥) → kind ≡ 4
-  last-kind a b c = omega (arith, l .least, l .most)

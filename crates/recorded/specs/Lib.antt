@@ -1,2 +1,5 @@
 pub mod Sound
 pub mod Lies
+pub mod OldClaims
+pub mod UndoTests
+pub mod LabRead

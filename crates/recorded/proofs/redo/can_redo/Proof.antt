@@ -3,7 +3,7 @@ use mathlib.Core.Path.{_≡_}
 use native.Mathlib.Omega.{arith}
 use Rattle.records.specs.Record.{byKind}
 use Rattle.recorded.specs.Lies.{editAt, changesAt}
-use Rattle.recorded.proofs.Redos.{pixels-room, set-room, remove-room, last-kind}
+use Rattle.recorded.proofs.Rooms.{pixels-room, set-room, remove-room, last-kind}
 use Rattle.recorded.proofs.RedoneAt.{set-taken, remove-taken}
 use borrow.Author.Needs.{needs}
 use Rattle.recorded.proofs.redo.can_redo.Statement.{statement}

@@ -1,7 +1,7 @@
 -- `redo_record`: by kinds. Assumes nothing.
 use mathlib.Core.Path.{_≡_}
 use native.Mathlib.Omega.{arith}
-use Rattle.recorded.proofs.Redos.{pixels-room, set-room, add-room, remove-room, last-kind}
+use Rattle.recorded.proofs.Rooms.{pixels-room, set-room, add-room, remove-room, last-kind}
 use Rattle.recorded.proofs.RedoneAt.{pixels-inside, set-inside, add-inside, remove-inside, pixels-redone, set-redone, add-redone, remove-redone}
 use borrow.Author.Needs.{needs}
 use Rattle.recorded.proofs.redo.redo_record.Statement.{statement}
