@@ -1,3 +1,9 @@
 pub mod Recordable
 pub mod Keeps
 pub mod Demand3
+pub mod Answers
+pub mod PushChecks
+pub mod Accepting
+pub mod Steps
+pub mod Forth
+pub mod Back

@@ -1,2 +1,3 @@
 pub mod Editing
 pub mod Demand3
+pub mod Calls

@@ -1,0 +1,204 @@
+// `push`: an edit checked, recorded and done.
+use crate::Handle;
+use crate::Moved;
+use crate::entering::entry_no;
+use apply::fill_edit;
+use apply::own_no;
+use apply::redo_edit;
+use edits::Edit;
+use limits::Answer;
+use limits::JOURNAL_FULL;
+use limits::LIST_TOO_LONG;
+use limits::MAX_CHANGES;
+use limits::NO_SPACE;
+use records::write_record;
+ghost use mathlib.Core.Path.{_≡_};
+ghost use mathlib.Core.Bool.{Bool};
+ghost use mathlib.Core.List.{List, map};
+ghost use Prim.Native.Nat.{ℕ, _≤_};
+ghost use lib.ListN.{length};
+ghost use Rattle.limits.specs.Limits.{maxChanges};
+ghost use Rattle.sheet.specs.Sheet.{sheetOf};
+ghost use Rattle.edits.specs.Change.{unpacked};
+ghost use Rattle.records.specs.Record.{recordLength};
+ghost use Rattle.ledger.specs.Calls.{done};
+ghost use Rattle.ledger.specs.Journal.{pushOf, pushed};
+ghost use Rattle.history.specs.Editing.{editing, givenOf, noPixels};
+ghost use Rattle.history.specs.Calls.{stateOf, leaves, Standing, Acceptable, Pushes};
+
+// Whether the edit is an empty list of pixels.
+fn is_empty(edit: Edit, list: &[u64]) -> bool
+    ensures { λ r. ⌜ r ≡ noPixels edit (map unpacked (now (list .entry))) ⌝ }
+{
+    match edit {
+        Edit::Pixels { tool: _ } => list.len() == 0,
+        Edit::PaletteSet {
+            index: _,
+            old: _,
+            new: _,
+            old_lab: _,
+        } => false,
+        Edit::PaletteAdd { rgb: _ } => false,
+        Edit::PaletteRemove {
+            index: _,
+            rgb: _,
+            lab: _,
+        } => false,
+    }
+}
+
+// The bytes of an edit's record with n changes.
+fn record_length(edit: Edit, n: usize) -> usize
+    requires { ⌜ n ≤ maxChanges ⌝ }
+    ensures { λ r. ⌜ r ≡ recordLength edit n ⌝ }
+{
+    match edit {
+        Edit::Pixels { tool: _ } => 10 + 8 * n,
+        Edit::PaletteSet {
+            index: _,
+            old: _,
+            new: _,
+            old_lab: _,
+        } => 36,
+        Edit::PaletteAdd { rgb: _ } => 8,
+        Edit::PaletteRemove {
+            index: _,
+            rgb: _,
+            lab: _,
+        } => 37 + 8 * n,
+    }
+}
+
+// The number of the first check of a push after "still" that applies, or 0: 21, 16, the edit's own, 14.
+fn push_no(
+    w: usize,
+    h: usize,
+    k: usize,
+    palette: &[u8],
+    lab: &[f64],
+    indices: &[i16],
+    limited: bool,
+    permitted: &[u8],
+    edit: Edit,
+    list: &[u64],
+    journal: &[u8],
+    handle: Handle,
+    scratch: &mut [u8],
+) -> u8
+    requires { ⌜ Standing (stateOf (sheetOf w h k (now palette) (now lab) (now indices)) (now journal) handle) ⌝ }
+    ensures { λ r. ⌜ Pushes (length (now (scratch .entry))) (stateOf (sheetOf w h k (now (palette .entry)) (now (lab .entry)) (now (indices .entry))) (now (journal .entry)) handle) (givenOf limited (now (permitted .entry)) edit (now (list .entry))) r ⌝ }
+{
+    if MAX_CHANGES < list.len() {
+        return LIST_TOO_LONG;
+    }
+    if scratch.len() < indices.len() {
+        return NO_SPACE;
+    }
+    let no = own_no(
+        w,
+        h,
+        k,
+        palette,
+        indices,
+        limited,
+        permitted,
+        edit,
+        list,
+        scratch,
+        false,
+    );
+    if no != 0 {
+        return no;
+    }
+    if journal.len() < handle.offset + record_length(edit, list.len()) {
+        return JOURNAL_FULL;
+    }
+    0
+}
+
+// An edit that no check refuses, recorded and done: the record is written into the part of the journal that
+// starts at the standing offset.
+fn accept(
+    w: usize,
+    h: usize,
+    k: usize,
+    palette: &mut [u8],
+    lab: &mut [f64],
+    indices: &mut [i16],
+    edit: Edit,
+    list: &[u64],
+    journal: &mut [u8],
+    handle: Handle,
+) -> Moved
+    requires { ⌜ Standing (stateOf (sheetOf w h k (now palette) (now lab) (now indices)) (now journal) handle) ⌝ }
+    requires { ⌜ Acceptable (stateOf (sheetOf w h k (now palette) (now lab) (now indices)) (now journal) handle) edit (map unpacked (now list)) ⌝ }
+    ensures { λ r. ⌜ ((limited : Bool) (permitted : List ℕ) → leaves r w h (now (palette .exit)) (now (lab .exit)) (now (indices .exit)) (now (journal .exit)) ≡ done (pushed editing (stateOf (sheetOf w h k (now (palette .entry)) (now (lab .entry)) (now (indices .entry))) (now (journal .entry)) handle) (givenOf limited permitted edit (now (list .entry))))) ⌝ }
+{
+    let offset = handle.offset;
+    let filled = fill_edit(palette, lab, edit);
+    write_record(&mut journal[offset..], filled, list, indices, w);
+    let k = redo_edit(w, k, palette, lab, indices, edit, list);
+    Moved {
+        answer: Answer::Done,
+        k,
+        handle: handle.after_push(record_length(edit, list.len())),
+    }
+}
+
+// Checks an edit, records it and does it. A removal repaints its list, lowers the indices above the entry and
+// closes the gap; the olds, and LAB, go from the sheet into the record. The list is only read.
+pub fn push(
+    w: usize,
+    h: usize,
+    k: usize,
+    palette: &mut [u8],
+    lab: &mut [f64],
+    indices: &mut [i16],
+    limited: bool,
+    permitted: &[u8],
+    edit: Edit,
+    list: &[u64],
+    journal: &mut [u8],
+    handle: Handle,
+    scratch: &mut [u8],
+) -> Moved
+    ensures { λ r. ⌜ leaves r w h (now (palette .exit)) (now (lab .exit)) (now (indices .exit)) (now (journal .exit)) ≡ pushOf editing (length (now (scratch .entry))) (stateOf (sheetOf w h k (now (palette .entry)) (now (lab .entry)) (now (indices .entry))) (now (journal .entry)) handle) (givenOf limited (now (permitted .entry)) edit (now (list .entry))) ⌝ }
+{
+    let no = entry_no(
+        w,
+        h,
+        k,
+        palette,
+        lab,
+        indices,
+        limited,
+        permitted,
+        journal,
+        handle,
+    );
+    if no != 0 {
+        return Moved::refused(no, k, handle);
+    }
+    if is_empty(edit, list) {
+        return Moved::still(k, handle);
+    }
+    let no = push_no(
+        w,
+        h,
+        k,
+        palette,
+        lab,
+        indices,
+        limited,
+        permitted,
+        edit,
+        list,
+        journal,
+        handle,
+        scratch,
+    );
+    if no != 0 {
+        return Moved::refused(no, k, handle);
+    }
+    accept(w, h, k, palette, lab, indices, edit, list, journal, handle)
+}
