@@ -1,3 +1,5 @@
 pub mod Editing
 pub mod Demand3
 pub mod Calls
+pub mod Looks
+pub mod Replay

@@ -1,0 +1,35 @@
+-- `lab_at`: three doubles. Assumes nothing.
+use Rattle.records.specs.Record.{labIn}
+use borrow.Author.Needs.{needs}
+use Rattle.history.proofs.look.lab_at.Statement.{statement}
+use Rattle.history.proofs.look.lab_at.Tie as tie
+
+double-at-requires : tie.Need-double-at-requires
+double-at-requires c κs = search needs
+
+add-double-at : tie.Need-add-double-at
+add-double-at c = search needs
+
+double-at-requires-2 : tie.Need-double-at-requires-2
+double-at-requires-2 c κs = search needs
+
+add-double-at-2 : tie.Need-add-double-at-2
+add-double-at-2 c = search needs
+
+double-at-requires-3 : tie.Need-double-at-requires-3
+double-at-requires-3 c κs = search needs
+
+returns : tie.Need-returns
+unfolding labIn
+returns c = rw (c .before .before .double-at .ensures, c .before .double-at2 .ensures, c .double-at3 .ensures)
+
+pub lab-at-spec : {M : Type 1} → statement M
+lab-at-spec =
+    tie.close
+    (tie.spec
+    double-at-requires
+    add-double-at
+    double-at-requires-2
+    add-double-at-2
+    double-at-requires-3
+    returns)

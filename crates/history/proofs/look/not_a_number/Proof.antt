@@ -1,0 +1,12 @@
+-- `not_a_number`: 0 / 0 is none. Assumes nothing.
+use mathlib.Core.Path.{refl}
+use lib.Ieee.{ofBits, div}
+use Rattle.history.proofs.look.not_a_number.Statement.{statement}
+use Rattle.history.proofs.look.not_a_number.Tie as tie
+
+returns : tie.Need-returns
+unfolding ofBits div
+returns c = refl
+
+pub not-a-number-spec : {M : Type 1} → statement M
+not-a-number-spec = tie.close (tie.spec returns)

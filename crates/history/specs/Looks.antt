@@ -1,0 +1,87 @@
+-- What a maker asks of a history without changing its sheet: history.rs, `is_dirty`, `can_undo`, `can_redo`, `next_undo`, `next_redo` and `applied`. Each looks
+-- at the journal's length (1) and the handle (4), at no sheet. Definitions only. Assumes nothing.
+use mathlib.Core.Bool.{Bool, true, not, cond}
+use mathlib.Core.List.{List, [], _∷_}
+use mathlib.Core.Option.{Option, none, some}
+use Prim.Native.Nat.{ℕ, _+_, _-_, _*_}
+use lib.Dec.{leb, eqb}
+use lib.ListN.{length, take, drop}
+use Rattle.limits.specs.Numbers.{journalDamaged}
+use Rattle.limits.specs.Checks.{Check, _when_, checked}
+use Rattle.limits.specs.declared.Answer.{Answer}
+use Rattle.edits.specs.declared.Edit.{Edit}
+use Rattle.edits.specs.Change.{Change}
+use Rattle.records.specs.Record.{Reading, readForth, readBack}
+use Rattle.ledger.specs.declared.Handle.{Handle}
+use Rattle.ledger.specs.Handle.{savedPosition, steppedBack, steppedForth}
+use Rattle.ledger.specs.Calls.{Outcome}
+use Rattle.ledger.specs.Journal.{longJournal, unsound}
+use Rattle.history.specs.declared.Truth.{Truth}
+use Rattle.history.specs.declared.Truth.the-variants as truth
+use Rattle.history.specs.declared.Next.{Next}
+use Rattle.history.specs.declared.Next.the-variants as next
+
+-- 1 and 4, of a journal of n bytes
+abbrev pub handleChecks : ℕ → Handle → List Check
+handleChecks n h = longJournal n ∷ unsound n h ∷ []
+
+-- ---- `mark_saved`: what it answers and leaves; `markOf` (ledger/specs/Journal.antt) says what these are
+abbrev pub outcomeOf : Answer → Handle → Outcome Handle
+outcomeOf answer handle = record { answer = answer; leaves = handle }
+
+-- ---- questions
+unfoldable pub asked : ℕ → Handle → Bool → Truth
+asked n h b = checked (handleChecks n h) truth.Refused (truth.Is b)
+
+-- "Dirty means saved is none or another position"
+unfoldable pub isOther : Option ℕ → ℕ → Bool
+isOther none position = true
+isOther (some saved) position = not (eqb saved position)
+
+abbrev pub dirty : Handle → Bool
+dirty h = isOther (savedPosition h) (h .position)
+
+-- "Undo: at 0 "still"", "Redo: at the last "still"": else there is a record
+abbrev pub undoLeft : Handle → Bool
+undoLeft h = not (eqb (h .position) 0)
+
+abbrev pub redoLeft : Handle → Bool
+redoLeft h = not (eqb (h .position) (h .count))
+
+-- ---- a record that was read from `start` on: its edit, where it lies, and where its changes lie, which stand before the last 4 bytes
+unfoldable pub shown : ℕ → ℕ × Edit × List Change → Next
+shown start r = let n = length (r .2) in next.Record (r .1) start (r .0) (start + r .0 - 4 - 8 * n) n
+
+-- the record that one step goes over: "A record is sound if it is inside the used part .., the handle after the step is sound", as `over`
+-- (ledger/specs/Journal.antt) tests it; what it holds is judged by undo and redo, on a sheet
+unfoldable pub stepShown : ℕ → Handle → Reading → (ℕ → ℕ) → (ℕ → Bool) → (ℕ → Handle → Handle) → Next
+stepShown n h none start inside stepped = next.Refused journalDamaged
+stepShown n h (some r) start inside stepped =
+    checked (journalDamaged when not (inside (r .0)) ∷ unsound n (stepped (r .0) h) ∷ []) next.Refused (shown (start (r .0)) r)
+
+-- ---- `next_undo`: "The op undo would revert", `next_redo`: "The op redo would apply"
+unfoldable pub nextUndoOf : List ℕ → Handle → Next
+nextUndoOf journal h =
+    let offset = h .offset in
+    checked (handleChecks (length journal) h) next.Refused
+    (cond (eqb (h .position) 0) next.Nothing
+    (stepShown (length journal) h (readBack (take offset journal)) (λ n. offset - n) (λ n. leb n offset) steppedBack))
+
+unfoldable pub nextRedoOf : List ℕ → Handle → Next
+nextRedoOf journal h =
+    let offset = h .offset in
+    let end = h .end in
+    checked (handleChecks (length journal) h) next.Refused
+    (cond (eqb (h .position) (h .count)) next.Nothing
+    (stepShown (length journal) h (readForth (take (end - offset) (drop offset journal))) (λ n. offset) (λ n. leb (offset + n) end) steppedForth))
+
+-- ---- `applied`: "The applied ops, oldest first", one a call: the record that starts at an offset before the standing one, whose bytes it is read from
+unfoldable pub readShown : ℕ → Reading → Next
+readShown at none = next.Refused journalDamaged
+readShown at (some r) = shown at r
+
+unfoldable pub appliedOf : List ℕ → Handle → ℕ → Next
+appliedOf journal h at =
+    checked (handleChecks (length journal) h) next.Refused
+    (cond (leb (h .offset) at) next.Nothing
+    (readShown at (readForth (take (h .offset - at) (drop at journal)))))

@@ -1,0 +1,108 @@
+// An edit done to a sheet apart from any history, where the sheet is as the edit says that it was:
+// `replay` of op.rs.
+use crate::Replayed;
+use apply::own_no;
+use apply::redo_edit;
+use edits::Edit;
+use limits::Answer;
+use limits::LIST_TOO_LONG;
+use limits::MAX_CHANGES;
+use limits::NO_SPACE;
+use sheet::check;
+use sheet::permitted_no;
+ghost use mathlib.Core.Path.{_≡_};
+ghost use mathlib.Core.List.{map};
+ghost use lib.ListN.{length};
+ghost use Rattle.limits.specs.Checks.{firstOf};
+ghost use Rattle.sheet.specs.Sheet.{sheetOf};
+ghost use Rattle.edits.specs.Change.{unpacked};
+ghost use Rattle.edits.specs.Checks.{permittedOf};
+ghost use Rattle.history.specs.Replay.{replayChecks, replayed, replayOf};
+
+// The number of the first check that applies, or 0.
+fn replay_no(
+    w: usize,
+    h: usize,
+    k: usize,
+    palette: &[u8],
+    lab: &[f64],
+    indices: &[i16],
+    limited: bool,
+    permitted: &[u8],
+    edit: Edit,
+    list: &[u64],
+    scratch: &mut [u8],
+) -> u8
+    ensures { λ r. ⌜ r ≡ firstOf (replayChecks (length (now (scratch .entry))) (sheetOf w h k (now (palette .entry)) (now (lab .entry)) (now (indices .entry))) (permittedOf limited (now (permitted .entry))) edit (map unpacked (now (list .entry)))) ⌝ }
+{
+    let given = permitted_no(limited, permitted);
+    if given != 0 {
+        return given;
+    }
+    let no = check(w, h, k, palette, lab, indices);
+    if no != 0 {
+        return no;
+    }
+    if MAX_CHANGES < list.len() {
+        return LIST_TOO_LONG;
+    }
+    if scratch.len() < indices.len() {
+        return NO_SPACE;
+    }
+    own_no(
+        w,
+        h,
+        k,
+        palette,
+        indices,
+        limited,
+        permitted,
+        edit,
+        list,
+        scratch,
+        true,
+    )
+}
+
+// Does an edit whose old values are the sheet's, and answers the palette count after it. LAB is worked out
+// from the colour. The scratch has at least w × h bytes; what they are afterwards is free.
+pub fn replay(
+    w: usize,
+    h: usize,
+    k: usize,
+    palette: &mut [u8],
+    lab: &mut [f64],
+    indices: &mut [i16],
+    limited: bool,
+    permitted: &[u8],
+    edit: Edit,
+    list: &[u64],
+    scratch: &mut [u8],
+) -> Replayed
+    ensures { λ r. ⌜ replayed (r .answer) (sheetOf w h (r .k) (now (palette .exit)) (now (lab .exit)) (now (indices .exit))) ≡ replayOf (length (now (scratch .entry))) (sheetOf w h k (now (palette .entry)) (now (lab .entry)) (now (indices .entry))) (permittedOf limited (now (permitted .entry))) edit (map unpacked (now (list .entry))) ⌝ }
+{
+    let no = replay_no(
+        w,
+        h,
+        k,
+        palette,
+        lab,
+        indices,
+        limited,
+        permitted,
+        edit,
+        list,
+        scratch,
+    );
+    if no != 0 {
+        return Replayed {
+            answer: Answer::Refused(no),
+            k,
+        };
+    }
+    let after = redo_edit(w, k, palette, lab, indices, edit, list);
+    Replayed {
+        answer: Answer::Done,
+        k: after,
+    }
+}
