@@ -6,7 +6,6 @@ use Prim.Native.Nat.{ℕ}
 use native.Mathlib.Omega.{arith}
 use lib.Ieee.{Float, nan, inf, fin, binary64, isNan, ofBits, nanBits}
 use lib.Ieee.Bits.{nanBits-is}
-use Rattle.records.specs.declared.Real.{Real}
 use Rattle.records.specs.declared.Real.the-variants.{Number, NotANumber}
 use Rattle.records.specs.Bytes.{leAt}
 use Rattle.records.specs.Record.{doubleIn}

@@ -1,9 +1,8 @@
 -- What a search of the journal tells of the record that is shown: its edit, where it lies, and how many changes it holds. Assumes nothing.
 use mathlib.Core.Path.{_≡_, refl, sym, ap, _∙_}
-use mathlib.Core.Bool.{Bool, true, false, not, cond}
 use mathlib.Core.List.{List, [], _∷_}
 use mathlib.Core.Option.{none, some, Option·some-injective}
-use Prim.Native.Nat.{ℕ, zero, suc, _+_, _-_, _*_, _≤_, _<_}
+use Prim.Native.Nat.{ℕ, zero, suc, _+_, _-_, _*_, _≤_}
 use native.Mathlib.Omega.{arith}
 use borrow.Author.Tests.{not-false}
 use lib.ListN.{length, take, drop}
@@ -13,9 +12,8 @@ use Rattle.edits.specs.declared.Edit.{Edit}
 use Rattle.edits.specs.declared.Edit.the-variants.{Pixels, PaletteSet, PaletteAdd, PaletteRemove}
 use Rattle.edits.specs.Change.{Change}
 use Rattle.records.specs.declared.Found.the-variants.{Record, Unsound}
-use Rattle.records.specs.Record.{recordLength, Reading, byKind, readForth, readBack}
+use Rattle.records.specs.Record.{recordLength, changesIn, Reading, byKind, readForth, readBack}
 use Rattle.records.specs.Found.{foundAt, foundBefore}
-use Rattle.records.proofs.Finding.{length-in}
 use Rattle.records.proofs.Holds.{Tells, tells-at, tells-before}
 use Rattle.recorded.specs.Lies.{editAt, changesAt, Lies}
 use Rattle.recorded.proofs.Searched.{Searched, searched-forth, searched-back}
@@ -41,16 +39,17 @@ unfolding foundBefore
 unread-before offset none e = refl
 unread-before offset (some r) e = absurd (let z : _≡_ {A = ℕ} 0 1 = cc in omega arith)
 
--- ---- a record of n bytes that a search found
+-- ---- a record of n bytes that a search found: its changes stand before the last four
+abbrev pub listAt : ℕ → ℕ → ℕ → ℕ
+listAt start n count = start + n - 4 - 8 * count
+
 pub record Seen (journal : List ℕ) (r : Reading) (kind start n count : ℕ) : Type 0 where
-  pub reads : r ≡ some (n, editAt journal kind start, changesAt journal kind start count)
-  pub counts : length (changesAt journal kind start count) ≡ count
+  pub reads : r ≡ some (n, editAt journal kind start, changesIn journal (listAt start n count) count)
   pub lies : Lies journal kind start count
   pub inside : start + n ≤ length journal
   pub room : 4 + 8 * count ≤ n
 
-module _ (journal : List ℕ) (start count : ℕ) where
-  -- its changes stand before the last four bytes
+module _ (journal : List ℕ) (start n count : ℕ) where
   list-room : (kind : ℕ) → 1 ≤ kind → kind ≤ 4 → length (changesAt journal kind start count) ≡ count → 4 + 8 * count ≤ recordLength (editAt journal kind start) count
   unfolding changesAt editAt byKind recordLength
   list-room zero l m e = absurd (omega arith)
@@ -60,14 +59,28 @@ module _ (journal : List ℕ) (start count : ℕ) where
   list-room (suc (suc (suc (suc zero)))) l m e = omega arith
   list-room (suc (suc (suc (suc (suc kind))))) l m e = absurd (omega arith)
 
-  seen : (r : Reading) (kind n : ℕ) → Tells r kind n count → Searched journal r kind start n count → Seen journal r kind start n count
-  seen r kind n t s =
+  -- no changes are read anywhere
+  none-there : (at : ℕ) → 0 ≡ count → [] ≡ changesIn journal at count
+  unfolding changesIn
+  none-there at e = rw (← e)
+
+  list-there : (kind : ℕ) → 1 ≤ kind → kind ≤ 4 → length (changesAt journal kind start count) ≡ count → n ≡ recordLength (editAt journal kind start) count
+      → changesAt journal kind start count ≡ changesIn journal (listAt start n count) count
+  unfolding changesAt editAt byKind recordLength
+  list-there zero l m e q = absurd (omega arith)
+  list-there (suc zero) l m e q = let there : start + 6 ≡ listAt start n count = omega arith in ap (λ (at : ℕ). changesIn journal at count) there
+  list-there (suc (suc zero)) l m e q = none-there (listAt start n count) e
+  list-there (suc (suc (suc zero))) l m e q = none-there (listAt start n count) e
+  list-there (suc (suc (suc (suc zero)))) l m e q = let there : start + 33 ≡ listAt start n count = omega arith in ap (λ (at : ℕ). changesIn journal at count) there
+  list-there (suc (suc (suc (suc (suc kind))))) l m e q = absurd (omega arith)
+
+  seen : (r : Reading) (kind : ℕ) → Tells r kind n count → Searched journal r kind start n count → Seen journal r kind start n count
+  seen r kind t s =
       let same = Option·some-injective _ _ (sym (t .reading) ∙ s .reads) in
       let cs : t .changes ≡ changesAt journal kind start count = ap (λ (x : ℕ × Edit × List Change). x .2) same in
       let counts : length (changesAt journal kind start count) ≡ count = ap length (sym cs) ∙ t .count-is in
       record {
-        reads = s .reads;
-        counts = counts;
+        reads = s .reads ∙ ap (λ (l : List Change). some (n, editAt journal kind start, l)) (list-there kind (s .lies .least) (s .lies .most) counts (s .length-is));
         lies = s .lies;
         inside = omega (arith, s .lies .inside, s .length-is);
         room = omega (arith, s .length-is, list-room kind (s .lies .least) (s .lies .most) counts);
@@ -98,7 +111,7 @@ seen-back journal offset kind start n count h q =
     record {
       fits = s .fits;
       starts = s .starts;
-      found = seen journal start count (readBack (take offset journal)) kind n (tells-before kind start n count offset (readBack (take offset journal)) q .1) (s .found);
+      found = seen journal start n count (readBack (take offset journal)) kind (tells-before kind start n count offset (readBack (take offset journal)) q .1) (s .found);
     }
 
 -- ---- the record that starts at one, and ends before another
@@ -115,5 +128,5 @@ seen-forth journal offset end kind start n count h k q =
     record {
       starts = s .starts;
       ends = s .ends;
-      found = seen journal start count (readForth bytes) kind n (tells-at kind start n count offset (readForth bytes) q .1) (s .found);
+      found = seen journal start n count (readForth bytes) kind (tells-at kind start n count offset (readForth bytes) q .1) (s .found);
     }

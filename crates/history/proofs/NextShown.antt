@@ -1,31 +1,32 @@
 -- What `next_undo`, `next_redo` and `applied` answer at each of their tests. Assumes nothing.
-use mathlib.Core.Path.{_≡_, sym, ap, _∙_}
-use mathlib.Core.Bool.{Bool, true, false, not, cond}
-use mathlib.Core.List.{List, [], _∷_}
-use mathlib.Core.Option.{none, some}
-use Prim.Native.Nat.{ℕ, _+_, _-_, _*_, _≤_, _<_}
+use mathlib.Core.Path.{_≡_, ap, _∙_}
+use mathlib.Core.Bool.{Bool, true, false}
+use mathlib.Core.List.{List}
+use mathlib.Core.Option.{none}
+use Prim.Native.Nat.{ℕ, _+_, _-_, _≤_, _<_}
 use borrow.Author.Tests.{eq-eqb, ne-eqb, le-leb, lt-leb}
 use lib.Dec.{leb}
 use lib.ListN.{length, take, drop}
 use Rattle.limits.specs.Checks.{firstOf, refusedOr}
-use Rattle.limits.proofs.First.{refused-first, result-first}
-use Rattle.records.specs.Record.{Reading, readForth, readBack}
-use Rattle.recorded.specs.Lies.{editAt, changesAt}
+use Rattle.limits.proofs.First.{refused-first}
+use Rattle.records.specs.Record.{changesIn, Reading, readForth, readBack}
+use Rattle.records.proofs.Finding.{length-in}
+use Rattle.recorded.specs.Lies.{editAt}
 use Rattle.ledger.specs.declared.Handle.{Handle}
 use Rattle.ledger.specs.Handle.{sound, steppedBack, steppedForth}
 use Rattle.history.specs.declared.Next.{Next}
 use Rattle.history.specs.declared.Next.the-variants as next
 use Rattle.history.specs.Looks.{handleChecks, shown, stepShown, nextUndoOf, nextRedoOf, readShown, appliedOf}
-use Rattle.history.proofs.NextFound.{Seen, SeenBack, SeenForth}
+use Rattle.history.proofs.NextFound.{listAt, Seen, SeenBack, SeenForth}
 
 -- ---- a record that was found, shown
 abbrev pub recordAt : List ℕ → ℕ → ℕ → ℕ → ℕ → Next
-recordAt journal kind start n count = next.Record (editAt journal kind start) start n (start + n - 4 - 8 * count) count
+recordAt journal kind start n count = next.Record (editAt journal kind start) start n (listAt start n count) count
 
 module _ {journal : List ℕ} {r : Reading} {kind start n count : ℕ} (f : Seen journal r kind start n count) where
-  shown-is : recordAt journal kind start n count ≡ shown start (n, editAt journal kind start, changesAt journal kind start count)
+  shown-is : recordAt journal kind start n count ≡ shown start (n, editAt journal kind start, changesIn journal (listAt start n count) count)
   unfolding shown
-  shown-is = rw (f .counts)
+  shown-is = rw (length-in journal (listAt start n count) count)
 
   read-shown : recordAt journal kind start n count ≡ readShown start r
   unfolding readShown

@@ -11,7 +11,7 @@ use lib.Ieee.{Float}
 use lib.ListN.{length}
 use Rattle.limits.specs.Limits.{maxChanges}
 use Rattle.limits.specs.Numbers.{listTooLong, noSpace}
-use Rattle.limits.specs.Checks.{Check, _when_, firstOf}
+use Rattle.limits.specs.Checks.{_when_, firstOf}
 use Rattle.limits.proofs.First.{first-past, first-here, past, past-both}
 use Rattle.sheet.specs.Sheet.{Sheet, sheetOf}
 use Rattle.sheet.specs.Checks.{permittedChecks, sheetChecks, WellFormed, Judged}

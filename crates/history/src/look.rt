@@ -1,6 +1,6 @@
 // The records of a history, looked at: the one that undo would revert, the one that redo would apply, and
 // the applied ones, oldest first. What is read is the edit and where its changes lie; the changes stay in
-// the journal.
+// the journal. proofs/NextTold says that they are the ones that undo and redo read.
 use crate::Next;
 use crate::mark::handle_no;
 use edits::Edit;

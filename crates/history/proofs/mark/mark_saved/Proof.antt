@@ -2,8 +2,7 @@
 use mathlib.Core.Path.{sym, _∙_}
 use Rattle.limits.proofs.First.{refused-first, result-first}
 use Rattle.ledger.specs.Journal.{markOf}
-use Rattle.ledger.specs.Calls.{refused, done}
-use Rattle.history.specs.Looks.{handleChecks}
+use Rattle.ledger.specs.Calls.{refused}
 use borrow.Author.Needs.{needs}
 use Rattle.history.proofs.mark.mark_saved.Statement.{statement}
 use Rattle.history.proofs.mark.mark_saved.Tie as tie
