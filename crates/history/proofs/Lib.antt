@@ -7,7 +7,6 @@ pub mod Accepting
 pub mod Steps
 pub mod Forth
 pub mod Back
-pub mod NextDouble
 pub mod NextFound
 pub mod NextShown
 pub mod ReplayChecks

@@ -6,58 +6,18 @@ use crate::mark::handle_no;
 use edits::Edit;
 use ledger::Handle;
 use limits::JOURNAL_DAMAGED;
-use limits::Lab;
+use recorded::entry_at;
 use recorded::get_rgb;
+use recorded::lab_in;
 use records::Found;
-use records::Real;
 use records::find_back;
 use records::find_forth;
-use records::get_f64;
 ghost use mathlib.Core.Path.{_≡_};
 ghost use Prim.Native.Nat.{_+_, _-_, _*_, _≤_};
-ghost use lib.Ieee.{nan};
-ghost use lib.ListN.{length, getD};
-ghost use Rattle.records.specs.Record.{doubleIn, labIn};
+ghost use lib.ListN.{length};
 ghost use Rattle.recorded.specs.Lies.{editAt, Lies};
 ghost use Rattle.history.specs.declared.Next.the-variants as next;
 ghost use Rattle.history.specs.Looks.{nextUndoOf, nextRedoOf, appliedOf};
-
-// The double that is no number.
-fn not_a_number() -> f64
-    ensures { λ r. ⌜ r ≡ nan ⌝ }
-{
-    0.0 / 0.0
-}
-
-// The double in the 8 bytes from `at` on, whatever its bits are.
-fn double_at(journal: &[u8], at: usize) -> f64
-    requires { ⌜ at + 8 ≤ length (now journal) ⌝ }
-    ensures { λ r. ⌜ r ≡ doubleIn (now (journal .entry)) at ⌝ }
-{
-    match get_f64(journal, at) {
-        Real::Number(x) => x,
-        Real::NotANumber => not_a_number(),
-    }
-}
-
-// The LAB triple in the 24 bytes from `at` on.
-fn lab_at(journal: &[u8], at: usize) -> Lab
-    requires { ⌜ at + 24 ≤ length (now journal) ⌝ }
-    ensures { λ r. ⌜ r ≡ labIn (now (journal .entry)) at ⌝ }
-{
-    let l = double_at(journal, at);
-    let a = double_at(journal, at + 8);
-    let b = double_at(journal, at + 16);
-    Lab { l, a, b }
-}
-
-// The entry that a set or a removal names.
-fn entry_at(journal: &[u8], start: usize) -> usize
-    requires { ⌜ start + 2 ≤ length (now journal) ⌝ }
-    ensures { λ r. ⌜ r ≡ getD (now (journal .entry)) (start + 1) 0 ⌝ }
-{
-    journal[start + 1] as usize
-}
 
 // The edit of a record that lies in the journal.
 fn edit_at(journal: &[u8], kind: u8, start: usize) -> Edit
@@ -73,7 +33,7 @@ fn edit_at(journal: &[u8], kind: u8, start: usize) -> Edit
         let index = entry_at(journal, start);
         let old = get_rgb(journal, start + 2);
         let new = get_rgb(journal, start + 5);
-        let old_lab = lab_at(journal, start + 8);
+        let old_lab = lab_in(journal, start + 8);
         return Edit::PaletteSet {
             index,
             old,
@@ -88,7 +48,7 @@ fn edit_at(journal: &[u8], kind: u8, start: usize) -> Edit
     }
     let index = entry_at(journal, start);
     let rgb = get_rgb(journal, start + 2);
-    let lab = lab_at(journal, start + 5);
+    let lab = lab_in(journal, start + 5);
     Edit::PaletteRemove { index, rgb, lab }
 }
 

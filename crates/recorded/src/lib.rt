@@ -9,6 +9,7 @@ mod undo;
 
 pub use lab::lab_in;
 pub use redo::can_redo;
+pub use redo::entry_at;
 pub use redo::redo_record;
 pub use rgb::get_rgb;
 pub use undo::can_undo;

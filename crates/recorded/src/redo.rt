@@ -40,7 +40,7 @@ fn index_of(b: u8) -> usize
 }
 
 // The entry that a set or a removal names.
-pub(crate) fn entry_at(journal: &[u8], start: usize) -> usize
+pub fn entry_at(journal: &[u8], start: usize) -> usize
     requires { ⌜ start + 2 ≤ length (now journal) ⌝ }
     ensures { λ r. ⌜ (r ≡ getD (now (journal .entry)) (start + 1) 0) × (r ≤ 255) ⌝ }
 {

@@ -3,7 +3,7 @@ use mathlib.Core.Path.{_≡_}
 use native.Mathlib.Omega.{arith}
 use Rattle.records.specs.Record.{byKind}
 use Rattle.recorded.specs.Lies.{editAt}
-use Rattle.recorded.proofs.Redos.{pixels-room, set-room, add-room, remove-room, last-kind}
+use Rattle.recorded.proofs.Rooms.{pixels-room, set-room, add-room, remove-room, last-kind}
 use borrow.Author.Needs.{needs}
 use Rattle.history.proofs.look.edit_at.Statement.{statement}
 use Rattle.history.proofs.look.edit_at.Tie as tie
@@ -33,15 +33,15 @@ add-get-rgb-2 c = search needs
 get-rgb-requires-2 : tie.Need-get-rgb-requires-2
 get-rgb-requires-2 c κs = omega (arith, set-room (c .before .before .before .before .before .pre) (c .before .before .if2 .taken))
 
-add-lab-at : tie.Need-add-lab-at
-add-lab-at c = search needs
+add-lab-in : tie.Need-add-lab-in
+add-lab-in c = search needs
 
-lab-at-requires : tie.Need-lab-at-requires
-lab-at-requires c κs = omega (arith, set-room (c .before .before .before .before .before .before .pre) (c .before .before .before .if2 .taken))
+lab-in-requires : tie.Need-lab-in-requires
+lab-in-requires c κs = omega (arith, set-room (c .before .before .before .before .before .before .pre) (c .before .before .before .if2 .taken))
 
 returns-2 : tie.Need-returns-2
 unfolding editAt byKind
-returns-2 c = rw (c .before .before .before .before .if2 .taken, c .before .before .before .entry-at .ensures, c .before .before .get-rgb .ensures, c .before .get-rgb2 .ensures, c .lab-at .ensures)
+returns-2 c = rw (c .before .before .before .before .if2 .taken, c .before .before .before .entry-at .ensures .0, c .before .before .get-rgb .ensures, c .before .get-rgb2 .ensures, c .lab-in .ensures)
 
 add-get-rgb-3 : tie.Need-add-get-rgb-3
 add-get-rgb-3 c = search needs
@@ -66,15 +66,15 @@ add-get-rgb-4 c = search needs
 get-rgb-requires-4 : tie.Need-get-rgb-requires-4
 get-rgb-requires-4 c κs = omega (arith, remove-room (c .before .before .before .before .before .pre) (fourth (c .before)))
 
-add-lab-at-2 : tie.Need-add-lab-at-2
-add-lab-at-2 c = search needs
+add-lab-in-2 : tie.Need-add-lab-in-2
+add-lab-in-2 c = search needs
 
-lab-at-requires-2 : tie.Need-lab-at-requires-2
-lab-at-requires-2 c κs = omega (arith, remove-room (c .before .before .before .before .before .before .pre) (fourth (c .before .before)))
+lab-in-requires-2 : tie.Need-lab-in-requires-2
+lab-in-requires-2 c κs = omega (arith, remove-room (c .before .before .before .before .before .before .pre) (fourth (c .before .before)))
 
 returns-4 : tie.Need-returns-4
 unfolding editAt byKind
-returns-4 c = rw (fourth (c .before .before .before), c .before .before .entry-at2 .ensures, c .before .get-rgb4 .ensures, c .lab-at2 .ensures)
+returns-4 c = rw (fourth (c .before .before .before), c .before .before .entry-at2 .ensures .0, c .before .get-rgb4 .ensures, c .lab-in2 .ensures)
 
 pub edit-at-spec : {M : Type 1} → statement M
 edit-at-spec =
@@ -88,8 +88,8 @@ edit-at-spec =
     get-rgb-requires
     add-get-rgb-2
     get-rgb-requires-2
-    add-lab-at
-    lab-at-requires
+    add-lab-in
+    lab-in-requires
     returns-2
     add-get-rgb-3
     get-rgb-requires-3
@@ -97,6 +97,6 @@ edit-at-spec =
     entry-at-requires-2
     add-get-rgb-4
     get-rgb-requires-4
-    add-lab-at-2
-    lab-at-requires-2
+    add-lab-in-2
+    lab-in-requires-2
     returns-4)
