@@ -11,3 +11,4 @@ pub mod NextFound
 pub mod NextShown
 pub mod ReplayChecks
 pub mod NextTold
+pub mod Examples

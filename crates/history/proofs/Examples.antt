@@ -1,0 +1,42 @@
+-- Document 01's starred examples, all at once: antt computes them. Assumes nothing.
+use mathlib.Core.Path.{refl}
+use mathlib.Core.List.{flatMap}
+use lib.Ieee.{span, climb, odd, units, ofFields, ofBits, toBits, size}
+use Rattle.limits.specs.Checks.{firstOf, refusedOr}
+use Rattle.lists.specs.Lists as lists
+use Rattle.cielab.specs.Finite.{unfit}
+use Rattle.cielab.specs.Nearest.{labAt}
+use Rattle.ints.specs.Ints.{eqZ}
+use Rattle.sheet.specs.Sheet.{view, stray}
+use Rattle.sheet.specs.Checks.{limitChecks, permittedChecks, indexChecks, labChecks, sheetChecks}
+use Rattle.sheet.specs.Document.{rgbAt}
+use Rattle.edits.specs.Change.{unpacked, place, outside, painted, filledIn}
+use Rattle.edits.specs.Checks.{barred, pixelChecks, misdirected, remapChecks, named, leftFrom, ownChecks}
+use Rattle.edits.specs.Storage as storage
+use Rattle.edits.specs.Apply.{filledEdit, filledChanges, redone, reverted, canRevert}
+use Rattle.records.specs.Bytes.{le, unle, leAt}
+use Rattle.records.specs.Record as record-forms
+use Rattle.recorded.specs.Sound.{undoable}
+use Rattle.ledger.specs.Handle.{clauses, sound, savedPosition}
+use Rattle.ledger.specs.Calls.{play}
+use Rattle.ledger.specs.Journal.{written, pushed, pushOf, over, undoOf, markOf}
+use Rattle.history.specs.Editing.{noPixels, tooLong, undoneBy}
+use Rattle.history.specs.Examples.{Examples}
+
+pub examples : Examples
+unfolding flatMap span climb odd units ofFields ofBits toBits size pixelChecks firstOf refusedOr lists.some unfit labAt eqZ view stray limitChecks permittedChecks indexChecks labChecks sheetChecks rgbAt unpacked place outside painted filledIn barred misdirected remapChecks named leftFrom ownChecks storage.stored storage.closed storage.opened storage.lowered storage.raised filledEdit filledChanges redone reverted canRevert le unle leAt record-forms.changeBytes record-forms.labBytes record-forms.listBytes record-forms.bodyOf record-forms.recordLength record-forms.recordOf record-forms.rgbIn record-forms.doubleIn record-forms.labIn record-forms.changesIn record-forms.byKind record-forms.told record-forms.closed record-forms.agreed record-forms.readForth record-forms.ofLength record-forms.readBack undoable clauses sound savedPosition play written pushed pushOf over undoOf markOf noPixels tooLong undoneBy
+examples =
+    record {
+      removed-done = refl;
+      removed-indices = refl;
+      undone-done = refl;
+      undone-indices = refl;
+      last-entry = refl;
+      add-at-254 = refl;
+      add-at-255 = refl;
+      in-8 = refl;
+      bytes-8 = refl;
+      in-7 = refl;
+      all-done = refl;
+      no-mark = refl;
+    }

@@ -1,0 +1,89 @@
+-- Document 01's starred examples of edits and the journal, said of the definitions that the calls' contracts name. Proved together: proofs/Examples.antt.
+-- Definitions only. Assumes nothing.
+use mathlib.Core.Path.{_≡_}
+use mathlib.Core.Bool.{false}
+use mathlib.Core.List.{List, [], _∷_}
+use mathlib.Core.Option.{none}
+use Prim.Native.Nat.{ℕ}
+use lib.IntN.{ℤ, pos}
+use lib.Ieee.{Float, fin}
+use lib.ListN.{replicate}
+use Rattle.limits.specs.declared.Rgb.{Rgb}
+use Rattle.limits.specs.declared.Lab.{Lab}
+use Rattle.limits.specs.declared.Answer.the-variants.{Done, Refused}
+use Rattle.sheet.specs.Sheet.{Sheet, sheetOf}
+use Rattle.edits.specs.declared.Edit.{Edit}
+use Rattle.edits.specs.declared.Edit.the-variants.{Pixels, PaletteAdd, PaletteRemove}
+use Rattle.edits.specs.Change.{Change}
+use Rattle.edits.specs.Checks.{permittedOf}
+use Rattle.ledger.specs.Handle.{savedPosition}
+use Rattle.ledger.specs.Calls.{Call, Outcome, Played, play}
+use Rattle.ledger.specs.Calls.Call.{push, undo, mark}
+use Rattle.ledger.specs.Journal.{State, opened, pushOf, undoOf, step}
+use Rattle.history.specs.Editing.{Given, editing}
+
+-- a sheet of one row, its storage black; an empty journal of n bytes
+abbrev nought : Float
+nought = fin false 0 (pos 0)
+
+abbrev pub rowOf : ℕ → List ℤ → ℕ → Sheet
+rowOf w indices k = sheetOf w 1 k (replicate 765 0) (replicate 765 nought) indices
+
+abbrev pub openedIn : ℕ → Sheet → State editing
+openedIn n s = opened editing s (replicate n 0)
+
+-- an edit, any colour permitted
+abbrev pub anyOf : Edit → List Change → Given
+anyOf e cs = record { permitted = permittedOf false []; edit = e; changes = cs }
+
+abbrev black : Rgb
+black = record { r = 0; g = 0; b = 0 }
+
+abbrev pub removal : ℕ → List Change → Given
+removal i cs = anyOf (PaletteRemove i black (record { l = nought; a = nought; b = nought })) cs
+
+abbrev pub add : Rgb → Given
+add c = anyOf (PaletteAdd c) []
+
+-- "Indices 0,1,2, remove 1 into 2"
+abbrev pub zeroOneTwo : Sheet
+zeroOneTwo = rowOf 3 (pos 0 ∷ pos 1 ∷ pos 2 ∷ []) 3
+
+abbrev pub oneIntoTwo : Given
+oneIntoTwo = removal 1 (record { x = 1; y = 0; old = pos 1; new = pos 2 } ∷ [])
+
+abbrev pub removed : Outcome (State editing)
+removed = pushOf editing 3 (openedIn 45 zeroOneTwo) oneIntoTwo
+
+-- "Add 10 20 30 (hexadecimal)"
+abbrev pub blueGrey : Given
+blueGrey = add (record { r = 0x10; g = 0x20; b = 0x30 })
+
+abbrev pub addedIn : ℕ → Outcome (State editing)
+addedIn n = pushOf editing 0 (openedIn n (rowOf 0 [] 0)) blueGrey
+
+-- "Push, mark, undo, push"
+abbrev pub paint : ℕ → Given
+paint i = anyOf (Pixels 0) (record { x = 0; y = 0; old = pos 0; new = pos i } ∷ [])
+
+abbrev pub pushedAgain : Played (State editing)
+pushedAgain = play (step editing 3) (openedIn 18 zeroOneTwo) (push (paint 1) ∷ mark ∷ undo ∷ push (paint 2) ∷ [])
+
+pub record Examples : Type 0 where
+  -- "remove 1 into 2: 0,1,1; undone 0,1,2"
+  pub removed-done : removed .answer ≡ Done
+  pub removed-indices : removed .leaves .sheet .indices ≡ pos 0 ∷ pos 1 ∷ pos 1 ∷ []
+  pub undone-done : undoOf editing (removed .leaves) .answer ≡ Done
+  pub undone-indices : undoOf editing (removed .leaves) .leaves .sheet .indices ≡ pos 0 ∷ pos 1 ∷ pos 2 ∷ []
+  -- "k 1: removal gives 9"
+  pub last-entry : pushOf editing 0 (openedIn 64 (rowOf 0 [] 1)) (removal 0 []) .answer ≡ Refused 9
+  -- "k 254: add done; 255: 8"
+  pub add-at-254 : pushOf editing 0 (openedIn 64 (rowOf 0 [] 254)) blueGrey .answer ≡ Done
+  pub add-at-255 : pushOf editing 0 (openedIn 64 (rowOf 0 [] 255)) blueGrey .answer ≡ Refused 8
+  -- "in 8 bytes: 03 10 20 30 08 00 00 00; in 7: 14"
+  pub in-8 : addedIn 8 .answer ≡ Done
+  pub bytes-8 : addedIn 8 .leaves .journal ≡ 0x03 ∷ 0x10 ∷ 0x20 ∷ 0x30 ∷ 0x08 ∷ 0x00 ∷ 0x00 ∷ 0x00 ∷ []
+  pub in-7 : addedIn 7 .answer ≡ Refused 14
+  -- "Push, mark, undo, push: no saved mark"
+  pub all-done : pushedAgain .answers ≡ Done ∷ Done ∷ Done ∷ Done ∷ []
+  pub no-mark : savedPosition (pushedAgain .ends .handle) ≡ none
