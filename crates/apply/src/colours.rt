@@ -8,6 +8,19 @@ ghost use lib.ListN.{length};
 ghost use Rattle.sheet.specs.Document.{rgbAt};
 ghost use Rattle.edits.specs.Checks.{sameRgb, listed, permittedOf, barred};
 
+// Entry i of a list of colours, three bytes each.
+pub fn rgb_at(colours: &[u8], i: usize) -> Rgb
+    requires { ⌜ 3 * i + 3 ≤ length (now colours) ⌝ }
+    ensures { λ r. ⌜ r ≡ rgbAt (now (colours .entry)) i ⌝ }
+{
+    let at = 3 * i;
+    Rgb {
+        r: colours[at],
+        g: colours[at + 1],
+        b: colours[at + 2],
+    }
+}
+
 // Whether entry i is this colour.
 pub fn has_rgb(colours: &[u8], i: usize, c: Rgb) -> bool
     requires { ⌜ 3 * i + 3 ≤ length (now colours) ⌝ }
@@ -21,7 +34,7 @@ pub fn has_rgb(colours: &[u8], i: usize, c: Rgb) -> bool
 }
 
 // Whether a colour is among those of a list, three bytes each.
-fn is_listed(colours: &[u8], c: Rgb) -> bool
+pub fn is_listed(colours: &[u8], c: Rgb) -> bool
     ensures { λ r. ⌜ r ≡ listed (now (colours .entry)) c ⌝ }
 {
     let n = colours.len() / 3;

@@ -1,4 +1,5 @@
 // An edit that no check refuses: its record filled in, and the edit done.
+use crate::colours::rgb_at;
 use crate::indices::lower_above;
 use crate::paint::paint_news;
 use crate::storage::close_lab_gap;
@@ -18,25 +19,11 @@ ghost use lib.ListN.{length};
 ghost use Rattle.lists.specs.Lists.{some};
 ghost use Rattle.cielab.specs.Convert.{labOf};
 ghost use Rattle.sheet.specs.Sheet.{Sheet, sheetOf};
-ghost use Rattle.sheet.specs.Document.{rgbAt};
 ghost use Rattle.edits.specs.Change.{unpacked, painted, newOf};
 ghost use Rattle.edits.specs.Storage.{bytesOf, numbersOf, stored, closed, lowered};
 ghost use Rattle.edits.specs.Apply.{filledEdit, redone};
 ghost use Rattle.apply.specs.Inside.{past};
 ghost use Rattle.apply.specs.Redoable.{EntryIn, Redoable};
-
-// Entry i of the palette storage.
-fn rgb_at(palette: &[u8], i: usize) -> Rgb
-    requires { ⌜ 3 * i + 3 ≤ length (now palette) ⌝ }
-    ensures { λ r. ⌜ r ≡ rgbAt (now (palette .entry)) i ⌝ }
-{
-    let at = 3 * i;
-    Rgb {
-        r: palette[at],
-        g: palette[at + 1],
-        b: palette[at + 2],
-    }
-}
 
 // The edit with the colour and the LAB that its entry has now, as the journal keeps it.
 pub fn fill_edit(palette: &[u8], lab: &[f64], edit: Edit) -> Edit

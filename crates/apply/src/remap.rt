@@ -28,7 +28,7 @@ ghost use Rattle.edits.specs.Checks.{misdirected, remapChecks, leftFrom};
 ghost use Rattle.apply.specs.Inside.{bare, past, Marks};
 
 // Whether an index is the entry's.
-fn is_entry(z: i16, index: usize) -> bool
+pub fn is_entry(z: i16, index: usize) -> bool
     requires { ⌜ index ≤ 255 ⌝ }
     ensures { λ r. ⌜ r ≡ eqZ z (pos index) ⌝ }
 {

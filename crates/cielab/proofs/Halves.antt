@@ -16,7 +16,7 @@ use Rattle.cielab.proofs.Signs.{Plus, infinity, number, square-plus, ad
 use Rattle.cielab.proofs.Order.{not-lt→le, lt-le→lt, lt→le}
 
 -- ---- a distance is not negative, or a NaN, which nothing is nearer than
-data Reading : Float → Type 0 where
+pub data Reading : Float → Type 0 where
   plus : {x : Float} → Plus x → Reading x
   none : Reading nan
 
@@ -33,16 +33,16 @@ read-add none k = none
 read-add (plus infinity) none = none
 read-add (plus (number m e)) none = none
 
-read-dist2 : (p q : Lab) → Reading (dist2Of p q)
+pub read-dist2 : (p q : Lab) → Reading (dist2Of p q)
 unfolding dist2Of
 read-dist2 p q = read-add (read-add (read-square _) (read-square _)) (read-square _)
 
-lt-plus : {x : Float} (y : Float) → Reading x → lt x y ≡ true → Plus x
+pub lt-plus : {x : Float} (y : Float) → Reading x → lt x y ≡ true → Plus x
 unfolding lt
 lt-plus y (plus h) e = h
 lt-plus y none e = absurd (true≢false (sym e))
 
-not-beyond : {x : Float} → Plus x → lt (inf false) x ≡ false
+pub not-beyond : {x : Float} → Plus x → lt (inf false) x ≡ false
 unfolding lt
 not-beyond infinity = refl
 not-beyond (number m e) = refl
@@ -107,7 +107,7 @@ module _ (p : Lab) (lab : List Float) where
   from-plus s a zero h = h
   from-plus s a (suc n) h = closer-plus (a + n) (from s a n) (from-plus s a n h)
 
-  nearest-plus : (k : ℕ) → Plus (nearestOf p lab k .distance)
+  pub nearest-plus : (k : ℕ) → Plus (nearestOf p lab k .distance)
   unfolding nearestOf
   nearest-plus zero = infinity
   nearest-plus (suc k) = closer-plus k (nearestOf p lab k) (nearest-plus k)
@@ -139,5 +139,8 @@ module _ (p : Lab) (lab : List Float) where
   joined s a zero S = rw (not-beyond S)
   joined s a (suc n) S = rw (joined s a n S) (both-turn (a + n) s (from far a n) S (from-plus far a n infinity))
 
+  pub in-two : (a n : ℕ) → both (nearestOf p lab a) (from far a n) ≡ nearestOf p lab (a + n)
+  in-two a n = sym (joined (nearestOf p lab a) a n (nearest-plus a)) ∙ after a n
+
   pub halves : (h : ℕ) → both (nearestOf p lab h) (from far h h) ≡ nearestOf p lab (h + h)
-  halves h = sym (joined (nearestOf p lab h) h h (nearest-plus h)) ∙ after h h
+  halves h = in-two h h

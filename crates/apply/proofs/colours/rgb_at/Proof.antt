@@ -1,9 +1,9 @@
--- `rgb_at`: the three reads are the definition's. Assumes nothing.
+-- `rgb_at`: the code is the definition. Assumes nothing.
 use mathlib.Core.Path.{refl}
-use borrow.Author.Needs.{needs}
 use Rattle.sheet.specs.Document.{rgbAt}
-use Rattle.apply.proofs.redo.rgb_at.Statement.{statement}
-use Rattle.apply.proofs.redo.rgb_at.Tie as tie
+use borrow.Author.Needs.{needs}
+use Rattle.apply.proofs.colours.rgb_at.Statement.{statement}
+use Rattle.apply.proofs.colours.rgb_at.Tie as tie
 
 mul-at : tie.Need-mul-at
 mul-at c = search needs

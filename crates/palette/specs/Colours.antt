@@ -1,0 +1,78 @@
+-- The calls of palette.rs on colours: `check_color`, `fixed_choices`, `set_color`, `add_color`. Definitions only. Assumes nothing.
+use mathlib.Core.Path.{_≡_}
+use Prim.Native.Nat.{ℕ, _*_, _/_}
+use mathlib.Core.Bool.{_&&_, cond}
+use mathlib.Core.List.{List, [], _∷_, _++_, map}
+use lib.Dec.{ltb, leb}
+use lib.ListN.{length, take}
+use Rattle.limits.specs.Limits.{maxEntries}
+use Rattle.limits.specs.Numbers.{noSuchEntry, paletteFull, colourNotPermitted, noSpace}
+use Rattle.limits.specs.Checks.{Check, _when_, firstOf, checked}
+use Rattle.limits.specs.declared.Rgb.{Rgb}
+use Rattle.limits.specs.declared.Lab.{Lab}
+use Rattle.limits.specs.declared.Answer.{Answer}
+use Rattle.limits.specs.declared.Answer.the-variants as answer
+use Rattle.lists.specs.Lists.{range, over}
+use Rattle.cielab.specs.Arithmetic.{decimal}
+use Rattle.sheet.specs.Sheet.{Sheet}
+use Rattle.sheet.specs.Checks.{permittedChecks, sheetChecks, WellFormed}
+use Rattle.sheet.specs.Document.{rgbAt, mark}
+use Rattle.edits.specs.declared.Edit.the-variants.{PaletteSet, PaletteAdd}
+use Rattle.edits.specs.Checks.{Permitted, listed, barred}
+use Rattle.palette.specs.declared.Choices.{Choices}
+use Rattle.palette.specs.declared.Choices.the-variants as choices
+use Rattle.palette.specs.declared.Made.{Made}
+use Rattle.palette.specs.declared.Made.the-variants as made
+
+-- 1 of the permitted colours, which stands before 2 and 3 as the sheet's own 1 does; then 1, 2, 3 of the sheet
+unfoldable pub paletteChecks : Sheet → Permitted → List Check
+paletteChecks s p = permittedChecks (p .limited) (p .colours) ++ sheetChecks [] s
+
+-- the number of the first of these that applies, and what 0 means
+pub record Opened (s : Sheet) (p : Permitted) (n : ℕ) : Type 0 where
+  pub value : n ≡ firstOf (paletteChecks s p)
+  pub fine : n ≡ 0 → WellFormed s
+
+-- ---- `check_color`: "A named palette accepts only its own colors"
+unfoldable pub checkColorOf : Permitted → Rgb → Answer
+checkColorOf p c = checked (permittedChecks (p .limited) (p .colours) ++ (colourNotPermitted when barred p c ∷ [])) answer.Refused answer.Done
+
+-- ---- `fixed_choices`: "The named palette's colors, each with whether an entry already has it; `None` for a free palette"
+-- how many colours a list has, three bytes each
+abbrev pub colourCount : List ℕ → ℕ
+colourCount colours = length colours / 3
+
+-- a mark for each of the first n permitted colours: whether one of the k entries has it
+unfoldable pub usedOf : List ℕ → List ℕ → ℕ → List ℕ
+usedOf entries colours n = map (λ i. mark (listed entries (rgbAt colours i))) (range 0 n)
+
+pub record Chosen : Type 0 where
+  pub answer : Choices
+  pub used : List ℕ
+
+abbrev pub chosen : Choices → List ℕ → Chosen
+chosen answer used = record { answer = answer; used = used }
+
+unfoldable pub fixedChoicesOf : Sheet → Permitted → List ℕ → Chosen
+fixedChoicesOf s p used =
+    let n = colourCount (p .colours) in
+    checked (paletteChecks s p ++ (noSpace when (p .limited && ltb (length used) n) ∷ []))
+    (λ number. chosen (choices.Refused number) used)
+    (cond (p .limited) (chosen (choices.Count n) (over (usedOf (take (3 * s .k) (s .palette)) (p .colours) n) used)) (chosen choices.Free used))
+
+-- ---- `set_color`: 7, 10; `add_color`: 8, 10
+-- `[0.0; 3]`: what is filled in from the sheet when the edit is pushed
+unfoldable pub noLab : Lab
+noLab = record { l = decimal 0 1; a = decimal 0 1; b = decimal 0 1 }
+
+unfoldable pub setColorOf : Sheet → Permitted → ℕ → Rgb → Made
+setColorOf s p i c =
+    checked (paletteChecks s p ++ (noSuchEntry when leb (s .k) i ∷ colourNotPermitted when barred p c ∷ []))
+    made.Refused
+    (made.Edit (PaletteSet i (rgbAt (s .palette) i) c noLab))
+
+unfoldable pub addColorOf : Sheet → Permitted → Rgb → Made
+addColorOf s p c =
+    checked (paletteChecks s p ++ (paletteFull when leb maxEntries (s .k) ∷ colourNotPermitted when barred p c ∷ []))
+    made.Refused
+    (made.Edit (PaletteAdd c))
