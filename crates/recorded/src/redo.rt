@@ -1,5 +1,4 @@
-// An edit that lies in the journal, checked and redone from its bytes. The kinds are the records': 1 pixels,
-// 2 set, 3 add, 4 remove.
+// An edit that lies in the journal, checked and redone from its bytes.
 use crate::list::paint_news_in;
 use crate::list::pixels_no_in;
 use crate::list::removal_no_in;
@@ -31,6 +30,13 @@ ghost use Rattle.apply.specs.Redoable.{Redoable};
 ghost use Rattle.records.specs.Record.{changesIn};
 ghost use Rattle.recorded.specs.Sound.{redoable};
 ghost use Rattle.recorded.specs.Lies.{editAt, changesAt, Lies};
+
+// The kinds of records but for the last, a removal's.
+pub(crate) const PIXELS: u8 = 1;
+
+pub(crate) const SET: u8 = 2;
+
+pub(crate) const ADD: u8 = 3;
 
 // A byte as an index.
 fn index_of(b: u8) -> usize
@@ -124,13 +130,13 @@ pub fn can_redo(
     requires { ⌜ (length (now indices) ≡ w * h) × (w * h ≤ length (now marks)) ⌝ }
     ensures { λ r. ⌜ ((palette : List ℕ) (lab : List Float) → r ≡ redoable (sheetOf w h k palette lab (now (indices .entry))) (editAt (now (journal .entry)) kind start) (changesAt (now (journal .entry)) kind start count)) ⌝ }
 {
-    if kind == 1 {
+    if kind == PIXELS {
         return can_redo_pixels(w, h, k, indices, journal, start + 6, count);
     }
-    if kind == 2 {
+    if kind == SET {
         return can_redo_set(k, entry_at(journal, start));
     }
-    if kind == 3 {
+    if kind == ADD {
         return can_redo_add(k);
     }
     let index = entry_at(journal, start);
@@ -177,16 +183,16 @@ pub fn redo_record(
     requires { ⌜ Redoable w k (now palette) (now lab) (now indices) (editAt (now journal) kind start) (changesAt (now journal) kind start count) ⌝ }
     ensures { λ r. ⌜ ((h : ℕ) → sheetOf w h r (now (palette .exit)) (now (lab .exit)) (now (indices .exit)) ≡ redone labOf (sheetOf w h k (now (palette .entry)) (now (lab .entry)) (now (indices .entry))) (editAt (now (journal .entry)) kind start) (changesAt (now (journal .entry)) kind start count)) ⌝ }
 {
-    if kind == 1 {
+    if kind == PIXELS {
         paint_news_in(indices, w, journal, start + 6, count);
         return k;
     }
-    if kind == 2 {
+    if kind == SET {
         let index = entry_at(journal, start);
         store_entry(palette, lab, index, get_rgb(journal, start + 5));
         return k;
     }
-    if kind == 3 {
+    if kind == ADD {
         store_entry(palette, lab, k, get_rgb(journal, start + 1));
         return k + 1;
     }

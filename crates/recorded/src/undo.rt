@@ -5,6 +5,9 @@ use crate::lab::unfit_lab_in;
 use crate::olds::any_outside_in;
 use crate::olds::olds_stray;
 use crate::olds::paint_olds_in;
+use crate::redo::ADD;
+use crate::redo::PIXELS;
+use crate::redo::SET;
 use crate::redo::entry_at;
 use crate::rgb::get_rgb;
 use apply::open_lab_gap;
@@ -32,13 +35,6 @@ ghost use Rattle.records.specs.Record.{rgbIn, labIn, changesIn};
 ghost use Rattle.recorded.specs.Sound.{undoable};
 ghost use Rattle.recorded.specs.Lies.{Lies, editAt, changesAt};
 ghost use Rattle.recorded.specs.UndoTests.{pixelsBack, setBack, removeBack};
-
-// The kinds of records but for the last, a removal's.
-const PIXELS: u8 = 1;
-
-const SET: u8 = 2;
-
-const ADD: u8 = 3;
 
 // Whether the olds of the changes from `at` on can be painted.
 fn can_undo_pixels(
