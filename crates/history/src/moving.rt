@@ -209,7 +209,7 @@ fn redo_found(
 }
 
 // Redoes the edit that the last undo took back. At the last "still"; 16 where the scratch has fewer places than the
-// sheet; 4 where the record is not sound.
+// sheet; 4 where the record is not sound. What the scratch holds after the call is free.
 pub fn redo(
     w: usize,
     h: usize,
@@ -222,6 +222,7 @@ pub fn redo(
     scratch: &mut [u8],
 ) -> Moved
     ensures { λ r. ⌜ leaves r w h (now (palette .exit)) (now (lab .exit)) (now (indices .exit)) (now (journal .entry)) ≡ redoOf editing (length (now (scratch .entry))) (stateOf (sheetOf w h k (now (palette .entry)) (now (lab .entry)) (now (indices .entry))) (now (journal .entry)) handle) ⌝ }
+    ensures { λ _. ⌜ length (now (scratch .exit)) ≡ length (now (scratch .entry)) ⌝ }
 {
     let no = move_no(w, h, k, palette, lab, indices, journal, handle);
     if no != 0 {

@@ -80,6 +80,7 @@ pub fn replay(
     scratch: &mut [u8],
 ) -> Replayed
     ensures { λ r. ⌜ replayed (r .answer) (sheetOf w h (r .k) (now (palette .exit)) (now (lab .exit)) (now (indices .exit))) ≡ replayOf (length (now (scratch .entry))) (sheetOf w h k (now (palette .entry)) (now (lab .entry)) (now (indices .entry))) (permittedOf limited (now (permitted .entry))) edit (map unpacked (now (list .entry))) ⌝ }
+    ensures { λ _. ⌜ length (now (scratch .exit)) ≡ length (now (scratch .entry)) ⌝ }
 {
     let no = replay_no(
         w,

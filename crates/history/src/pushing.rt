@@ -146,7 +146,8 @@ fn accept(
 }
 
 // Checks an edit, records it and does it. A removal repaints its list, lowers the indices above the entry and
-// closes the gap; the olds, and LAB, go from the sheet into the record. The list is only read.
+// closes the gap; the olds, and LAB, go from the sheet into the record. The list is only read. What the scratch
+// holds after the call is free.
 pub fn push(
     w: usize,
     h: usize,
@@ -163,6 +164,7 @@ pub fn push(
     scratch: &mut [u8],
 ) -> Moved
     ensures { λ r. ⌜ leaves r w h (now (palette .exit)) (now (lab .exit)) (now (indices .exit)) (now (journal .exit)) ≡ pushOf editing (length (now (scratch .entry))) (stateOf (sheetOf w h k (now (palette .entry)) (now (lab .entry)) (now (indices .entry))) (now (journal .entry)) handle) (givenOf limited (now (permitted .entry)) edit (now (list .entry))) ⌝ }
+    ensures { λ _. ⌜ length (now (scratch .exit)) ≡ length (now (scratch .entry)) ⌝ }
 {
     let no = entry_no(
         w,

@@ -22,7 +22,7 @@ same-length-3 : tie.Need-same-length-3
 same-length-3 c = search needs
 
 returns : tie.Need-returns
-returns c = leaves-refused _ _ _ _ _ _ _ _ _ _ (c .refused .ensures) ∙ redo-refused _ _ _ (c .before .before .move-no .ensures) (c .before .if1 .taken)
+returns c = (leaves-refused _ _ _ _ _ _ _ _ _ _ (c .refused .ensures) ∙ redo-refused _ _ _ (c .before .before .move-no .ensures) (c .before .if1 .taken), search needs)
 
 still-requires : tie.Need-still-requires
 still-requires c κs = search needs
@@ -37,7 +37,7 @@ same-length-6 : tie.Need-same-length-6
 same-length-6 c = search needs
 
 returns-2 : tie.Need-returns-2
-returns-2 c = leaves-still _ _ _ _ _ _ _ _ _ (c .still .ensures) ∙ redo-still _ _ (c .before .before .before .before .move-no .ensures) (c .before .before .before .if1 .left) _ (c .before .if2 .taken)
+returns-2 c = (leaves-still _ _ _ _ _ _ _ _ _ (c .still .ensures) ∙ redo-still _ _ (c .before .before .before .before .move-no .ensures) (c .before .before .before .if1 .left) _ (c .before .if2 .taken), search needs)
 
 refused-requires-2 : tie.Need-refused-requires-2
 refused-requires-2 c κs = search needs
@@ -52,7 +52,7 @@ same-length-9 : tie.Need-same-length-9
 same-length-9 c = search needs
 
 returns-3 : tie.Need-returns-3
-returns-3 c = leaves-refused _ _ _ _ _ _ _ _ _ _ (c .refused2 .ensures) ∙ redo-scratch _ _ (c .before .before .before .before .before .move-no .ensures) (c .before .before .before .before .if1 .left) _ (c .before .before .if2 .left) (c .before .if3 .taken)
+returns-3 c = (leaves-refused _ _ _ _ _ _ _ _ _ _ (c .refused2 .ensures) ∙ redo-scratch _ _ (c .before .before .before .before .before .move-no .ensures) (c .before .before .before .before .if1 .left) _ (c .before .before .if2 .left) (c .before .if3 .taken), search needs)
 
 find-forth-requires : tie.Need-find-forth-requires
 find-forth-requires c κs = used-inside _ (c .before .before .before .before .move-no .ensures .fine (c .before .before .before .if1 .left))
@@ -73,7 +73,7 @@ same-length-13 : tie.Need-same-length-13
 same-length-13 c = search needs
 
 returns-4 : tie.Need-returns-4
-returns-4 c = c .before .before .before .before .before .before .before .redo-found .ensures ∙ redo-over _ _ (c .before .before .before .before .before .before .before .before .before .before .before .before .before .before .before .before .before .move-no .ensures) (c .before .before .before .before .before .before .before .before .before .before .before .before .before .before .before .before .if1 .left) _ (c .before .before .before .before .before .before .before .before .before .before .before .before .before .before .if2 .left) (c .before .before .before .before .before .before .before .before .before .before .before .before .before .if3 .left)
+returns-4 c = (c .before .before .before .before .before .before .before .redo-found .ensures ∙ redo-over _ _ (c .before .before .before .before .before .before .before .before .before .before .before .before .before .before .before .before .before .move-no .ensures) (c .before .before .before .before .before .before .before .before .before .before .before .before .before .before .before .before .if1 .left) _ (c .before .before .before .before .before .before .before .before .before .before .before .before .before .before .if2 .left) (c .before .before .before .before .before .before .before .before .before .before .before .before .before .if3 .left), search needs)
 
 pub redo-spec : {M : Type 1} → statement M
 redo-spec =

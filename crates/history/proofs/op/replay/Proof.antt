@@ -32,7 +32,7 @@ same-length-4 c = search needs
 
 returns : tie.Need-returns
 unfolding replayOf
-returns c = refused-first _ (refused _) _ _ (c .before .before .before .replay-no .ensures) (c .if1 .taken)
+returns c = (refused-first _ (refused _) _ _ (c .before .before .before .replay-no .ensures) (c .if1 .taken), search needs)
 
 -- past the test no check applies
 passed : (c : tie.Else1) → let a = c .before .before .before .before .before .before .before .before .before .before .before .before .before .args in firstOf (replayChecks (length (a .scratch .now)) (sheetOf (a .w) (a .h) (a .k) (a .palette .now) (a .lab .now) (a .indices .now)) (permittedOf (a .limited) (a .permitted .now)) (a .edit) (map unpacked (a .list .now))) ≡ 0
@@ -55,7 +55,7 @@ same-length-8 c = search needs
 
 returns-2 : tie.Need-returns-2
 unfolding replayOf
-returns-2 c = ap (replayed Done) (c .before .before .before .before .before .redo-edit .ensures (c .before .before .before .before .before .before .before .before .before .before .before .before .before .before .before .before .before .before .before .before .before .before .args .h)) ∙ result-first _ (refused _) _ (passed (c .before .before .before .before .before .before .before .before .before))
+returns-2 c = (ap (replayed Done) (c .before .before .before .before .before .redo-edit .ensures (c .before .before .before .before .before .before .before .before .before .before .before .before .before .before .before .before .before .before .before .before .before .before .args .h)) ∙ result-first _ (refused _) _ (passed (c .before .before .before .before .before .before .before .before .before)), search needs)
 
 pub replay-spec : {M : Type 1} → statement M
 replay-spec =
