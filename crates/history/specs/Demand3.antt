@@ -2,7 +2,8 @@
 --
 -- `step editing` at a push, an undo, a redo and a mark is `pushOf editing`, `undoOf editing`, `redoOf editing` and `markOf`
 -- (ledger/specs/Journal.antt): the contracts of `push`, `undo`, `redo` and `mark_saved` say that answer, handle, sheet and journal are exactly theirs.
--- `enter editing` (ledger/specs/Ledger.antt) is document 01's ledger.
+-- `enter editing` (ledger/specs/Ledger.antt) is document 01's ledger. `TypedSheet` and `TypedCalls` say that numbers are in the range of the types that the code has
+-- for them; what a caller hands to the calls is so (`given-typed` in proofs/Demand3.antt).
 use mathlib.Core.Path.{_≡_}
 use mathlib.Core.Logic.{_↔_}
 use mathlib.Core.List.{List, []}
