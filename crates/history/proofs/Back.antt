@@ -2,7 +2,7 @@
 use mathlib.Core.Path.{_≡_, refl, sym, ap, subst, _∙_}
 use mathlib.Core.Bool.{Bool, true, false}
 use mathlib.Core.List.{List}
-use mathlib.Core.Option.{Option, none, some}
+use mathlib.Core.Option.{none, some}
 use Prim.Native.Nat.{ℕ, _+_, _-_, _≤_, _<_}
 use native.Mathlib.Omega.{arith}
 use borrow.Author.Tests.{le-leb}
@@ -22,13 +22,12 @@ use Rattle.recorded.specs.Sound.{undoable}
 use Rattle.recorded.proofs.Searched.{SearchedBack, searched-back}
 use Rattle.ledger.specs.declared.Handle.{Handle}
 use Rattle.ledger.specs.Handle.{sound, steppedBack}
-use Rattle.ledger.specs.Algebra as algebra
 use Rattle.ledger.specs.Calls.{Outcome, refused, done}
 use Rattle.ledger.specs.Journal.{State, over}
 use Rattle.ledger.proofs.Soundness.{sound-facts}
 use Rattle.history.specs.Editing.{taken, undoneBy, editing}
 use Rattle.history.specs.Calls.{stateOf, Standing}
-use Rattle.history.proofs.Steps.{over-unsound, over-done}
+use Rattle.history.proofs.Steps.{over-none, over-not, over-unsound, over-done}
 
 module _ (st : State editing) (kind start n count : ℕ) (stands : Standing st) where
   abbrev journal : List ℕ
@@ -60,8 +59,8 @@ module _ (st : State editing) (kind start n count : ℕ) (stands : Standing st) 
   nothing (some r) e = absurd (let z : _≡_ {A = ℕ} 0 1 = cc in omega arith)
 
   pub back-none : foundBefore (handle .offset) (readBack used) ≡ Unsound → refused st 4 ≡ stepped
-  unfolding over undoneBy
-  back-none e = rw (nothing (readBack used) e)
+  unfolding undoneBy
+  back-none e = over-none st inside steppedBack _ (rw (nothing (readBack used) e))
 
   module _ (found : foundBefore (handle .offset) (readBack used) ≡ Record kind start n count) where
     searched : SearchedBack journal (handle .offset) kind start n count
@@ -79,11 +78,8 @@ module _ (st : State editing) (kind start n count : ℕ) (stands : Standing st) 
     unfolding undoneBy
     read = rw (searched .found .reads)
 
-    as-read : (o : Option (algebra.Reading Sheet)) {r : Outcome (State editing)} → undoneBy (st .sheet) (readBack used) ≡ o → r ≡ over editing st o inside steppedBack → r ≡ stepped
-    as-read o e q = q ∙ ap (λ (p : Option (algebra.Reading Sheet)). over editing st p inside steppedBack) (sym e)
-
     pub back-unsound : (next : Handle) → next ≡ steppedBack n handle → sound (length journal) next ≡ false → refused st 4 ≡ stepped
-    back-unsound next q e = as-read _ read (over-unsound st inside steppedBack n _ (undoable (st .sheet) edit changes) (ap (sound (length journal)) (sym q) ∙ e))
+    back-unsound = over-unsound st inside steppedBack n (undoable (st .sheet) edit changes) _ _ read
 
     -- ---- the indices as the test leaves them, which are those that it met
     module _ (l : List ℤ) (same : l ≡ st .sheet .indices) where
@@ -100,15 +96,11 @@ module _ (st : State editing) (kind start n count : ℕ) (stands : Standing st) 
       kept-undoable ok = ap (λ (x : Sheet). undoable x edit changes) kept-is ∙ ok
 
       pub back-not : undoable (st .sheet) edit changes ≡ false → refused (stateOf kept journal handle) 4 ≡ stepped
-      unfolding over
-      back-not e = ap (λ (x : Sheet). refused (stateOf x journal handle) 4) kept-is ∙ as-read none (read ∙ rw e) (λ i. refused st 4)
+      back-not e =
+          ap (λ (x : Sheet). refused (stateOf x journal handle) 4) kept-is ∙ over-not st inside steppedBack n (undoable (st .sheet) edit changes) _ _ read e
 
       pub back-done : (next : Handle) → next ≡ steppedBack n handle → sound (length journal) next ≡ true → undoable (st .sheet) edit changes ≡ true
           → {t : Sheet} → t ≡ reverted kept edit changes → done (stateOf t journal next) ≡ stepped
-      back-done next q e ok {t} p =
-          let made : Sheet = reverted (st .sheet) edit changes in
-          let is : t ≡ made = p ∙ ap (λ (x : Sheet). reverted x edit changes) kept-is in
-          ap (λ (x : Sheet). done (stateOf x journal next)) is
-          ∙ ap (λ (x : Handle). done (stateOf made journal x)) q
-          ∙ as-read (taken true n made) (read ∙ rw ok)
-          (over-done st inside steppedBack n made (le-leb n (handle .offset) back-inside) (ap (sound (length journal)) (sym q) ∙ e))
+      back-done next q e ok p =
+          over-done st inside steppedBack n (undoable (st .sheet) edit changes) _ _ read next q e ok (le-leb n (handle .offset) back-inside)
+          (p ∙ ap (λ (x : Sheet). reverted x edit changes) kept-is)

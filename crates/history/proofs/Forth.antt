@@ -1,8 +1,8 @@
 -- `redo` over the record that was found at the standing offset. Assumes nothing.
-use mathlib.Core.Path.{_≡_, refl, sym, ap, _∙_}
+use mathlib.Core.Path.{_≡_, refl}
 use mathlib.Core.Bool.{Bool, true, false}
 use mathlib.Core.List.{List}
-use mathlib.Core.Option.{Option, none, some}
+use mathlib.Core.Option.{none, some}
 use Prim.Native.Nat.{ℕ, _+_, _-_, _≤_, _<_}
 use native.Mathlib.Omega.{arith}
 use borrow.Author.Tests.{le-leb}
@@ -21,13 +21,12 @@ use Rattle.recorded.specs.Sound.{redoable}
 use Rattle.recorded.proofs.Searched.{SearchedForth, searched-forth}
 use Rattle.ledger.specs.declared.Handle.{Handle}
 use Rattle.ledger.specs.Handle.{sound, steppedForth}
-use Rattle.ledger.specs.Algebra as algebra
 use Rattle.ledger.specs.Calls.{Outcome, refused, done}
 use Rattle.ledger.specs.Journal.{State, over}
 use Rattle.ledger.proofs.Soundness.{sound-facts}
 use Rattle.history.specs.Editing.{taken, redoneBy, editing}
 use Rattle.history.specs.Calls.{stateOf, Standing}
-use Rattle.history.proofs.Steps.{over-unsound, over-done}
+use Rattle.history.proofs.Steps.{over-none, over-not, over-unsound, over-done}
 
 module _ (st : State editing) (kind start n count : ℕ) (stands : Standing st) where
   abbrev journal : List ℕ
@@ -59,8 +58,8 @@ module _ (st : State editing) (kind start n count : ℕ) (stands : Standing st) 
   nothing (some r) e = absurd (let z : _≡_ {A = ℕ} 0 1 = cc in omega arith)
 
   pub forth-none : foundAt (handle .offset) (readForth used) ≡ Unsound → refused st 4 ≡ stepped
-  unfolding over redoneBy
-  forth-none e = rw (nothing (readForth used) e)
+  unfolding redoneBy
+  forth-none e = over-none st inside steppedForth _ (rw (nothing (readForth used) e))
 
   module _ (found : foundAt (handle .offset) (readForth used) ≡ Record kind start n count) where
     searched : SearchedForth journal (handle .offset) (handle .end) kind start n count
@@ -78,21 +77,13 @@ module _ (st : State editing) (kind start n count : ℕ) (stands : Standing st) 
     unfolding redoneBy
     read = rw (searched .found .reads)
 
-    as-read : (o : Option (algebra.Reading Sheet)) {r : Outcome (State editing)} → redoneBy labOf (st .sheet) (readForth used) ≡ o → r ≡ over editing st o inside steppedForth → r ≡ stepped
-    as-read o e q = q ∙ ap (λ (p : Option (algebra.Reading Sheet)). over editing st p inside steppedForth) (sym e)
-
     pub forth-unsound : (next : Handle) → next ≡ steppedForth n handle → sound (length journal) next ≡ false → refused st 4 ≡ stepped
-    forth-unsound next q e = as-read _ read (over-unsound st inside steppedForth n _ (redoable (st .sheet) edit changes) (ap (sound (length journal)) (sym q) ∙ e))
+    forth-unsound = over-unsound st inside steppedForth n (redoable (st .sheet) edit changes) _ _ read
 
     pub forth-not : redoable (st .sheet) edit changes ≡ false → refused st 4 ≡ stepped
-    unfolding over
-    forth-not e = as-read none (read ∙ rw e) (λ i. refused st 4)
+    forth-not = over-not st inside steppedForth n (redoable (st .sheet) edit changes) _ _ read
 
     pub forth-done : (next : Handle) → next ≡ steppedForth n handle → sound (length journal) next ≡ true → redoable (st .sheet) edit changes ≡ true
         → {t : Sheet} → t ≡ redone labOf (st .sheet) edit changes → done (stateOf t journal next) ≡ stepped
-    forth-done next q e ok {t} p =
-        let made : Sheet = redone labOf (st .sheet) edit changes in
-        ap (λ (x : Sheet). done (stateOf x journal next)) p
-        ∙ ap (λ (x : Handle). done (stateOf made journal x)) q
-        ∙ as-read (taken true n made) (read ∙ rw ok)
-        (over-done st inside steppedForth n made (le-leb (handle .offset + n) (handle .end) forth-inside) (ap (sound (length journal)) (sym q) ∙ e))
+    forth-done next q e ok p =
+        over-done st inside steppedForth n (redoable (st .sheet) edit changes) _ _ read next q e ok (le-leb (handle .offset + n) (handle .end) forth-inside) p

@@ -11,10 +11,11 @@ use lib.ListN.{length, take, drop}
 use Rattle.limits.specs.Checks.{firstOf, refusedOr}
 use Rattle.limits.proofs.First.{refused-first, result-first}
 use Rattle.sheet.specs.Sheet.{Sheet, view}
-use Rattle.records.specs.Record.{Reading, readForth, readBack}
+use Rattle.records.specs.Record.{readForth, readBack}
 use Rattle.cielab.specs.Convert.{labOf}
 use Rattle.ledger.specs.declared.Handle.{Handle}
 use Rattle.ledger.specs.Handle.{sound, steppedBack, steppedForth}
+use Rattle.ledger.specs.Algebra.{Reading}
 use Rattle.ledger.specs.Calls.{Outcome, refused, still, done}
 use Rattle.ledger.specs.Journal.{State, moveChecks, shortScratch, over, undoOf, redoOf}
 use Rattle.ledger.proofs.Soundness.{Sound, sound-facts}
@@ -23,24 +24,43 @@ use Rattle.history.specs.Calls.{stateOf, Standing, Moves}
 
 -- ---- the record is refused, or the step is made
 module _ (st : State editing) (inside : ℕ → Bool) (stepped : ℕ → Handle → Handle) where
-  pub over-none : refused st 4 ≡ over editing st none inside stepped
+  abbrev moved : Option (Reading Sheet) → Outcome (State editing)
+  moved reading = over editing st reading inside stepped
+
+  pub over-none : (reading : Option (Reading Sheet)) → reading ≡ none → refused st 4 ≡ moved reading
   unfolding over
-  over-none = refl
+  over-none reading e = rw e
 
-  module _ (n : ℕ) (t : Sheet) where
-    pub over-unsound : (ok : Bool) → sound (length (st .journal)) (stepped n (st .handle)) ≡ false → refused st 4 ≡ over editing st (taken ok n t) inside stepped
+  -- a record of n bytes that leads to t, where it is taken
+  module _ (n : ℕ) (ok : Bool) (t : Sheet) (reading : Option (Reading Sheet)) (read : reading ≡ taken ok n t) where
+    abbrev after : Handle
+    after = stepped n (st .handle)
+
+    pub over-not : ok ≡ false → refused st 4 ≡ moved reading
+    unfolding over
+    over-not e = rw (read, e)
+
+    pub over-unsound : (next : Handle) → next ≡ after → sound (length (st .journal)) next ≡ false → refused st 4 ≡ moved reading
     unfolding over firstOf refusedOr
-    over-unsound false e = refl
-    over-unsound true e = rw e (go (inside n))
+    over-unsound next q e = rw read (by-test ok (inside n))
       where
-        go : (b : Bool) → refused st 4 ≡ refusedOr (firstOf (record { number = 4; applies = not b } ∷ record { number = 4; applies = true } ∷ [])) (refused st) (done (stateOf t (st .journal) (stepped n (st .handle))))
-        go true = refl
-        go false = refl
+        no : sound (length (st .journal)) after ≡ false
+        no = ap (sound (length (st .journal))) (sym q) ∙ e
 
-    pub over-done : inside n ≡ true → sound (length (st .journal)) (stepped n (st .handle)) ≡ true
-        → done (stateOf t (st .journal) (stepped n (st .handle))) ≡ over editing st (taken true n t) inside stepped
+        by-inside : (b : Bool) → refused st 4 ≡ refusedOr (firstOf (record { number = 4; applies = not b } ∷ record { number = 4; applies = true } ∷ [])) (refused st) (done (stateOf t (st .journal) after))
+        by-inside true = refl
+        by-inside false = refl
+
+        by-test : (a b : Bool) → refused st 4 ≡ moved (taken a n t)
+        by-test false b = refl
+        by-test true b = rw no (by-inside (inside n))
+
+    pub over-done : (next : Handle) → next ≡ after → sound (length (st .journal)) next ≡ true → ok ≡ true → inside n ≡ true
+        → {u : Sheet} → u ≡ t → done (stateOf u (st .journal) next) ≡ moved reading
     unfolding over firstOf refusedOr
-    over-done i e = rw (i, e)
+    over-done next q e k i {u} p =
+        let yes : sound (length (st .journal)) after ≡ true = ap (sound (length (st .journal))) (sym q) ∙ e in
+        (λ a. done (stateOf (p a) (st .journal) (q a))) ∙ rw (read, k, i, yes)
 
 -- ---- undo and redo, up to the record
 module _ (st : State editing) where
