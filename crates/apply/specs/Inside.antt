@@ -1,11 +1,12 @@
 -- What the loops over changes ask of their callers, and what they say of the sheet and the scratch. Definitions only. Assumes nothing.
 use mathlib.Core.Path.{_≡_}
 use Prim.Native.Nat.{ℕ, _<_}
-use mathlib.Core.Bool.{Bool, not}
+use mathlib.Core.Bool.{Bool, not, _&&_}
 use mathlib.Core.List.{List, []}
 use lib.Dec.{leb, eqb}
-use lib.IntN.{ℤ}
+use lib.IntN.{ℤ, pos}
 use lib.ListN.{length, getD}
+use Rattle.ints.specs.Ints.{eqZ}
 use Rattle.sheet.specs.Sheet.{Sheet, sheetOf}
 use Rattle.edits.specs.Change.{Change, place}
 use Rattle.edits.specs.Checks.{named}
@@ -24,3 +25,7 @@ marked marks p = not (eqb (getD marks p 0) 0)
 
 pub record Marks (w : ℕ) (cs : List Change) (marks : List ℕ) : Type 0 where
   pub says : (p : ℕ) → p < length marks → marked marks p ≡ named w cs p
+
+-- whether the pixel at a place is on the entry and not marked
+abbrev pub leftAt : ℕ → List ℤ → List ℕ → ℕ → Bool
+leftAt i indices marks p = eqZ (getD indices p (pos 0)) (pos i) && eqb (getD marks p 0) 0

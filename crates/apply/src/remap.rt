@@ -20,12 +20,12 @@ ghost use lib.IntN.{pos, negsuc};
 ghost use lib.ListN.{length, replicate};
 ghost use Rattle.limits.specs.Numbers.{stillUsed};
 ghost use Rattle.limits.specs.Checks.{_when_, firstOf};
-ghost use Rattle.lists.specs.Lists.{some};
+ghost use Rattle.lists.specs.Lists.{some, range};
 ghost use Rattle.ints.specs.Ints.{eqZ};
 ghost use Rattle.sheet.specs.Sheet.{stray};
 ghost use Rattle.edits.specs.Change.{Change, unpacked, place};
 ghost use Rattle.edits.specs.Checks.{misdirected, remapChecks, leftFrom};
-ghost use Rattle.apply.specs.Inside.{bare, past, Marks};
+ghost use Rattle.apply.specs.Inside.{bare, past, Marks, leftAt};
 
 // Whether an index is the entry's.
 pub fn is_entry(z: i16, index: usize) -> bool
@@ -117,8 +117,23 @@ fn is_left(z: i16, mark: u8, index: usize) -> bool
     both(is_entry(z, index), mark == 0)
 }
 
+// Whether a pixel of a row is on the entry and not marked. No early exit, so that it is compiled to vector
+// code.
+fn row_left(row: &[i16], marks: &[u8], index: usize) -> bool
+    requires { ⌜ (index ≤ 255) × (length (now marks) ≡ length (now row)) ⌝ }
+    ensures { λ r. ⌜ r ≡ some (leftAt index (now (row .entry)) (now (marks .entry))) (range 0 (length (now (row .entry)))) ⌝ }
+{
+    let mut left = false;
+    let mut x: usize = 0;
+    while x < row.len() {
+        left = either(left, is_left(row[x], marks[x], index));
+        x += 1;
+    }
+    left
+}
+
 // Whether a pixel of the entry is not remapped, where the remap's places are marked: the scan ends at the
-// first one.
+// first one. The columns are looked through only in a row that has one.
 pub fn any_left(w: usize, h: usize, index: usize, indices: &[i16], marks: &[u8]) -> bool
     requires { ⌜ (index ≤ 255) × (length (now indices) ≡ w * h) × (length (now marks) ≡ w * h) ⌝ }
     ensures { λ r. ⌜ ((cs : List Change) → Marks w cs (now (marks .entry)) → r ≡ leftFrom w index cs 0 (now (indices .entry))) ⌝ }
@@ -126,14 +141,18 @@ pub fn any_left(w: usize, h: usize, index: usize, indices: &[i16], marks: &[u8])
     let mut left = false;
     let mut y: usize = 0;
     'rows: while y < h {
-        let mut x: usize = 0;
-        while x < w {
-            let p = y * w + x;
-            if is_left(indices[p], marks[p], index) {
-                left = true;
-                break 'rows;
+        let at = y * w;
+        let end = at + w;
+        if row_left(&indices[at..end], &marks[at..end], index) {
+            let mut x: usize = 0;
+            while x < w {
+                let p = at + x;
+                if is_left(indices[p], marks[p], index) {
+                    left = true;
+                    break 'rows;
+                }
+                x += 1;
             }
-            x += 1;
         }
         y += 1;
     }
