@@ -1,10 +1,10 @@
-//! Times the proved calls beside the Rust original and prints two tables; `bench/run` builds and runs it.
+//! Times the proved calls beside the Rust original and prints three tables; `bench/run` builds and runs it.
 //!
 //! Ours is crates/bench, as `rt staticlib` compiles it. `color_platform` and `color_exact` are one and the same
-//! color.rs of pixelforge, built over the two stand-ins for its `libm`. All get the same inputs, and the results
-//! are compared bit for bit: a difference from the exact build ends the run.
+//! color.rs of pixelforge, built over the two stand-ins for its `libm`; `pixelforge` has its editor. All get the same
+//! inputs, and the results are compared bit for bit: a difference from the exact build ends the run.
 
-mod document;
+mod moves;
 mod sheets;
 
 use std::hint::black_box;
@@ -18,7 +18,7 @@ const SEARCHES: usize = 20_000;
 /// Doubles of LAB storage: three for each of 255 entries.
 const STORAGE: usize = 765;
 
-/// A figure is the least of PASSES medians, each of ROUNDS rounds in which the three sides take turns.
+/// A figure is the least of PASSES medians, each of ROUNDS rounds in which the sides take turns.
 const PASSES: usize = 3;
 const ROUNDS: usize = 7;
 
@@ -80,14 +80,22 @@ struct Side<'a>(usize, &'a mut dyn FnMut());
 
 /// The nanoseconds that each side takes for one.
 fn timed<const SIDES: usize>(mut sides: [Side; SIDES]) -> [f64; SIDES] {
+    figures(|side| {
+        let Side(count, work) = &mut sides[side];
+        let start = Instant::now();
+        work();
+        start.elapsed().as_nanos() as f64 / *count as f64
+    })
+}
+
+/// A figure for each side, from what its rounds give.
+fn figures<const SIDES: usize>(mut round_of: impl FnMut(usize) -> f64) -> [f64; SIDES] {
     let mut least = [f64::INFINITY; SIDES];
     for _ in 0..PASSES {
         let mut rounds = [[0.0; ROUNDS]; SIDES];
         for round in 0..ROUNDS {
-            for (Side(count, work), times) in sides.iter_mut().zip(&mut rounds) {
-                let start = Instant::now();
-                work();
-                times[round] = start.elapsed().as_nanos() as f64 / *count as f64;
+            for (side, times) in rounds.iter_mut().enumerate() {
+                times[round] = round_of(side);
             }
         }
         for (times, least) in rounds.iter_mut().zip(&mut least) {
@@ -131,6 +139,8 @@ fn main() {
     println!("A search calls no libm: there the two builds of the Rust are the same code.");
     println!();
     sheets::print();
+    println!();
+    moves::print();
 }
 
 /// One of the 2^24 colours, each its own: every step here can be undone.

@@ -3,15 +3,18 @@
 //! Ours makes checks 1 to 3 in every call, and writes where its caller says; the Rust checks when a document is
 //! made, and answers in a new Vec. An index has two bytes in ours and eight in the Rust.
 
-use crate::document::{Document, IndexImage};
 use crate::{colour, differing, row, timed, Side, STORAGE};
+use pixelforge::config::Config;
+use pixelforge::editor::{Document, Origin};
+use pixelforge::pipeline::IndexImage;
+use pixelforge::pyjson::Json;
 use std::hint::black_box;
 
 /// A round makes so many calls that they go over so many pixels.
 const PIXELS: usize = 1 << 22;
 /// A round makes so many calls of `new`.
 const NEWS: usize = 100;
-const ENTRIES: usize = STORAGE / 3;
+pub const ENTRIES: usize = STORAGE / 3;
 
 extern "C" {
     fn bench_check(
@@ -69,18 +72,18 @@ extern "C" {
 }
 
 /// A square sheet as our calls are lent it.
-struct Sheet {
-    side: usize,
-    k: usize,
-    palette: Vec<u8>,
-    lab: Vec<f64>,
-    indices: Vec<i16>,
+pub struct Sheet {
+    pub side: usize,
+    pub k: usize,
+    pub palette: Vec<u8>,
+    pub lab: Vec<f64>,
+    pub indices: Vec<i16>,
 }
 
 // The calls are safe: each pointer goes with its own slice's length, no two slices overlap, and the functions
 // called are proved to stay inside.
 impl Sheet {
-    fn of(side: usize, k: usize, picture: Picture) -> Sheet {
+    pub fn of(side: usize, k: usize, picture: Picture) -> Sheet {
         let palette: Vec<u8> = (0..ENTRIES as u32).flat_map(colour).collect();
         Sheet {
             side,
@@ -165,9 +168,11 @@ impl Sheet {
 }
 
 /// The document of a sheet, with its k entries for a palette.
-fn document_of(sheet: &Sheet, base: &Sheet) -> Document {
+pub fn document_of(sheet: &Sheet, base: &Sheet) -> Document {
     let image = |s: &Sheet| IndexImage {
         indices: s.indices.iter().map(|&i| i.into()).collect(),
+        h: s.side,
+        w: s.side,
     };
     let entries = |s: &Sheet| {
         let colours = s.palette.chunks_exact(3).take(s.k);
@@ -175,14 +180,24 @@ fn document_of(sheet: &Sheet, base: &Sheet) -> Document {
     };
     Document {
         indices: image(sheet),
+        palette_lab: sheet.lab[..3 * sheet.k].to_vec(),
         palette: entries(sheet),
+        fixed: None,
+        origin: Origin::new(Config::default(), String::new(), Json::Null),
         baseline: image(base),
         baseline_palette: entries(base),
     }
 }
 
+/// The scan of document.rs's `with_lab`, written out: that one cannot be called from outside, and copies the indices.
+pub fn stray(document: &Document) -> Option<&i64> {
+    let k = document.palette.len() as i64;
+    let mut indices = document.indices.indices.iter();
+    indices.find(|&&i| i < -1 || i >= k)
+}
+
 /// The index of pixel p in a picture of this side with k entries.
-type Picture = fn(usize, usize, usize) -> i16;
+pub type Picture = fn(usize, usize, usize) -> i16;
 
 fn flat(_: usize, _: usize, k: usize) -> i16 {
     k as i16 / 2
@@ -194,7 +209,7 @@ fn rows(p: usize, side: usize, k: usize) -> i16 {
 }
 
 /// The indices from -1 on, each about as often.
-fn random(p: usize, _: usize, k: usize) -> i16 {
+pub fn random(p: usize, _: usize, k: usize) -> i16 {
     let [low, high, _] = colour(p as u32);
     (usize::from(u16::from_le_bytes([low, high])) % (k + 1)) as i16 - 1
 }
@@ -248,17 +263,17 @@ fn check_row(side: usize, k: usize) {
             black_box(sheet.check());
         },
         &mut || {
-            black_box(black_box(&document).stray());
+            black_box(stray(black_box(&document)));
         },
     );
-    assert_eq!((sheet.check(), document.stray()), (0, None), "{name}");
+    assert_eq!((sheet.check(), stray(&document)), (0, None), "{name}");
     // one stray pixel, at a place of each remainder by 16
     for p in (0..side * side).step_by(side - 1) {
-        let stray = if p % 2 == 0 { k as i16 } else { -2 };
-        let kept = std::mem::replace(&mut sheet.indices[p], stray);
-        document.indices.indices[p] = stray.into();
-        let answers = (sheet.check(), document.stray());
-        assert_eq!(answers, (2, Some(&stray.into())), "{name}, pixel {p}");
+        let outside = if p % 2 == 0 { k as i16 } else { -2 };
+        let kept = std::mem::replace(&mut sheet.indices[p], outside);
+        document.indices.indices[p] = outside.into();
+        let answers = (sheet.check(), stray(&document));
+        assert_eq!(answers, (2, Some(&outside.into())), "{name}, pixel {p}");
         sheet.indices[p] = kept;
         document.indices.indices[p] = kept.into();
     }

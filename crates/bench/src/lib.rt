@@ -1,6 +1,7 @@
 // What bench/driver.rs times, exported to C over slices: as many calls as there are inputs, and none
 // where the results have too few places. Of these loops it is proved that they stay inside and end; what
 // the calls answer stands in their own contracts.
+mod moves;
 mod sheets;
 
 use color::Found;

@@ -1,0 +1,464 @@
+//! Times push, undo and redo beside history.rs's, and prints their rows.
+//!
+//! Ours is lent a sheet, which it checks in every call, and a journal; the Rust checks when a document is made, and
+//! keeps its edits in a Vec. So the Rust has two figures: the call alone, and the call with `with_lab`'s scan before it.
+
+use crate::figures;
+use crate::sheets::{document_of, random, stray, Sheet, ENTRIES};
+use pixelforge::editor::{Document, History, Op, PixelChange};
+use std::hint::black_box;
+use std::time::Instant;
+
+extern "C" {
+    fn bench_push_pixels(
+        w: usize,
+        h: usize,
+        palette: *mut u8,
+        bytes: usize,
+        lab: *mut f64,
+        doubles: usize,
+        indices: *mut i16,
+        pixels: usize,
+        permitted: *const u8,
+        colours: usize,
+        list: *const u64,
+        changes: usize,
+        journal: *mut u8,
+        size: usize,
+        scratch: *mut u8,
+        places: usize,
+        state: *mut [usize; 6],
+    ) -> u8;
+    fn bench_push_remove(
+        w: usize,
+        h: usize,
+        palette: *mut u8,
+        bytes: usize,
+        lab: *mut f64,
+        doubles: usize,
+        indices: *mut i16,
+        pixels: usize,
+        permitted: *const u8,
+        colours: usize,
+        index: usize,
+        list: *const u64,
+        changes: usize,
+        journal: *mut u8,
+        size: usize,
+        scratch: *mut u8,
+        places: usize,
+        state: *mut [usize; 6],
+    ) -> u8;
+    fn bench_undo(
+        w: usize,
+        h: usize,
+        palette: *mut u8,
+        bytes: usize,
+        lab: *mut f64,
+        doubles: usize,
+        indices: *mut i16,
+        pixels: usize,
+        journal: *const u8,
+        size: usize,
+        state: *mut [usize; 6],
+    ) -> u8;
+    fn bench_redo(
+        w: usize,
+        h: usize,
+        palette: *mut u8,
+        bytes: usize,
+        lab: *mut f64,
+        doubles: usize,
+        indices: *mut i16,
+        pixels: usize,
+        journal: *const u8,
+        size: usize,
+        scratch: *mut u8,
+        places: usize,
+        state: *mut [usize; 6],
+    ) -> u8;
+}
+
+/// Pixels, or the removal of an entry with its remap.
+#[derive(Clone)]
+struct Edit {
+    removed: Option<usize>,
+    changes: Vec<PixelChange>,
+}
+
+impl Edit {
+    fn op(&self) -> Op {
+        let changes = self.changes.clone();
+        match self.removed {
+            None => Op::Pixels {
+                tool: String::new(),
+                changes,
+            },
+            Some(index) => Op::PaletteRemove {
+                index,
+                rgb: [0; 3],
+                lab: [0.0; 3],
+                remap: changes,
+            },
+        }
+    }
+
+    /// As ours is lent it: two bytes each for x, y, old and new.
+    fn list(&self) -> Vec<u64> {
+        let field = |z: i64| u64::from(z as u16);
+        let packed = |c: &PixelChange| {
+            c.x as u64 + ((c.y as u64) << 16) + (field(c.old) << 32) + (field(c.new) << 48)
+        };
+        self.changes.iter().map(packed).collect()
+    }
+}
+
+/// One side of a row: a history of some edits.
+trait Side {
+    /// Takes back what is done, and starts a history anew.
+    fn restart(&mut self);
+    fn push(&mut self);
+    fn undo(&mut self);
+    fn redo(&mut self);
+}
+
+/// The palette count, and the handle's five numbers.
+type State = [usize; 6];
+
+struct Ours {
+    sheet: Sheet,
+    edits: Vec<(Option<usize>, Vec<u64>)>,
+    journal: Vec<u8>,
+    scratch: Vec<u8>,
+    state: State,
+    refused: usize,
+}
+
+// The calls are safe: each pointer goes with its own slice's length, no two slices overlap, and the functions
+// called are proved to stay inside.
+impl Ours {
+    fn of(sheet: Sheet, edits: &[Edit]) -> Ours {
+        let size = edits.iter().map(|e| 37 + 8 * e.changes.len()).sum();
+        Ours {
+            state: [sheet.k, 0, 0, 0, 0, 0],
+            edits: edits.iter().map(|e| (e.removed, e.list())).collect(),
+            journal: vec![0; size],
+            scratch: vec![0; sheet.indices.len()],
+            sheet,
+            refused: 0,
+        }
+    }
+
+    fn back(&mut self) -> u8 {
+        let s = &mut self.sheet;
+        unsafe {
+            bench_undo(
+                s.side,
+                s.side,
+                s.palette.as_mut_ptr(),
+                s.palette.len(),
+                s.lab.as_mut_ptr(),
+                s.lab.len(),
+                s.indices.as_mut_ptr(),
+                s.indices.len(),
+                self.journal.as_ptr(),
+                self.journal.len(),
+                &mut self.state,
+            )
+        }
+    }
+
+    fn forth(&mut self) -> u8 {
+        let s = &mut self.sheet;
+        unsafe {
+            bench_redo(
+                s.side,
+                s.side,
+                s.palette.as_mut_ptr(),
+                s.palette.len(),
+                s.lab.as_mut_ptr(),
+                s.lab.len(),
+                s.indices.as_mut_ptr(),
+                s.indices.len(),
+                self.journal.as_ptr(),
+                self.journal.len(),
+                self.scratch.as_mut_ptr(),
+                self.scratch.len(),
+                &mut self.state,
+            )
+        }
+    }
+
+    fn pushed(&mut self, i: usize) -> u8 {
+        let s = &mut self.sheet;
+        let (removed, list) = &self.edits[i];
+        let permitted = [0; 0];
+        unsafe {
+            match *removed {
+                None => bench_push_pixels(
+                    s.side,
+                    s.side,
+                    s.palette.as_mut_ptr(),
+                    s.palette.len(),
+                    s.lab.as_mut_ptr(),
+                    s.lab.len(),
+                    s.indices.as_mut_ptr(),
+                    s.indices.len(),
+                    permitted.as_ptr(),
+                    permitted.len(),
+                    list.as_ptr(),
+                    list.len(),
+                    self.journal.as_mut_ptr(),
+                    self.journal.len(),
+                    self.scratch.as_mut_ptr(),
+                    self.scratch.len(),
+                    &mut self.state,
+                ),
+                Some(index) => bench_push_remove(
+                    s.side,
+                    s.side,
+                    s.palette.as_mut_ptr(),
+                    s.palette.len(),
+                    s.lab.as_mut_ptr(),
+                    s.lab.len(),
+                    s.indices.as_mut_ptr(),
+                    s.indices.len(),
+                    permitted.as_ptr(),
+                    permitted.len(),
+                    index,
+                    list.as_ptr(),
+                    list.len(),
+                    self.journal.as_mut_ptr(),
+                    self.journal.len(),
+                    self.scratch.as_mut_ptr(),
+                    self.scratch.len(),
+                    &mut self.state,
+                ),
+            }
+        }
+    }
+}
+
+impl Side for Ours {
+    fn restart(&mut self) {
+        while self.back() == 0 {}
+        self.state = [self.state[0], 0, 0, 0, 0, 0];
+    }
+
+    fn push(&mut self) {
+        for i in 0..self.edits.len() {
+            self.refused += usize::from(self.pushed(i) != 0);
+        }
+    }
+
+    fn undo(&mut self) {
+        for _ in 0..self.edits.len() {
+            self.refused += usize::from(self.back() != 0);
+        }
+    }
+
+    fn redo(&mut self) {
+        for _ in 0..self.edits.len() {
+            self.refused += usize::from(self.forth() != 0);
+        }
+    }
+}
+
+struct Theirs {
+    document: Document,
+    edits: Vec<Edit>,
+    /// The edits as `push` takes them: by value.
+    ops: Vec<Op>,
+    history: History,
+    scans: bool,
+    refused: usize,
+}
+
+impl Theirs {
+    fn of(sheet: &Sheet, edits: &[Edit], scans: bool) -> Theirs {
+        Theirs {
+            document: document_of(sheet, sheet),
+            edits: edits.to_vec(),
+            ops: Vec::new(),
+            history: History::new(),
+            scans,
+            refused: 0,
+        }
+    }
+
+    fn scan(&mut self) {
+        if self.scans {
+            self.refused += usize::from(stray(black_box(&self.document)).is_some());
+        }
+    }
+}
+
+impl Side for Theirs {
+    fn restart(&mut self) {
+        while self.history.undo(&mut self.document) {}
+        self.history = History::new();
+        self.ops = self.edits.iter().rev().map(Edit::op).collect();
+    }
+
+    fn push(&mut self) {
+        while let Some(op) = self.ops.pop() {
+            self.scan();
+            let done = self.history.push(&mut self.document, op);
+            self.refused += usize::from(done != Ok(true));
+        }
+    }
+
+    fn undo(&mut self) {
+        for _ in 0..self.edits.len() {
+            self.scan();
+            self.refused += usize::from(!self.history.undo(&mut self.document));
+        }
+    }
+
+    fn redo(&mut self) {
+        for _ in 0..self.edits.len() {
+            self.scan();
+            self.refused += usize::from(!self.history.redo(&mut self.document));
+        }
+    }
+}
+
+/// The steps of a round, in order.
+type Step = fn(&mut dyn Side);
+const STEPS: [(&str, Step); 3] = [
+    ("push", |side| side.push()),
+    ("undo", |side| side.undo()),
+    ("redo", |side| side.redo()),
+];
+
+pub fn print() {
+    println!("| what                                       | ours ns | Rust ns | ratio | with scan ns | ratio |");
+    println!("|--------------------------------------------|---------|---------|-------|--------------|-------|");
+    for k in [ENTRIES, 16] {
+        let edits: Vec<Edit> = (0..100).map(|turn| scattered(64, 64, k, turn)).collect();
+        rows(
+            &format!("64 changes, 64 × 64, k {k}"),
+            Sheet::of(64, k, random),
+            &edits,
+        );
+    }
+    let sheet = Sheet::of(256, ENTRIES, often);
+    let edits = [removal(&sheet, OFTEN as usize)];
+    rows("removal, 8,192 of 256 × 256", sheet, &edits);
+    let edits: Vec<Edit> = (0..4)
+        .map(|turn| scattered(1, 1024, ENTRIES, turn))
+        .collect();
+    rows(
+        "one change, 1024 × 1024",
+        Sheet::of(1024, ENTRIES, random),
+        &edits,
+    );
+    println!();
+    println!("Pictures, palettes and LAB are the Rust's after every step. Ours makes checks 1 to 4 in every call; the Rust");
+    println!("has made with_lab's when the document was made, and makes none at undo and redo.");
+}
+
+/// So many pixels of a square sheet set, each turn to another entry.
+fn scattered(count: usize, side: usize, k: usize, turn: usize) -> Edit {
+    let change = |i: usize| {
+        let p = i * 61 % (side * side);
+        PixelChange {
+            x: p % side,
+            y: p / side,
+            old: 0,
+            new: ((i + turn) % k) as i64,
+        }
+    };
+    Edit {
+        removed: None,
+        changes: (0..count).map(change).collect(),
+    }
+}
+
+/// The entry that is on every eighth pixel.
+const OFTEN: i16 = 100;
+
+fn often(p: usize, side: usize, k: usize) -> i16 {
+    match random(p, side, k) {
+        _ if (p + p / side) % 8 == 0 => OFTEN,
+        OFTEN => OFTEN + 1,
+        other => other,
+    }
+}
+
+/// The removal of an entry, its pixels moved to the next one.
+fn removal(sheet: &Sheet, index: usize) -> Edit {
+    let used = (0..sheet.indices.len()).filter(|&p| sheet.indices[p] as usize == index);
+    let change = |p: usize| PixelChange {
+        x: p % sheet.side,
+        y: p / sheet.side,
+        old: index as i64,
+        new: index as i64 + 1,
+    };
+    Edit {
+        removed: Some(index),
+        changes: used.map(change).collect(),
+    }
+}
+
+fn rows(name: &str, sheet: Sheet, edits: &[Edit]) {
+    let mut alone = Theirs::of(&sheet, edits, false);
+    let mut scanned = Theirs::of(&sheet, edits, true);
+    let mut ours = Ours::of(sheet, edits);
+    for (timed, (step_name, _)) in STEPS.iter().enumerate() {
+        let [ours, alone, scanned] = figures(|side| {
+            let side: &mut dyn Side = match side {
+                0 => &mut ours,
+                1 => &mut alone,
+                _ => &mut scanned,
+            };
+            round(side, timed, edits.len())
+        });
+        println!(
+            "| {:<42} | {ours:>7.0} | {alone:>7.0} | {:>5.2} | {scanned:>12.0} | {:>5.2} |",
+            format!("{step_name}: {name}"),
+            ours / alone,
+            ours / scanned
+        );
+    }
+    ours.restart();
+    alone.restart();
+    for (step_name, step) in STEPS {
+        step(&mut ours);
+        step(&mut alone);
+        assert!(
+            same(&ours, &alone),
+            "{step_name}: {name}: not the Rust's sheet"
+        );
+    }
+    assert_eq!(
+        (ours.refused, alone.refused, scanned.refused),
+        (0, 0, 0),
+        "{name}"
+    );
+}
+
+/// The nanoseconds that one of the steps takes for one call.
+fn round(side: &mut dyn Side, timed: usize, calls: usize) -> f64 {
+    side.restart();
+    let mut ns = 0.0;
+    for (i, (_, step)) in STEPS.iter().enumerate() {
+        let start = Instant::now();
+        step(side);
+        if i == timed {
+            ns = start.elapsed().as_nanos() as f64 / calls as f64;
+        }
+    }
+    ns
+}
+
+/// Whether both have the same sheet, LAB bit for bit.
+fn same(ours: &Ours, theirs: &Theirs) -> bool {
+    let (sheet, document) = (&ours.sheet, &theirs.document);
+    let n = 3 * ours.state[0];
+    let indices = sheet.indices.iter().map(|&i| i64::from(i));
+    let bits = |lab: &[f64]| lab.iter().map(|x| x.to_bits()).collect::<Vec<u64>>();
+    indices.eq(document.indices.indices.iter().copied())
+        && sheet.palette[..n] == document.palette.concat()
+        && bits(&sheet.lab[..n]) == bits(&document.palette_lab)
+}
