@@ -1,0 +1,4 @@
+pub mod Normal
+pub mod Order
+pub mod Keys
+pub mod Laws
