@@ -1,0 +1,5 @@
+pub mod Offsets
+pub mod Toward
+pub mod Walks
+pub mod Points
+mod Examples

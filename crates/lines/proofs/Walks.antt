@@ -1,0 +1,97 @@
+-- A walk's axis after one step more, and that its numbers fit on the way. Assumes nothing.
+use mathlib.Core.Path.{_≡_, ap}
+use Prim.Native.Nat.{ℕ, _+_, _*_, _-_, _%_, _≤_, _<_}
+use native.Mathlib.Nat.{mod-lt}
+use native.Mathlib.Omega.{arith}
+use lib.IntN.{ℤ, _+ℤ_}
+use mathlib.Core.Bool.{false}
+use Rattle.ints.specs.Ints.{far}
+use mir.Syntax.{w32}
+use mir.Val.{SFits}
+use Rattle.ints.proofs.Back.{near-abs}
+use Rattle.ints.proofs.Sums.{sum-fits}
+use Rattle.lines.specs.declared.Axis.{Axis}
+use Rattle.lines.specs.declared.Walk.{Walk}
+use Rattle.lines.specs.Line.{Point, Near, side, dividend, offset, longer}
+use Rattle.lines.specs.Walk.{direction, axisAt, walkAt, Walking, Fit}
+use Rattle.lines.proofs.Offsets.{offset-first, rest-first, offset-same, rest-more, offset-more, rest-less, offset-few}
+use Rattle.lines.proofs.Toward.{toward-none, toward-next, toward-abs, direction-abs, side-abs, small}
+
+abbrev made : ℤ → ℤ → ℕ → ℕ → Axis
+made at step side rest = record { at = at; step = step; side = side; rest = rest }
+
+pub axis-first : (a b : ℤ) (m : ℕ) → made a (direction a b) (side a b) m ≡ axisAt a b m 0
+unfolding axisAt
+axis-first a b m = rw (offset-first m (side a b), toward-none a b, rest-first m (side a b))
+
+-- ---- the next place
+pub axis-stays : (m : ℕ) (c : Axis) → c .rest + 2 * c .side < 2 * m → (a b : ℤ) (j : ℕ) → c ≡ axisAt a b m j
+    → made (c .at) (c .step) (c .side) (c .rest + 2 * c .side) ≡ axisAt a b m (j + 1)
+unfolding axisAt
+axis-stays m c h a b j e =
+    let k = rw e at h in
+    rw (e, offset-same m (side a b) j k, rest-more m (side a b) j k)
+
+pub axis-moves : (m : ℕ) (c : Axis) → 2 * m ≤ c .rest + 2 * c .side → Fit c m → (a b : ℤ) (j : ℕ) → c ≡ axisAt a b m j
+    → made (c .at +ℤ c .step) (c .step) (c .side) (c .rest + 2 * c .side - 2 * m) ≡ axisAt a b m (j + 1)
+unfolding axisAt
+axis-moves m c h f a b j e =
+    let k = rw e at h in
+    let s : side a b ≤ m = rw e at (f .side) in
+    let r : dividend m (side a b) j % (2 * m) < 2 * m = rw e at (f .rest) in
+    rw (e, offset-more m (side a b) j k s r, rest-less m (side a b) j k s r, toward-next a b (offset m (side a b) j))
+
+-- ---- what fits
+pub record Moves (c : Axis) : Type 0 where
+  pub at : SFits w32 (c .at)
+  pub step : SFits w32 (c .step)
+  pub next : SFits w32 (c .at +ℤ c .step)
+
+pub moves : (c : Axis) (m : ℕ) → Fit c m → Moves c
+moves c m f =
+    let h = f .at in
+    let k = f .step in
+    record { at = small (c .at) h; step = small (c .step) (omega arith); next = sum-fits (c .at) (c .step) (omega arith) }
+
+pub axis-fits : (a b : ℤ) (m j : ℕ) → far a ≡ false → far b ≡ false → side a b ≤ m → m ≤ 131072 → j < m → Fit (axisAt a b m j) m
+unfolding axisAt
+axis-fits a b m j p q s l h =
+    let k = near-abs a p in
+    record {
+      at = omega (arith, toward-abs a b (offset m (side a b) j), offset-few m (side a b) j s);
+      step = direction-abs a b;
+      side = s;
+      rest = mod-lt (dividend m (side a b) j) (omega arith);
+      steps = omega arith;
+    }
+
+pub longer-near : (a b : Point) → Near a → Near b → longer a b ≤ 131072
+unfolding longer
+longer-near a b p q = omega (arith, side-abs (a .x) (b .x), side-abs (a .y) (b .y), near-abs _ (p .across), near-abs _ (p .down), near-abs _ (q .across), near-abs _ (q .down))
+
+pub record BothFit (w : Walk) : Type 0 where
+  pub x : Fit (w .x) (w .steps)
+  pub y : Fit (w .y) (w .steps)
+
+pub walk-fits : (w : Walk) → Walking w → BothFit w
+unfolding walkAt longer
+walk-fits w k =
+    let a = k .start in
+    let b = k .end in
+    let l = longer-near a b (k .near-start) (k .near-end) in
+    let h = k .more in
+    rw (k .stands) (record {
+      x = axis-fits (a .x) (b .x) (longer a b) (k .done) (k .near-start .across) (k .near-end .across) (omega arith) l h;
+      y = axis-fits (a .y) (b .y) (longer a b) (k .done) (k .near-start .down) (k .near-end .down) (omega arith) l h;
+    })
+
+-- ---- both axes
+pub walk-next : (w : Walk) (x y : Axis) → ((a b : ℤ) (j : ℕ) → w .x ≡ axisAt a b (w .steps) j → x ≡ axisAt a b (w .steps) (j + 1))
+    → ((a b : ℤ) (j : ℕ) → w .y ≡ axisAt a b (w .steps) j → y ≡ axisAt a b (w .steps) (j + 1)) → (a b : Point) (j : ℕ) → w ≡ walkAt a b j
+    → record { x = x; y = y; steps = w .steps } ≡ walkAt a b (j + 1)
+unfolding walkAt
+walk-next w x y f g a b j e =
+    let s : w .steps ≡ longer a b = ap (λ (v : Walk). v .steps) e in
+    let p = f (a .x) (b .x) j (rw s (ap (λ (v : Walk). v .x) e)) in
+    let q = g (a .y) (b .y) j (rw s (ap (λ (v : Walk). v .y) e)) in
+    rw (p, q, s)
