@@ -2,4 +2,5 @@ pub mod Offsets
 pub mod Toward
 pub mod Walks
 pub mod Points
+pub mod Ends
 mod Examples

@@ -61,6 +61,12 @@ unfolding offset dividend
 offset-longer zero j h = let e : j ≡ 0 = omega arith in rw e (div-zero (2 * (0 * 0) + 0))
 offset-longer (suc m) j h = quotient (2 * suc m) j (suc m) (omega arith) _ (omega (arith, mul-comm j (2 * suc m), mul-comm j (suc m)))
 
+-- after the last step it is the whole side
+pub offset-last : (m n : ℕ) → n ≤ m → offset m n m ≡ n
+unfolding offset dividend
+offset-last zero n h = let e : n ≡ 0 = omega arith in rw e (div-zero (2 * (0 * 0) + 0))
+offset-last (suc m) n h = quotient (2 * suc m) n (suc m) (omega arith) _ (omega (arith, mul-comm n (2 * suc m), mul-comm n (suc m)))
+
 -- on the shorter it is no more
 pub offset-few : (m n j : ℕ) → n ≤ m → offset m n j ≤ j
 unfolding offset dividend

@@ -69,7 +69,7 @@ unfolding side
 side-back a b = sym (abs-neg (a -ℤ b)) ∙ ap natAbs (negℤ-+ℤ a (negℤ b) ∙ ap (λ z. negℤ a +ℤ z) (negℤ-negℤ b) ∙ +ℤ-comm (negℤ a) b)
 
 -- a difference of what is not less is not negative
-from-less : (a b : ℤ) → ltZ a b ≡ false → T (nonNeg (a -ℤ b))
+pub from-less : (a b : ℤ) → ltZ a b ≡ false → T (nonNeg (a -ℤ b))
 from-less (pos a) (pos zero) e = tt
 from-less (pos a) (pos (suc b)) e = rw e tt
 from-less (pos a) (negsuc b) e = tt
