@@ -2,24 +2,23 @@
 use mathlib.Core.Path.{_≡_, refl, sym, ap, _∙_}
 use mathlib.Core.Bool.{Bool, true, false, cond}
 use mathlib.Core.List.{List, [], _∷_, _++_, map, map-append}
-use Prim.Native.Nat.{ℕ, _+_, _*_, _<_, _≤_, max}
+use Prim.Native.Nat.{ℕ, _+_, _*_, _^_, _<_, _≤_, max}
 use native.Mathlib.Omega.{arith}
 use borrow.Author.Tests.{ltb-true, ltb-false}
 use lib.Dec.{ltb}
-use lib.IntN.{ℤ}
+use lib.IntN.{ℤ, natAbs}
 use lib.ListN.{length, set, length-map}
-use mir.Syntax.{w32}
-use mir.Val.{SFits}
 use Rattle.lists.specs.Lists.{range, over}
 use Rattle.lists.proofs.Over.{over-pair}
 use Rattle.lists.proofs.Scan.{or-left, or-right}
 use Rattle.lists.proofs.Collect.{length-range, range-next, flatMap-append, flatMap-one, length-flatMap}
 use Rattle.ints.specs.Ints.{far}
 use Rattle.ints.proofs.Back.{near-abs}
+use Rattle.lines.specs.declared.Walk.{Walk}
 use Rattle.lines.specs.Line.{Point, point, Near, farPoint, side, toward, offset, longer, pointAt, lineOf, coordinates, flat}
-use Rattle.lines.specs.Walk.{axisAt, walkAt, standing}
+use Rattle.lines.specs.Walk.{axisAt, walkAt, standing, StandsAt}
 use Rattle.lines.proofs.Offsets.{offset-longer, offset-few}
-use Rattle.lines.proofs.Toward.{toward-abs, small}
+use Rattle.lines.proofs.Toward.{toward-abs}
 use Rattle.lines.proofs.Walks.{longer-near}
 
 pub near : {p : Point} → farPoint p ≡ false → Near p
@@ -27,9 +26,9 @@ unfolding farPoint
 near {p} e = record { across = or-left (far (p .x)) (far (p .y)) e; down = or-right (far (p .x)) (far (p .y)) e }
 
 -- ---- a walk's place is the closed form's
-pub walk-stands : (a b : Point) (j : ℕ) → j ≤ longer a b → standing (walkAt a b j) ≡ pointAt a b j
+point-by-axes : (a b : Point) (j : ℕ) → j ≤ longer a b → standing (walkAt a b j) ≡ pointAt a b j
 unfolding walkAt axisAt pointAt longer
-walk-stands a b j h = by (ltb w v) refl
+point-by-axes a b j h = by (ltb w v) refl
   where
     w : ℕ
     w = side (a .x) (b .x)
@@ -47,20 +46,24 @@ walk-stands a b j h = by (ltb w v) refl
         let m : max w v ≡ w = omega (arith, ltb-false w v e) in
         rw (m, offset-longer w j (omega arith))
 
--- where it stands, 32 bits with a sign hold it
-pub record Held (p : Point) : Type 0 where
-  pub across : SFits w32 (p .x)
-  pub down : SFits w32 (p .y)
+pub stands-point : {a b : Point} {j : ℕ} {w : Walk} → StandsAt a b j w → standing w ≡ pointAt a b j
+stands-point {a} {b} {j} s = ap (λ (v : Walk). standing v) (s .is) ∙ point-by-axes a b j (s .low)
 
-pub walk-held : (a b : Point) (j : ℕ) → Near a → Near b → j ≤ longer a b → Held (standing (walkAt a b j))
+-- and it is small: sums of it with another small number fit
+pub record Small (p : Point) : Type 0 where
+  pub across : natAbs (p .x) ≤ 2 ^ 18
+  pub down : natAbs (p .y) ≤ 2 ^ 18
+
+pub stands-small : {a b : Point} {j : ℕ} {w : Walk} → StandsAt a b j w → Small (standing w)
 unfolding walkAt axisAt longer
-walk-held a b j p q h =
-    let l = longer-near a b p q in
+stands-small {a} {b} {j} s =
+    let l = longer-near a b (s .near-start) (s .near-end) in
+    let h = s .low in
     let m = longer a b in
-    record {
-      across = small _ (omega (arith, near-abs (a .x) (p .across), toward-abs (a .x) (b .x) (offset m (side (a .x) (b .x)) j), offset-few m (side (a .x) (b .x)) j (omega arith)));
-      down = small _ (omega (arith, near-abs (a .y) (p .down), toward-abs (a .y) (b .y) (offset m (side (a .y) (b .y)) j), offset-few m (side (a .y) (b .y)) j (omega arith)));
-    }
+    rw (s .is) (record {
+      across = omega (arith, near-abs (a .x) (s .near-start .across), toward-abs (a .x) (b .x) (offset m (side (a .x) (b .x)) j), offset-few m (side (a .x) (b .x)) j (omega arith));
+      down = omega (arith, near-abs (a .y) (s .near-start .down), toward-abs (a .y) (b .y) (offset m (side (a .y) (b .y)) j), offset-few m (side (a .y) (b .y)) j (omega arith));
+    })
 
 -- ---- the first n points
 abbrev pub firsts : Point → Point → ℕ → List Point

@@ -13,7 +13,7 @@ use Rattle.ints.proofs.Sums.{sum-fits}
 use Rattle.lines.specs.declared.Axis.{Axis}
 use Rattle.lines.specs.declared.Walk.{Walk}
 use Rattle.lines.specs.Line.{Point, Near, side, dividend, offset, longer}
-use Rattle.lines.specs.Walk.{direction, axisAt, walkAt, Walking, Fit}
+use Rattle.lines.specs.Walk.{direction, axisAt, walkAt, StandsAt, Walking, Fit}
 use Rattle.lines.proofs.Offsets.{offset-first, rest-first, offset-same, rest-more, offset-more, rest-less, offset-few}
 use Rattle.lines.proofs.Toward.{toward-none, toward-next, toward-abs, direction-abs, side-abs, small}
 
@@ -78,20 +78,29 @@ unfolding walkAt longer
 walk-fits w k =
     let a = k .start in
     let b = k .end in
-    let l = longer-near a b (k .near-start) (k .near-end) in
+    let s = k .stands in
+    let l = longer-near a b (s .near-start) (s .near-end) in
     let h = k .more in
-    rw (k .stands) (record {
-      x = axis-fits (a .x) (b .x) (longer a b) (k .done) (k .near-start .across) (k .near-end .across) (omega arith) l h;
-      y = axis-fits (a .y) (b .y) (longer a b) (k .done) (k .near-start .down) (k .near-end .down) (omega arith) l h;
+    rw (s .is) (record {
+      x = axis-fits (a .x) (b .x) (longer a b) (k .done) (s .near-start .across) (s .near-end .across) (omega arith) l h;
+      y = axis-fits (a .y) (b .y) (longer a b) (k .done) (s .near-start .down) (s .near-end .down) (omega arith) l h;
     })
 
 -- ---- both axes
-pub walk-next : (w : Walk) (x y : Axis) → ((a b : ℤ) (j : ℕ) → w .x ≡ axisAt a b (w .steps) j → x ≡ axisAt a b (w .steps) (j + 1))
-    → ((a b : ℤ) (j : ℕ) → w .y ≡ axisAt a b (w .steps) j → y ≡ axisAt a b (w .steps) (j + 1)) → (a b : Point) (j : ℕ) → w ≡ walkAt a b j
-    → record { x = x; y = y; steps = w .steps } ≡ walkAt a b (j + 1)
+pub steps-longer : {a b : Point} {j : ℕ} {w : Walk} → StandsAt a b j w → w .steps ≡ longer a b
 unfolding walkAt
-walk-next w x y f g a b j e =
-    let s : w .steps ≡ longer a b = ap (λ (v : Walk). v .steps) e in
-    let p = f (a .x) (b .x) j (rw s (ap (λ (v : Walk). v .x) e)) in
-    let q = g (a .y) (b .y) j (rw s (ap (λ (v : Walk). v .y) e)) in
-    rw (p, q, s)
+steps-longer s = ap (λ (v : Walk). v .steps) (s .is)
+
+pub walk-next : (w : Walk) (x y : Axis) → ((a b : ℤ) (j : ℕ) → w .x ≡ axisAt a b (w .steps) j → x ≡ axisAt a b (w .steps) (j + 1))
+    → ((a b : ℤ) (j : ℕ) → w .y ≡ axisAt a b (w .steps) j → y ≡ axisAt a b (w .steps) (j + 1)) → (a b : Point) (j : ℕ) → StandsAt a b j w → j < longer a b
+    → StandsAt a b (j + 1) (record { x = x; y = y; steps = w .steps })
+unfolding walkAt
+walk-next w x y f g a b j s h =
+    let m = steps-longer s in
+    let p = f (a .x) (b .x) j (rw m (ap (λ (v : Walk). v .x) (s .is))) in
+    let q = g (a .y) (b .y) j (rw m (ap (λ (v : Walk). v .y) (s .is))) in
+    record { near-start = s .near-start; near-end = s .near-end; low = omega arith; is = rw (p, q, m) }
+
+-- what `step` asks, before the end
+pub walking : {a b : Point} {j : ℕ} {w : Walk} → StandsAt a b j w → j < longer a b → Walking w
+walking {a} {b} {j} s h = record { start = a; end = b; done = j; stands = s; more = h }

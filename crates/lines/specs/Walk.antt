@@ -35,15 +35,20 @@ walkAt a b j =
 abbrev pub standing : Walk → Point
 standing w = point (w .x .at) (w .y .at)
 
--- a walk before its end, on a line between points that are not too far
+-- a walk that stands at step j of the line from a to b, neither of them too far
+pub record StandsAt (a b : Point) (j : ℕ) (w : Walk) : Type 0 where
+  pub near-start : Near a
+  pub near-end : Near b
+  pub low : j ≤ longer a b
+  pub is : w ≡ walkAt a b j
+
+-- a walk on some line, and not at its end
 pub record Walking (w : Walk) : Type 0 where
   pub start : Point
   pub end : Point
   pub done : ℕ
-  pub stands : w ≡ walkAt start end done
+  pub stands : StandsAt start end done w
   pub more : done < longer start end
-  pub near-start : Near start
-  pub near-end : Near end
 
 -- an axis whose next place and rest fit, m the longer side
 pub record Fit (c : Axis) (m : ℕ) : Type 0 where

@@ -4,11 +4,11 @@
 // side is added to what the closed form's division left, and where that makes a whole place, it moves.
 ghost use mathlib.Core.Path.{_≡_};
 ghost use mathlib.Core.Bool.{false};
-ghost use Prim.Native.Nat.{ℕ, _+_, max};
+ghost use Prim.Native.Nat.{ℕ, _+_, _<_, max};
 ghost use lib.IntN.{ℤ};
 ghost use Rattle.ints.specs.Ints.{far};
-ghost use Rattle.lines.specs.Line.{Point, point, Near, side};
-ghost use Rattle.lines.specs.Walk.{direction, axisAt, walkAt, Walking, Fit};
+ghost use Rattle.lines.specs.Line.{Point, point, Near, side, longer};
+ghost use Rattle.lines.specs.Walk.{direction, axisAt, StandsAt, Walking, Fit};
 
 // One axis of a walk: where it is, one place toward the end, the line's side here, and the rest of the
 // division by twice the longer side.
@@ -29,7 +29,7 @@ pub struct Walk {
 // At the first point of the line from a to b.
 pub fn begin(ax: i32, ay: i32, bx: i32, by: i32) -> Walk
     requires { ⌜ Near (point ax ay) × Near (point bx by) ⌝ }
-    ensures { λ r. ⌜ r ≡ walkAt (point ax ay) (point bx by) 0 ⌝ }
+    ensures { λ r. ⌜ StandsAt (point ax ay) (point bx by) 0 r ⌝ }
 {
     let steps = max_usize(side(ax, bx), side(ay, by));
     Walk {
@@ -42,7 +42,7 @@ pub fn begin(ax: i32, ay: i32, bx: i32, by: i32) -> Walk
 // At the next point, of a walk that is not at its end.
 pub fn step(w: Walk) -> Walk
     requires { ⌜ Walking w ⌝ }
-    ensures { λ r. ⌜ ((a b : Point) (j : ℕ) → w ≡ walkAt a b j → r ≡ walkAt a b (j + 1)) ⌝ }
+    ensures { λ r. ⌜ ((a b : Point) (j : ℕ) → StandsAt a b j w → j < longer a b → StandsAt a b (j + 1) r) ⌝ }
 {
     let m = w.steps;
     let x = w.x;

@@ -9,10 +9,8 @@ use lib.ListN.{length}
 use mir.Facts.{toZ-ofZ}
 use Rattle.limits.specs.Checks.{firstOf, refusedOr}
 use Rattle.ints.proofs.Back.{by-values}
-use Rattle.lines.specs.declared.Walk.{Walk}
 use Rattle.lines.specs.Line.{Point, point, farPoint, longer, lineOf}
-use Rattle.lines.specs.Walk.{walkAt}
-use Rattle.lines.proofs.Walks.{longer-near}
+use Rattle.lines.proofs.Walks.{longer-near, steps-longer}
 use Rattle.lines.proofs.Points.{near, length-line}
 use Rattle.line.specs.Bresenham.{lineChecks, bresenhamOf}
 use Rattle.line.proofs.bresenham.Statement.{statement}
@@ -55,14 +53,10 @@ begin-requires c κs =
     let s = c .before .before .before .before in
     rw (toZ-ofZ (s .fits .ax), toZ-ofZ (s .fits .ay), toZ-ofZ (s .fits .bx), toZ-ofZ (s .fits .by)) (near (near-from (c .before .before)), near (near-to c))
 
-begun : (c : tie.After-begin) → let s = c .before .before .before .before .before in c .begin .result ≡ walkAt (from s) (to s) 0
-begun c =
-    let s = c .before .before .before .before .before in
-    rw (toZ-ofZ (s .fits .ax), toZ-ofZ (s .fits .ay), toZ-ofZ (s .fits .bx), toZ-ofZ (s .fits .by)) at (c .begin .ensures)
-
 steps-is : (c : tie.After-begin) → let s = c .before .before .before .before .before in c .begin .result .steps ≡ longer (from s) (to s)
-unfolding walkAt
-steps-is c = ap (λ (w : Walk). w .steps) (begun c)
+steps-is c =
+    let s = c .before .before .before .before .before in
+    rw (toZ-ofZ (s .fits .ax), toZ-ofZ (s .fits .ay), toZ-ofZ (s .fits .bx), toZ-ofZ (s .fits .by)) at (steps-longer (c .begin .ensures))
 
 count-is : (c : tie.After-begin) → let s = c .before .before .before .before .before in length (lineOf (from s) (to s)) ≡ c .begin .result .steps + 1
 count-is c = let s = c .before .before .before .before .before in length-line (from s) (to s) ∙ ap (λ n. n + 1) (sym (steps-is c))

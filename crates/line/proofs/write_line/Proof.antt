@@ -8,7 +8,7 @@ use mir.Val.{toZ, ofZ}
 use mir.Facts.{toZ-ofZ}
 use Rattle.lines.specs.Line.{point}
 use Rattle.line.specs.Bresenham.{Room}
-use Rattle.line.proofs.Writing.{Writing, writing-start, inside, walking, writing-next, writing-end}
+use Rattle.line.proofs.Writing.{Writing, writing-start, inside, goes-on, writing-next, writing-end, writing-low}
 use Rattle.line.proofs.write_line.Statement.{statement}
 use Rattle.line.proofs.write_line.Tie as tie
 
@@ -32,7 +32,7 @@ put-point-requires : tie.Need-put-point-requires Inv-loop μ-loop
 put-point-requires c κs = let l = c .before .before .loop in inside _ _ _ _ (l .w) (l .out) (l .j) (l .inv)
 
 step-requires : tie.Need-step-requires Inv-loop μ-loop
-step-requires c κs = let l = c .before .before .before .before .loop in walking _ _ _ _ (l .w) (l .out) (l .j) (l .inv) (c .before .before .before .loop-test .taken)
+step-requires c κs = let l = c .before .before .before .before .loop in goes-on _ _ _ _ (l .w) (l .out) (l .j) (l .inv) (c .before .before .before .loop-test .taken)
 
 add-j : tie.Need-add-j Inv-loop μ-loop
 add-j c = search needs
@@ -44,7 +44,7 @@ loop-again : tie.Need-loop-again Inv-loop μ-loop
 loop-again c = let l = c .before .before .before .before .before .loop in writing-next _ _ _ _ (l .w) (l .out) (l .j) (l .inv) (c .step .result) _ (c .before .before .before .before .loop-test .taken) (c .before .before .put-point .ensures) (c .step .ensures)
 
 all : (c : tie.After-loop Inv-loop μ-loop) → c .before .loop .j ≡ c .before .before .begin .result .steps
-all c = let h = c .before .loop .inv .low in omega arith
+all c = let l = c .before .loop in omega (arith, writing-low _ _ _ _ (l .w) (l .out) (l .j) (l .inv))
 
 put-point-requires-2 : tie.Need-put-point-requires-2 Inv-loop μ-loop
 put-point-requires-2 c κs = let l = c .before .before .loop in rw (sym (all (c .before))) (inside _ _ _ _ (l .w) (l .out) (l .j) (l .inv))

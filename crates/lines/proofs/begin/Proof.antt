@@ -1,5 +1,6 @@
 -- `begin`: the longer side, and each axis by itself. Assumes nothing.
 use mathlib.Core.Path.{_≡_}
+use native.Mathlib.Omega.{arith}
 use borrow.Author.Needs.{needs}
 use Rattle.ints.proofs.Back.{by-values}
 use Rattle.lines.specs.Line.{point, side, longer}
@@ -33,7 +34,13 @@ unfolding walkAt
 returns c =
     let s = c .before .before .before .before .before in
     let m = c .before .before .max-usize .result in
-    rw (by-values (λ a b. axisAt a b m 0) (s .fits .ax) (s .fits .bx) (c .before .begin-axis .ensures), by-values (λ a b. axisAt a b m 0) (s .fits .ay) (s .fits .by) (c .begin-axis2 .ensures), steps-is (c .before .before))
+    record {
+      near-start = s .pre .0;
+      near-end = s .pre .1;
+      low = omega arith;
+      is =
+          rw (by-values (λ a b. axisAt a b m 0) (s .fits .ax) (s .fits .bx) (c .before .begin-axis .ensures), by-values (λ a b. axisAt a b m 0) (s .fits .ay) (s .fits .by) (c .begin-axis2 .ensures), steps-is (c .before .before));
+    }
 
 pub begin-spec : {M : Type 1} → statement M
 begin-spec =
