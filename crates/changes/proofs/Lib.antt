@@ -13,3 +13,4 @@ pub mod ByPlace
 pub mod Examples
 pub mod Copying
 pub mod Fronts
+pub mod Handing

@@ -2,3 +2,4 @@ pub mod Normal
 pub mod Order
 pub mod Keys
 pub mod Laws
+pub mod Listed

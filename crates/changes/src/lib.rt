@@ -6,5 +6,6 @@ mod normal;
 mod sort;
 
 pub use copy::copy_out;
+pub use copy::hand_out;
 pub use normal::normalize_in;
 pub use normal::normalize_joined;

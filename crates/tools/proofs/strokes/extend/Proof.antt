@@ -1,0 +1,49 @@
+-- `extend`: 21 and 16; then the joined normal form, handed out of the scratch. Assumes nothing.
+use mathlib.Core.Path.{sym, _∙_}
+use lib.Seq.{length-take-le}
+use Rattle.changes.proofs.Fronts.{front-within}
+use Rattle.tools.proofs.Extending.{extend-fine, extend-refused, extend-done, joined-fits}
+use borrow.Author.Needs.{needs}
+use Rattle.tools.proofs.strokes.extend.Statement.{statement}
+use Rattle.tools.proofs.strokes.extend.Tie as tie
+
+extend-no-requires : tie.Need-extend-no-requires
+extend-no-requires c κs = search needs
+
+returns : tie.Need-returns
+returns c = (extend-refused _ _ _ _ _ (c .before .extend-no .ensures) (c .if1 .taken), search needs)
+
+slice-reshare-prefix-normalize-joined : tie.Need-slice-reshare-prefix-normalize-joined
+slice-reshare-prefix-normalize-joined c = extend-fine _ _ _ _ (sym (c .before .extend-no .ensures) ∙ c .if1 .left) .held
+
+slice-aggregate-normalize-joined : tie.Need-slice-aggregate-normalize-joined
+slice-aggregate-normalize-joined c = sym (length-take-le _ _ (extend-fine _ _ _ _ (sym (c .before .before .extend-no .ensures) ∙ c .before .if1 .left) .held))
+
+normalize-joined-requires : tie.Need-normalize-joined-requires
+normalize-joined-requires c κs = joined-fits _ _ (c .before .before .before .before .before .before .before .args .list .now) (c .before .before .before .before .before .before .before .args .stroke .now) (sym (c .before .before .before .extend-no .ensures) ∙ c .before .before .if1 .left)
+
+hand-out-requires : tie.Need-hand-out-requires
+hand-out-requires c κs = front-within (c .before .before .before .before .normalize-joined .ensures)
+
+same-length : tie.Need-same-length
+same-length c = search needs
+
+same-length-2 : tie.Need-same-length-2
+same-length-2 c = search needs
+
+returns-2 : tie.Need-returns-2
+returns-2 c = (extend-done _ _ _ _ (sym (c .before .before .before .before .before .before .before .before .before .before .before .extend-no .ensures) ∙ c .before .before .before .before .before .before .before .before .before .before .if1 .left) (c .before .before .before .before .before .before .before .normalize-joined .ensures) (c .before .before .hand-out .ensures), search needs)
+
+pub extend-spec : {M : Type 1} → statement M
+extend-spec =
+    tie.close
+    (tie.spec
+    extend-no-requires
+    returns
+    slice-reshare-prefix-normalize-joined
+    slice-aggregate-normalize-joined
+    normalize-joined-requires
+    hand-out-requires
+    same-length
+    same-length-2
+    returns-2)

@@ -1,0 +1,50 @@
+-- The calls of op.rs on a list of changes: `normalize`, `Op::pixels`, `is_empty`. Definitions only. Assumes nothing.
+use Prim.Native.Nat.{ℕ}
+use mathlib.Core.Bool.{Bool, false}
+use mathlib.Core.List.{List, [], _∷_, map}
+use lib.Dec.{ltb, eqb}
+use lib.ListN.{length}
+use Rattle.limits.specs.Limits.{maxChanges}
+use Rattle.limits.specs.Numbers.{noSpace, listTooLong}
+use Rattle.limits.specs.Checks.{Check, _when_}
+use Rattle.limits.specs.Answer.{Filled}
+use Rattle.limits.specs.declared.Counted.{Counted}
+use Rattle.limits.specs.declared.Counted.the-variants as counted
+use Rattle.edits.specs.declared.Edit.{Edit}
+use Rattle.edits.specs.declared.Edit.the-variants.{Pixels, PaletteSet, PaletteAdd, PaletteRemove}
+use Rattle.edits.specs.Change.{Change, unpacked}
+use Rattle.changes.specs.Normal.{normalizeOf}
+use Rattle.changes.specs.Listed.{listed}
+use Rattle.tools.specs.declared.Made.{Made}
+use Rattle.tools.specs.declared.Made.the-variants as made-of
+
+-- 21, then 16: the scratch holds one number a change
+unfoldable pub normalizeChecks : ℕ → ℕ → List Check
+normalizeChecks n room = listTooLong when ltb maxChanges n ∷ noSpace when ltb room n ∷ []
+
+-- a list's normal form, over the front of a buffer; room is the scratch's length
+unfoldable pub normalizeCall : ℕ → List ℕ → List ℕ → Filled ℕ
+normalizeCall room list out = listed (normalizeChecks (length list) room) (normalizeOf (map unpacked list)) out
+
+-- ---- `Op::pixels`: the edit beside its list
+pub record MadeList : Type 0 where
+  pub answer : Made
+  pub out : List ℕ
+
+abbrev pub made : Made → List ℕ → MadeList
+made answer out = record { answer = answer; out = out }
+
+-- an edit of pixels, whose list was counted
+unfoldable pub pixelsOf : ℕ → Counted → Made
+pixelsOf tool (counted.Count n) = made-of.Op (Pixels tool) n
+pixelsOf tool (counted.Refused n) = made-of.Refused n
+
+unfoldable pub pixelsCall : ℕ → ℕ → List ℕ → List ℕ → MadeList
+pixelsCall tool room list out = let r = normalizeCall room list out in made (pixelsOf tool (r .answer)) (r .buffer)
+
+-- "A `Pixels` op without changes (applying it would do nothing)"
+unfoldable pub isEmptyOf : Edit → List Change → Bool
+isEmptyOf (Pixels tool) cs = eqb (length cs) 0
+isEmptyOf (PaletteSet i old new lab) cs = false
+isEmptyOf (PaletteAdd c) cs = false
+isEmptyOf (PaletteRemove i c lab) cs = false

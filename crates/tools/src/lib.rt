@@ -1,0 +1,26 @@
+// The calls of op.rs and tools.rs on lists of changes, and the stroke that a drag makes of them. Every tool
+// returns a list of changes, which is pushed as one edit.
+//
+// A list of changes is lent as one number of 64 bits a change, and so is the scratch, whose contents are free
+// before and after the call.
+mod op;
+mod strokes;
+
+use edits::Edit;
+pub use op::is_empty;
+pub use op::kind;
+pub use op::normalize;
+pub use op::pixels;
+pub use strokes::extend;
+
+// What a call answers that makes an edit with a list of changes: the edit, and how many they are.
+pub enum Made {
+    Op { edit: Edit, count: usize },
+    Refused(u8),
+}
+
+// A drag: the tool that it is noted with, and how many changes its buffer holds so far, at the front.
+pub struct Stroke {
+    pub tool: u8,
+    pub count: usize,
+}

@@ -1,0 +1,88 @@
+// `normalize` and what else op.rs asks of an edit and its list.
+use crate::Made;
+use changes::hand_out;
+use changes::normalize_in;
+use edits::Edit;
+use limits::Counted;
+use limits::LIST_TOO_LONG;
+use limits::MAX_CHANGES;
+use limits::NO_SPACE;
+ghost use mathlib.Core.Path.{_≡_};
+ghost use mathlib.Core.List.{map};
+ghost use lib.ListN.{length};
+ghost use Rattle.limits.specs.Answer.{filled};
+ghost use Rattle.edits.specs.Change.{unpacked};
+ghost use Rattle.records.specs.Found.{kindOf};
+ghost use Rattle.tools.specs.Op.{normalizeCall, made, pixelsCall, isEmptyOf};
+
+// The normal form of a list, at the front of out: in order by y, then x, with the first old and the last new of
+// each place, and without what changes nothing.
+pub fn normalize(list: &[u64], scratch: &mut [u64], out: &mut [u64]) -> Counted
+    ensures { λ r. ⌜ filled r (now (out .exit)) ≡ normalizeCall (length (now (scratch .entry))) (now (list .entry)) (now (out .entry)) ⌝ }
+    ensures { λ _. ⌜ length (now (scratch .exit)) ≡ length (now (scratch .entry)) ⌝ }
+{
+    if MAX_CHANGES < list.len() {
+        return Counted::Refused(LIST_TOO_LONG);
+    }
+    if scratch.len() < list.len() {
+        return Counted::Refused(NO_SPACE);
+    }
+    let n = normalize_in(list, scratch);
+    hand_out(scratch, n, out)
+}
+
+// `Op::pixels`: an edit of pixels, and its list, normalised, at the front of out.
+pub fn pixels(tool: u8, list: &[u64], scratch: &mut [u64], out: &mut [u64]) -> Made
+    ensures { λ r. ⌜ made r (now (out .exit)) ≡ pixelsCall tool (length (now (scratch .entry))) (now (list .entry)) (now (out .entry)) ⌝ }
+    ensures { λ _. ⌜ length (now (scratch .exit)) ≡ length (now (scratch .entry)) ⌝ }
+{
+    match normalize(list, scratch, out) {
+        Counted::Count(count) => Made::Op {
+            edit: Edit::Pixels { tool },
+            count,
+        },
+        Counted::Refused(no) => Made::Refused(no),
+    }
+}
+
+// Whether the edit is of pixels, and its list is empty.
+pub fn is_empty(edit: Edit, list: &[u64]) -> bool
+    ensures { λ r. ⌜ r ≡ isEmptyOf edit (map unpacked (now (list .entry))) ⌝ }
+{
+    match edit {
+        Edit::Pixels { tool: _ } => list.len() == 0,
+        Edit::PaletteSet {
+            index: _,
+            old: _,
+            new: _,
+            old_lab: _,
+        } => false,
+        Edit::PaletteAdd { rgb: _ } => false,
+        Edit::PaletteRemove {
+            index: _,
+            rgb: _,
+            lab: _,
+        } => false,
+    }
+}
+
+// The journal's kind of an edit: 1 "pixels", 2 "palette_set", 3 "palette_add", 4 "palette_remove".
+pub fn kind(edit: Edit) -> u8
+    ensures { λ r. ⌜ r ≡ kindOf edit ⌝ }
+{
+    match edit {
+        Edit::Pixels { tool: _ } => 1,
+        Edit::PaletteSet {
+            index: _,
+            old: _,
+            new: _,
+            old_lab: _,
+        } => 2,
+        Edit::PaletteAdd { rgb: _ } => 3,
+        Edit::PaletteRemove {
+            index: _,
+            rgb: _,
+            lab: _,
+        } => 4,
+    }
+}

@@ -1,0 +1,85 @@
+// `Stroke` of tools.rs: the changes of a drag, event by event, in a lent buffer. After each event the front of the
+// buffer is the normal form of what it was and then the event's list, so that normalising goes on step by step.
+use crate::Made;
+use crate::Stroke;
+use changes::hand_out;
+use changes::normalize_joined;
+use edits::Edit;
+use limits::Counted;
+use limits::LIST_TOO_LONG;
+use limits::MAX_CHANGES;
+use limits::NO_SPACE;
+ghost use mathlib.Core.Path.{_≡_};
+ghost use lib.ListN.{length};
+ghost use Rattle.limits.specs.Checks.{firstOf};
+ghost use Rattle.limits.specs.Answer.{filled};
+ghost use Rattle.tools.specs.declared.Made.the-variants.{Op};
+ghost use Rattle.edits.specs.declared.Edit.the-variants.{Pixels};
+ghost use Rattle.tools.specs.Stroke.{extendChecks, extendCall};
+
+// The number of the first check of an extension that applies, or 0: 21 of either list, then 16 for a count that
+// the buffer has no places for, and for scratch with fewer places than both lists have changes.
+fn extend_no(count: usize, places: usize, n: usize, room: usize) -> u8
+    ensures { λ r. ⌜ r ≡ firstOf (extendChecks count places n room) ⌝ }
+{
+    if MAX_CHANGES < count {
+        return LIST_TOO_LONG;
+    }
+    if MAX_CHANGES < n {
+        return LIST_TOO_LONG;
+    }
+    if places < count {
+        return NO_SPACE;
+    }
+    if room < count + n {
+        return NO_SPACE;
+    }
+    0
+}
+
+// Adds one event's changes to a stroke, whose changes so far are the first `count` of the buffer; answers how many
+// they are then. 16 too where the buffer has fewer places than that.
+pub fn extend(stroke: &mut [u64], count: usize, list: &[u64], scratch: &mut [u64]) -> Counted
+    ensures { λ r. ⌜ filled r (now (stroke .exit)) ≡ extendCall (length (now (scratch .entry))) count (now (list .entry)) (now (stroke .entry)) ⌝ }
+    ensures { λ _. ⌜ length (now (scratch .exit)) ≡ length (now (scratch .entry)) ⌝ }
+{
+    let no = extend_no(count, stroke.len(), list.len(), scratch.len());
+    if no != 0 {
+        return Counted::Refused(no);
+    }
+    let n = normalize_joined(&stroke[..count], list, scratch);
+    hand_out(scratch, n, stroke)
+}
+
+impl Stroke {
+    // A stroke without changes.
+    pub fn new(tool: u8) -> Stroke
+        ensures { λ r. ⌜ (r .tool ≡ tool) × (r .count ≡ 0) ⌝ }
+    {
+        Stroke { tool, count: 0 }
+    }
+
+    // The tool that its edit is noted with.
+    pub fn tool(self) -> u8
+        ensures { λ r. ⌜ r ≡ self .tool ⌝ }
+    {
+        self.tool
+    }
+
+    // How many changes it has so far, for the preview: the first of its buffer.
+    pub fn changes(self) -> usize
+        ensures { λ r. ⌜ r ≡ self .count ⌝ }
+    {
+        self.count
+    }
+
+    // The stroke as one edit of pixels. Its changes are in normal form already, so they stay where they are.
+    pub fn into_op(self) -> Made
+        ensures { λ r. ⌜ r ≡ Op (Pixels (self .tool)) (self .count) ⌝ }
+    {
+        Made::Op {
+            edit: Edit::Pixels { tool: self.tool },
+            count: self.count,
+        }
+    }
+}
