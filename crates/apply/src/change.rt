@@ -18,7 +18,7 @@ const OLD: u64 = 4_294_967_296;
 const NEW: u64 = 281_474_976_710_656;
 
 // The 16 bits of an index.
-fn bits_of(z: i16) -> u16
+pub fn bits_of(z: i16) -> u16
     ensures { λ r. ⌜ r ≡ ofZ w16 z ⌝ }
 {
     if z < 0 {

@@ -14,6 +14,7 @@ mod redo;
 mod remap;
 mod storage;
 
+pub use change::bits_of;
 pub use change::column;
 pub use change::filled_in;
 pub use change::is_outside;

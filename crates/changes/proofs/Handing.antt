@@ -1,13 +1,12 @@
 -- A list handed out of scratch, and what a call answers then. Assumes nothing.
 use Prim.Native.Nat.{ℕ, _≤_, _<_}
-use mathlib.Core.Path.{_≡_, refl, sym, ap, _∙_}
+use mathlib.Core.Path.{_≡_, ap, _∙_}
 use mathlib.Core.List.{List, map}
-use native.Mathlib.Omega.{arith}
 use borrow.Author.Tests.{lt-ltb, le-ltb}
 use lib.ListN.{length, take}
 use lib.Seq.{length-take-le}
 use Rattle.limits.specs.Checks.{Check, firstOf, refusedOr}
-use Rattle.limits.specs.Answer.{Filled, filled}
+use Rattle.limits.specs.Answer.{filled}
 use Rattle.limits.specs.declared.Counted.{Counted}
 use Rattle.limits.specs.declared.Counted.the-variants.{Count, Refused}
 use Rattle.limits.proofs.First.{refused-first, result-first}

@@ -10,7 +10,9 @@ pub mod Compacting
 pub mod Steps
 pub mod Shortest
 pub mod ByPlace
+pub mod Pictures
 pub mod Examples
 pub mod Copying
 pub mod Fronts
 pub mod Handing
+pub mod Rows

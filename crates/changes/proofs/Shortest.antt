@@ -6,14 +6,18 @@ use mathlib.Core.Bool.{Bool, true, false, cond}
 use mathlib.Core.List.{List, [], _∷_}
 use native.Mathlib.Omega.{arith}
 use native.Mathlib.Decide.{decLt}
-use native.Mathlib.Nat.{le-of-suc-le-suc, not-suc-le-zero}
+use native.Mathlib.Nat.{mul-comm, le-of-suc-le-suc, not-suc-le-zero}
 use lib.Arith.{digits-lt, digits-div, digits-mod}
 use lib.IntN.{ℤ, pos, negsuc}
 use lib.ListN.{length, getD, set}
 use lib.Seq.{getD-set-other, set-getD, set-set, set-comm}
-use borrow.Author.Tests.{eq-eqb, not-true, not-false}
-use Rattle.edits.specs.Change.{Change, place, painted, newOf}
+use borrow.Author.Tests.{leb-false, eq-eqb, not-true, not-false}
+use Rattle.edits.specs.Change.{Change, place, outside, painted, newOf}
 use Rattle.ints.specs.Ints.{eqZ}
+use lib.Dec.{leb}
+use Rattle.lists.specs.Lists.{some}
+use Rattle.lists.proofs.Scan.{or-left, or-right}
+use Rattle.lists.proofs.Nowhere.{first-not, rest-not}
 use Rattle.ints.proofs.Back.{same-index}
 use Rattle.edits.proofs.Painting.{painted-length}
 use Rattle.changes.specs.Normal.{keyOf, joined, enter, entered, kept, changing, normalizeOf}
@@ -55,7 +59,7 @@ differing-set (x ∷ l) [] p v h k e f = absurd (omega arith)
 differing-set (x ∷ l) (y ∷ m) zero v h k e f = let g : eqZ x y ≡ true = rw e (eqZ-same x) in rw (f, g) (omega arith)
 differing-set (x ∷ l) (y ∷ m) (suc p) v h k e f = omega (arith, differing-set l m p v (le-of-suc-le-suc h) (omega arith) e f)
 
-unchanged : (e : Change) → changing e ≡ true → eqZ (e .old) (e .new) ≡ false
+pub unchanged : (e : Change) → changing e ≡ true → eqZ (e .old) (e .new) ≡ false
 unfolding changing
 unchanged e q = not-true (eqZ (e .old) (e .new)) q
 
@@ -128,6 +132,23 @@ all-changing (e ∷ m) = pick (changing e) refl (all-changing m)
     pick true q k = (q, k)
     pick false q k = k
 
+pub normal-changing : (cs : List Change) → All (λ e. changing e ≡ true) (normalizeOf cs)
+unfolding normalizeOf
+normal-changing cs = all-changing (entered [] cs)
+
+-- a list of changes that are all on the sheet, and one whose olds are all the picture's
+pub on-sheet : (w h : ℕ) (cs : List Change) → some (outside w h) cs ≡ false → All (On w h) cs
+unfolding All On outside
+on-sheet w h [] e = tt
+on-sheet w h (c ∷ cs) e =
+    let o : outside w h c ≡ false = first-not (outside w h) c cs e in
+    ((leb-false w (c .x) (or-left (leb w (c .x)) (leb h (c .y)) o), leb-false h (c .y) (or-right (leb w (c .x)) (leb h (c .y)) o)), on-sheet w h cs (rest-not (outside w h) c cs e))
+
+pub first-olds : (w : ℕ) (l : List ℤ) (seen cs : List Change) → All (λ c. c .old ≡ getD l (place w c) (pos 0)) cs → FirstOlds w l seen cs
+unfolding All FirstOlds
+first-olds w l seen [] a = tt
+first-olds w l seen (c ∷ cs) a = ((λ b. a .0), first-olds w l (c ∷ seen) cs (a .1))
+
 -- ---- places
 
 module _ (w h : ℕ) (small : w ≤ 2 ^ 16) where
@@ -157,9 +178,9 @@ module _ (w h : ℕ) (small : w ≤ 2 ^ 16) where
   unfolding joined
   new-joined e c = refl
 
-  inside : (e : Change) → On w h e → place w e < h * w
+  pub inside : (e : Change) → On w h e → place w e < w * h
   unfolding On place
-  inside e p = digits-lt (p .1) (p .0)
+  inside e p = rw (mul-comm w h) (digits-lt (p .1) (p .0))
 
   -- a place that none of them names
   painted-past : (p : ℕ) (v : ℤ) (m : List Change) (l : List ℤ) → All (λ e. p ≢ place w e) m → painted newOf w m (set l p v) ≡ set (painted newOf w m l) p v
@@ -307,7 +328,7 @@ module _ (w h : ℕ) (small : w ≤ 2 ^ 16) where
   differing-painted l [] m = omega arith
   differing-painted l (d ∷ ds) m = omega (arith, differing-painted l ds (set m (place w d) (d .new)), differing-le l m (place w d) (d .new))
 
-  pub differing-normal : (l : List ℤ) (m : List Change) → length l ≡ h * w → All (On w h) m → Ordered m → All (OldOf l) m → All (λ e. changing e ≡ true) m
+  pub differing-normal : (l : List ℤ) (m : List Change) → length l ≡ w * h → All (On w h) m → Ordered m → All (OldOf l) m → All (λ e. changing e ≡ true) m
       → differing l (painted newOf w m l) ≡ length m
   unfolding All Ordered
   differing-normal l [] s a o b c = ap (differing l) (sym (none-painted l)) ∙ differing-same l
@@ -320,7 +341,7 @@ module _ (w h : ℕ) (small : w ≤ 2 ^ 16) where
 
   -- ---- E13
 
-  module _ (l : List ℤ) (size : length l ≡ h * w) (cs : List Change) (on : All (On w h) cs) (olds : FirstOlds w l [] cs) where
+  module _ (l : List ℤ) (size : length l ≡ w * h) (cs : List Change) (on : All (On w h) cs) (olds : FirstOlds w l [] cs) where
     on-map : (m cs : List Change) → All (On w h) m → All (On w h) cs → All (On w h) (entered m cs)
     unfolding entered All
     on-map m [] a b = a
@@ -338,14 +359,20 @@ module _ (w h : ℕ) (small : w ≤ 2 ^ 16) where
     unfolding Named All Ordered
     map-olds = olds-entered l [] [] cs olds (λ e a. tt) tt tt
 
+    pub normal-on : All (On w h) (normalizeOf cs)
+    unfolding normalizeOf
+    normal-on = all-kept (On w h) changing (entered [] cs) map-on
+
+    pub normal-olds : All (OldOf l) (normalizeOf cs)
+    unfolding normalizeOf
+    normal-olds = all-kept (OldOf l) changing (entered [] cs) map-olds
+
     pub same-picture : painted newOf w (normalizeOf cs) l ≡ painted newOf w cs l
     unfolding normalizeOf All Ordered
     same-picture = painted-kept (entered [] cs) l map-on map-ordered map-olds ∙ painted-entered [] cs l tt on tt ∙ ap (painted newOf w cs) (sym (none-painted l))
 
     pub shortest : (ds : List Change) → painted newOf w ds l ≡ painted newOf w cs l → length (normalizeOf cs) ≤ length ds
-    unfolding normalizeOf
     shortest ds e =
-        let n : List Change = kept changing (entered [] cs) in
-        let d : differing l (painted newOf w n l) ≡ length n =
-        differing-normal l n size (all-kept (On w h) changing (entered [] cs) map-on) (ordered-kept changing (entered [] cs) map-ordered) (all-kept (OldOf l) changing (entered [] cs) map-olds) (all-changing (entered [] cs)) in
+        let d : differing l (painted newOf w (normalizeOf cs) l) ≡ length (normalizeOf cs) =
+        differing-normal l (normalizeOf cs) size normal-on (normal-ordered cs) normal-olds (normal-changing cs) in
         omega (arith, ap (differing l) (same-picture ∙ sym e), differing-painted l ds l, differing-same l)

@@ -3,3 +3,4 @@ pub mod Order
 pub mod Keys
 pub mod Laws
 pub mod Listed
+pub mod Between

@@ -1,0 +1,229 @@
+-- The changes between two pictures, row by row, in numbers. Assumes nothing.
+use Prim.Native.Nat.{ℕ, zero, suc, _+_, _-_, _*_, _/_, _%_, _≤_, _<_, _^_}
+use mathlib.Core.Path.{_≡_, refl, sym, ap, _∙_}
+use mathlib.Core.Bool.{Bool, true, false, cond}
+use mathlib.Core.List.{List, [], _∷_, _++_, map, append-assoc, append-nil}
+use native.Mathlib.Omega.{arith}
+use native.Mathlib.Decide.{ℕ-discrete}
+use native.Mathlib.Nat.{add-zero, zero-add, zero-mul, one-mul, add-mul, suc-mul, mul-comm, mul-le-mul-right}
+use borrow.Author.Tests.{eq-eqb, ne-eqb}
+use lib.Dec.{eqb}
+use lib.Arith.{digits-div, digits-mod}
+use lib.IntN.{ℤ, pos}
+use lib.ListN.{length, take, drop, getD, set, length-drop, drop-of-length-le, take-append-drop}
+use lib.Seq.{drop-cons, drop-drop, getD-drop, length-take-le}
+use mir.Syntax.{w16}
+use lib.Signed.{mag}
+use mir.Val.{Fits, SFits, toZ, ofZ, hbits}
+use mir.ValLaws.{ofZ-toZ, toZ-fits}
+use Rattle.ints.specs.Ints.{eqZ}
+use Rattle.ints.proofs.Back.{eq-back, by-value}
+use Rattle.edits.specs.Change.{packed}
+use Rattle.changes.specs.Order.{All}
+use Rattle.changes.specs.Keys.{Put}
+use Rattle.changes.specs.Between.{betweenFrom, between, laidOut, differenceOf, rowFrom}
+use Rattle.changes.specs.Normal.{Front}
+use Rattle.changes.proofs.Order.{all-at}
+use Rattle.changes.proofs.Fronts.{front-of}
+use Rattle.changes.proofs.Keying.{put-one, put-none}
+
+-- the index that a number's lowest 16 bits are
+abbrev indexOf : ℕ → ℤ
+indexOf v = toZ w16 (v % 2 ^ 16)
+
+fits : (v : ℕ) → Fits w16 (v % 2 ^ 16)
+fits v = record { fits = omega arith }
+
+same-bits : (a : ℤ) (v : ℕ) → SFits w16 a → eqZ a (indexOf v) ≡ eqb (ofZ w16 a) (v % 2 ^ 16)
+same-bits a v h = sym (eq-back h (toZ-fits w16 (v % 2 ^ 16) (fits v))) ∙ ap (eqb (ofZ w16 a)) (ofZ-toZ w16 (v % 2 ^ 16) (fits v))
+
+-- one place of row y
+module _ (w y x : ℕ) (h : x < w) (a : ℤ) (v : ℕ) (f : SFits w16 a) where
+  numbered : packed (record { x = (y * w + x) % w; y = (y * w + x) / w; old = a; new = indexOf v }) ≡ y * 2 ^ 16 + x + ofZ w16 a * 2 ^ 32 + v % 2 ^ 16 * 2 ^ 48
+  unfolding packed
+  numbered = rw (digits-mod y h, digits-div y h, ofZ-toZ w16 (v % 2 ^ 16) (fits v)) (omega arith)
+
+  one-place : (l m : List ℤ) → map packed (betweenFrom w (y * w + x) (a ∷ l) (indexOf v ∷ m))
+      ≡ differenceOf (y * 2 ^ 16 + x) (ofZ w16 a) (v % 2 ^ 16) ++ map packed (betweenFrom w (suc (y * w + x)) l m)
+  unfolding betweenFrom differenceOf
+  one-place l m = rw (same-bits a v f) (pick (eqb (ofZ w16 a) (v % 2 ^ 16)))
+    where
+      pick : (b : Bool) → map packed (cond b (betweenFrom w (suc (y * w + x)) l m) (record { x = (y * w + x) % w; y = (y * w + x) / w; old = a; new = indexOf v } ∷ betweenFrom w (suc (y * w + x)) l m))
+          ≡ cond b [] ((y * 2 ^ 16 + x + ofZ w16 a * 2 ^ 32 + v % 2 ^ 16 * 2 ^ 48) ∷ []) ++ map packed (betweenFrom w (suc (y * w + x)) l m)
+      pick true = refl
+      pick false = rw numbered
+
+-- what is left of row y, and then the rows below
+pub row-between : (w y x : ℕ) (row l : List ℤ) (vs : List ℕ) → length row ≤ length vs → x + length row ≤ w → All (SFits w16) row
+    → map packed (betweenFrom w (y * w + x) (row ++ l) (map indexOf vs))
+    ≡ rowFrom (y * 2 ^ 16 + x) row vs ++ map packed (betweenFrom w (y * w + (x + length row)) l (map indexOf (drop (length row) vs)))
+unfolding rowFrom All
+row-between w y x [] l vs e h f = rw (add-zero x)
+row-between w y x (a ∷ row) l [] e h f = absurd (omega arith)
+row-between w y x (a ∷ row) l (v ∷ vs) e h f =
+    let next : suc (y * w + x) ≡ y * w + suc x = omega arith in
+    let place : suc (y * 2 ^ 16 + x) ≡ y * 2 ^ 16 + suc x = omega arith in
+    let end : x + suc (length row) ≡ suc x + length row = omega arith in
+    let below : List ℕ = map packed (betweenFrom w (y * w + (x + suc (length row))) l (map indexOf (drop (length row) vs))) in
+    let rest : map packed (betweenFrom w (suc (y * w + x)) (row ++ l) (map indexOf vs)) ≡ rowFrom (suc (y * 2 ^ 16 + x)) row vs ++ below =
+    rw (next, place, end) (row-between w y (suc x) row l vs (omega arith) (omega arith) (f .1)) in
+    one-place w y x (omega arith) a v (f .0) (row ++ l) (map indexOf vs)
+    ∙ ap (λ (k : List ℕ). differenceOf (y * 2 ^ 16 + x) (ofZ w16 a) (v % 2 ^ 16) ++ k) rest
+    ∙ sym (append-assoc (differenceOf (y * 2 ^ 16 + x) (ofZ w16 a) (v % 2 ^ 16)) (rowFrom (suc (y * 2 ^ 16 + x)) row vs) below)
+
+-- row y, and the rows below
+row-splits : (w y : ℕ) (l : List ℤ) (vs : List ℕ) → y * w + w ≤ length l → length l ≤ length vs → All (SFits w16) (take w (drop (y * w) l))
+    → map packed (betweenFrom w (y * w) (drop (y * w) l) (map indexOf (drop (y * w) vs)))
+    ≡ rowFrom (y * 2 ^ 16) (take w (drop (y * w) l)) (drop (y * w) vs) ++ map packed (betweenFrom w (y * w + w) (drop (y * w + w) l) (map indexOf (drop (y * w + w) vs)))
+row-splits w y l vs h k f =
+    let row : List ℤ = take w (drop (y * w) l) in
+    let lr : length row ≡ w = length-take-le w (drop (y * w) l) (omega (arith, length-drop (y * w) l)) in
+    rw (take-append-drop w (drop (y * w) l), lr, zero-add, add-zero (y * w), add-zero (y * 2 ^ 16), drop-drop w (y * w) l, drop-drop w (y * w) vs)
+    at (row-between w y 0 row (drop w (drop (y * w) l)) (drop (y * w) vs) (omega (arith, lr, length-drop (y * w) vs)) (omega (arith, lr)) f)
+
+map-take : {A B : Type 0} (f : A → B) (n : ℕ) (l : List A) → map f (take n l) ≡ take n (map f l)
+map-take f zero l = refl
+map-take f (suc n) [] = refl
+map-take f (suc n) (x ∷ l) = ap (λ r. f x ∷ r) (map-take f n l)
+
+-- more bits than there are indices
+pub between-take : (w p : ℕ) (l m : List ℤ) → betweenFrom w p l m ≡ betweenFrom w p l (take (length l) m)
+unfolding betweenFrom
+between-take w p [] m = refl
+between-take w p (a ∷ l) [] = refl
+between-take w p (a ∷ l) (b ∷ m) = rw (← between-take w (suc p) l m)
+
+-- ---- one difference
+module _ (l : List ℕ) (m k old new : ℕ) where
+  pub put-alike : old ≡ new → Put l m (differenceOf k old new) (m + 1) l m
+  unfolding differenceOf
+  put-alike e = rw (eq-eqb old new e) (put-none l m)
+
+  pub put-other : (old ≡ new → ⊥) → m < length l → Put l m (differenceOf k old new) (m + 1) (set l m (k + old * 2 ^ 32 + new * 2 ^ 48)) (m + 1)
+  unfolding differenceOf
+  put-other n h = rw (ne-eqb old new n) (put-one l m (k + old * 2 ^ 32 + new * 2 ^ 48) h)
+
+-- ---- one row, as the loop writes it
+module _ (row : List ℤ) (first at : ℕ) (s₀ : List ℕ) (m₀ : ℕ) where
+  pub record Rowing (s : List ℕ) (m x : ℕ) : Type 0 where
+    pub low : m ≤ at + x
+    pub upto : x ≤ length row
+    pub long : length s ≡ length s₀
+    pub behind : drop (at + x) s ≡ drop (at + x) s₀
+    pub fits : (i : ℕ) → i < x → SFits w16 (getD row i (pos 0))
+    pub done : take m s ++ rowFrom (first + x) (drop x row) (drop (at + x) s₀) ≡ take m₀ s₀ ++ rowFrom first row (drop at s₀)
+
+  pub rowing-start : m₀ ≤ at → Rowing s₀ m₀ 0
+  rowing-start h = record { low = omega arith; upto = omega arith; long = refl; behind = refl; fits = λ i h. absurd (omega arith); done = rw (add-zero first, add-zero at) }
+
+  module _ {s : List ℕ} {m x : ℕ} (r : Rowing s m x) where
+    -- what is read is a bit pattern of the picture
+    read : getD s (at + x) 0 ≡ getD s₀ (at + x) 0
+    read = rw (add-zero (at + x)) at (sym (getD-drop (at + x) s 0 0) ∙ ap (λ (l : List ℕ). getD l 0 0) (r .behind) ∙ getD-drop (at + x) s₀ 0 0)
+
+    module _ (h : x < length row) (fit : at + length row ≤ length s₀) where
+      pub rowing-room : m < length s
+      rowing-room = let a = r .low in let b = r .long in omega arith
+
+      next : rowFrom (first + x) (drop x row) (drop (at + x) s₀)
+          ≡ differenceOf (first + x) (ofZ w16 (getD row x (pos 0))) (getD s₀ (at + x) 0 % 2 ^ 16) ++ rowFrom (first + (x + 1)) (drop (x + 1) row) (drop (at + (x + 1)) s₀)
+      unfolding rowFrom
+      next =
+          let a : first + (x + 1) ≡ suc (first + x) = omega arith in
+          let b : at + (x + 1) ≡ suc (at + x) = omega arith in
+          let c : x + 1 ≡ suc x = omega arith in
+          rw (drop-cons row x (pos 0) h, drop-cons s₀ (at + x) 0 (omega arith), a, b, c)
+
+      pub rowing-next : {s′ : List ℕ} {old new r′ : ℕ} → mag (getD row x (pos 0)) < 2 ^ hbits w16 → old ≡ ofZ w16 (toZ w16 (ofZ w16 (getD row x (pos 0)))) → new ≡ getD s (at + x) 0 % 2 ^ 16
+          → Put s m (differenceOf (first + x) old new) (m + 1) s′ r′ → length s′ ≡ length s → Rowing s′ r′ (x + 1)
+      rowing-next {s′} {old} {new} {r′} g e f u t =
+          let fit-here : SFits w16 (getD row x (pos 0)) = record { sfits = g } in
+          let lo = r .low in
+          let mo = u .most in
+          let more : ℕ = at + x - m in
+          let z : m + 1 + more ≡ at + (x + 1) = omega arith in
+          let one : at + x + 1 ≡ at + (x + 1) = omega arith in
+          let kept : drop (at + (x + 1)) s′ ≡ drop (at + (x + 1)) s =
+          rw (← z) (sym (drop-drop more (m + 1) s′) ∙ ap (drop more) (u .behind) ∙ drop-drop more (m + 1) s) in
+          let rest : List ℕ = rowFrom (first + (x + 1)) (drop (x + 1) row) (drop (at + (x + 1)) s₀) in
+          let here : differenceOf (first + x) old new ≡ differenceOf (first + x) (ofZ w16 (getD row x (pos 0))) (getD s₀ (at + x) 0 % 2 ^ 16) = rw (by-value (ofZ w16) fit-here e, f, read) in
+          record {
+            low = omega arith;
+            upto = omega arith;
+            long = t ∙ r .long;
+            behind = kept ∙ rw (← one) (sym (drop-drop 1 (at + x) s) ∙ ap (drop 1) (r .behind) ∙ drop-drop 1 (at + x) s₀);
+            fits = λ i k. elim (ℕ-discrete i x) [ yes q ↦ rw q fit-here | no q ↦ r .fits i (omega arith) ];
+            done = ap (λ (k : List ℕ). k ++ rest) (u .front) ∙ append-assoc (take m s) (differenceOf (first + x) old new) rest
+                ∙ ap (λ (k : List ℕ). take m s ++ k) (ap (λ (k : List ℕ). k ++ rest) here ∙ sym next) ∙ r .done;
+          }
+
+    pub rowing-end : length row ≤ x → Put s₀ m₀ (rowFrom first row (drop at s₀)) (at + length row) s m
+    unfolding rowFrom
+    rowing-end h =
+        let u = r .upto in
+        let e : x ≡ length row = omega arith in
+        let none : drop x row ≡ [] = drop-of-length-le row h in
+        record {
+          front = sym (append-nil (take m s)) ∙ (rw none at (r .done));
+          most = rw (← e) (r .low);
+          behind = rw (← e) (r .behind);
+        }
+
+    pub rowing-fits : length row ≤ x → All (SFits w16) row
+    rowing-fits h = all-at (SFits w16) (pos 0) row (λ i k. r .fits i (omega arith))
+
+-- ---- all rows
+module _ (w h : ℕ) (l : List ℤ) (s₀ : List ℕ) where
+  pub record Listing (s : List ℕ) (m y : ℕ) : Type 0 where
+    pub low : m ≤ y * w
+    pub upto : y ≤ h
+    pub long : length s ≡ length s₀
+    pub behind : drop (y * w) s ≡ drop (y * w) s₀
+    pub done : take m s ++ map packed (betweenFrom w (y * w) (drop (y * w) l) (map indexOf (drop (y * w) s₀))) ≡ map packed (betweenFrom w 0 l (map indexOf s₀))
+
+  pub listing-start : Listing s₀ 0 0
+  listing-start = record { low = omega arith; upto = omega arith; long = refl; behind = rw (zero-mul w); done = rw (zero-mul w) }
+
+  -- row y as it is lent
+  abbrev lent : ℕ → List ℤ
+  lent y = take (y * w + w - y * w) (drop (y * w) l)
+
+  module _ (size : length l ≡ w * h) (fit : length l ≤ length s₀) {s : List ℕ} {m y : ℕ} (g : Listing s m y) where
+    module _ (k : y < h) where
+      pub row-inside : y * w + w ≤ length l
+      row-inside = rw (size, mul-comm w h) (omega (arith, suc-mul y w, mul-le-mul-right w k))
+
+      length-lent : length (lent y) ≡ w
+      length-lent = length-take-le (y * w + w - y * w) (drop (y * w) l) (omega (arith, length-drop (y * w) l, row-inside)) ∙ omega arith
+
+      pub listing-fits : w ≤ 2 ^ 16 → h ≤ 2 ^ 16 → (m ≤ y * w) × (y * w + length (lent y) ≤ length s) × (y * 2 ^ 16 + length (lent y) ≤ 2 ^ 32)
+      listing-fits a b = (g .low, rw (length-lent, g .long) (omega (arith, row-inside)), rw length-lent (omega arith))
+
+      pub listing-next : All (SFits w16) (lent y) → {s′ : List ℕ} {r : ℕ}
+          → Put s m (rowFrom (y * 2 ^ 16) (lent y) (drop (y * w) s)) (y * w + length (lent y)) s′ r → length s′ ≡ length s → Listing s′ r (y + 1)
+      listing-next f {s′} {r} u t =
+          let wide : y * w + w - y * w ≡ w = omega arith in
+          let nx : (y + 1) * w ≡ y * w + w = omega (arith, add-mul y 1 w, one-mul w) in
+          let end : y * w + length (lent y) ≡ (y + 1) * w = omega (arith, length-lent) in
+          let below : List ℕ = map packed (betweenFrom w ((y + 1) * w) (drop ((y + 1) * w) l) (map indexOf (drop ((y + 1) * w) s₀))) in
+          let split : map packed (betweenFrom w (y * w) (drop (y * w) l) (map indexOf (drop (y * w) s₀))) ≡ rowFrom (y * 2 ^ 16) (lent y) (drop (y * w) s₀) ++ below =
+          rw (nx, wide) (row-splits w y l s₀ row-inside fit (rw wide at f)) in
+          let n : ℕ = length (lent y) in
+          let passed : drop (y * w + n) s ≡ drop (y * w + n) s₀ = sym (drop-drop n (y * w) s) ∙ ap (drop n) (g .behind) ∙ drop-drop n (y * w) s₀ in
+          record {
+            low = rw (← end) (u .most);
+            upto = omega arith;
+            long = t ∙ g .long;
+            behind = rw (← end) (u .behind ∙ passed);
+            done = ap (λ (b : List ℕ). b ++ below) (u .front ∙ ap (λ (b : List ℕ). take m s ++ rowFrom (y * 2 ^ 16) (lent y) b) (g .behind))
+                ∙ append-assoc (take m s) (rowFrom (y * 2 ^ 16) (lent y) (drop (y * w) s₀)) below ∙ ap (λ (b : List ℕ). take m s ++ b) (sym split) ∙ g .done;
+          }
+
+    pub listing-end : h ≤ y → Front (map packed (between w l (laidOut (length l) s₀))) s m
+    unfolding between laidOut betweenFrom
+    listing-end k =
+        let u = g .upto in
+        let e : y ≡ h = omega arith in
+        let none : drop (y * w) l ≡ [] = drop-of-length-le l {i = y * w} (rw (size, e, mul-comm w h) (omega arith)) in
+        let b : y * w ≤ length s = rw (g .long, e, mul-comm h w, ← size) fit in
+        front-of (sym (append-nil (take m s)) ∙ (rw none at (g .done)) ∙ ap (map packed) (between-take w 0 l (map indexOf s₀) ∙ ap (betweenFrom w 0 l) (sym (map-take indexOf (length l) s₀)))) (let lo = g .low in omega arith)
