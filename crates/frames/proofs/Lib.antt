@@ -1,0 +1,9 @@
+pub mod Hexes
+pub mod Digits
+pub mod Filling
+pub mod Changes
+pub mod Indices
+pub mod Sizes
+pub mod Lines
+pub mod Trips
+pub mod Opened

@@ -1,0 +1,50 @@
+-- `pair`: both digits, or 256. Assumes nothing.
+use Rattle.frames.specs.Hex.{pairVal}
+use borrow.Author.Tests.{lt-ltb, le-ltb}
+use borrow.Author.Needs.{needs}
+use Rattle.frames.proofs.hex.pair.Statement.{statement}
+use Rattle.frames.proofs.hex.pair.Tie as tie
+
+digit-requires : tie.Need-digit-requires
+digit-requires c κs = search needs
+
+wide-requires : tie.Need-wide-requires
+wide-requires c κs = search needs
+
+digit-requires-2 : tie.Need-digit-requires-2
+digit-requires-2 c κs = search needs
+
+wide-requires-2 : tie.Need-wide-requires-2
+wide-requires-2 c κs = search needs
+
+mul-result : tie.Need-mul-result
+mul-result c = search needs
+
+add-result : tie.Need-add-result
+add-result c = search needs
+
+returns : tie.Need-returns
+unfolding pairVal
+returns c = rw (← c .before .before .before .before .before .digit .ensures, ← c .before .before .before .digit2 .ensures, ← c .before .before .before .before .wide .ensures, ← c .before .before .wide2 .ensures, lt-ltb _ _ (c .before .if1 .taken), lt-ltb _ _ (c .if2 .taken))
+
+returns-2 : tie.Need-returns-2
+unfolding pairVal
+returns-2 c = rw (← c .before .before .before .before .before .digit .ensures, ← c .before .before .before .digit2 .ensures, ← c .before .before .before .before .wide .ensures, ← c .before .before .wide2 .ensures, lt-ltb _ _ (c .before .if1 .taken), le-ltb _ _ (c .if2 .left))
+
+returns-3 : tie.Need-returns-3
+unfolding pairVal
+returns-3 c = rw (← c .before .before .before .before .digit .ensures, ← c .before .before .digit2 .ensures, ← c .before .before .before .wide .ensures, ← c .before .wide2 .ensures, le-ltb _ _ (c .if1 .left))
+
+pub pair-spec : {M : Type 1} → statement M
+pair-spec =
+    tie.close
+    (tie.spec
+    digit-requires
+    wide-requires
+    digit-requires-2
+    wide-requires-2
+    mul-result
+    add-result
+    returns
+    returns-2
+    returns-3)

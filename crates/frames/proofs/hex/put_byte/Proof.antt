@@ -1,0 +1,44 @@
+-- `put_byte`: two stores are a run of two. Assumes nothing.
+use denote.Ref.{now}
+use Rattle.records.proofs.Splice.{splice-sets}
+use Rattle.frames.specs.Hex.{hexByte}
+use lib.ListN.{length-set}
+use native.Mathlib.Numerals.{add-one}
+use native.Mathlib.Omega.{arith}
+use borrow.Author.Needs.{needs}
+use Rattle.frames.proofs.hex.put_byte.Statement.{statement}
+use Rattle.frames.proofs.hex.put_byte.Tie as tie
+
+upper-requires : tie.Need-upper-requires
+upper-requires c κs = search needs
+
+upper-requires-2 : tie.Need-upper-requires-2
+upper-requires-2 c κs = search needs
+
+slice-write-out : tie.Need-slice-write-out
+slice-write-out c = search needs
+
+add-out : tie.Need-add-out
+add-out c = search needs
+
+slice-write-out-2 : tie.Need-slice-write-out-2
+slice-write-out-2 c = simp length-set (omega arith)
+
+same-length : tie.Need-same-length
+same-length c = search needs
+
+returns : tie.Need-returns
+unfolding hexByte
+returns c = rw (c .before .upper .ensures, c .upper2 .ensures, add-one) (splice-sets (hexByte (c .before .before .before .args .b)) (now (c .before .before .before .args .out)) (c .before .before .before .args .at) (omega arith))
+
+pub put-byte-spec : {M : Type 1} → statement M
+put-byte-spec =
+    tie.close
+    (tie.spec
+    upper-requires
+    upper-requires-2
+    slice-write-out
+    add-out
+    slice-write-out-2
+    same-length
+    returns)

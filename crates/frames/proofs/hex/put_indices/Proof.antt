@@ -1,0 +1,75 @@
+-- `put_indices`: the digits of the first i indices stand. Assumes nothing.
+use Rattle.frames.proofs.Indices.{bytes-at}
+use Rattle.ints.proofs.Back.{back}
+use mir.Syntax.{w16}
+use Rattle.frames.proofs.Digits.{Hexing, hexing-none, hexing-next, hexing-all}
+use Rattle.frames.specs.Writing.{byteOf}
+use mathlib.Core.List.{map}
+use lib.ListN.{length, length-map, getD}
+use lib.IntN.{pos}
+use denote.Ref.{now}
+use Prim.Native.Nat.{_-_}
+use borrow.Author.Needs.{needs}
+use Rattle.frames.proofs.hex.put_indices.Statement.{statement}
+use Rattle.frames.proofs.hex.put_indices.Tie as tie
+
+abbrev Inv-loop : tie.InvT-loop
+Inv-loop out₀ at indices i₀ out i = Hexing (map byteOf indices) out₀ at out i
+
+abbrev μ-loop : tie.MeasureT-loop
+μ-loop out₀ at indices i₀ out i = length indices - i
+
+loop-holds : tie.Need-loop-holds Inv-loop μ-loop
+loop-holds c = hexing-none _ _ _
+
+mul-put-byte : tie.Need-mul-put-byte Inv-loop μ-loop
+mul-put-byte c = search needs
+
+add-put-byte : tie.Need-add-put-byte Inv-loop μ-loop
+add-put-byte c = search needs
+
+mul-index-byte : tie.Need-mul-index-byte Inv-loop μ-loop
+mul-index-byte c = search needs
+
+shared-slice-copy-out-index-byte : tie.Need-shared-slice-copy-out-index-byte Inv-loop μ-loop
+shared-slice-copy-out-index-byte c = search needs
+
+index-byte-requires : tie.Need-index-byte-requires Inv-loop μ-loop
+index-byte-requires c κs = search needs
+
+put-byte-requires : tie.Need-put-byte-requires Inv-loop μ-loop
+put-byte-requires c κs = search needs
+
+add-i : tie.Need-add-i Inv-loop μ-loop
+add-i c = search needs
+
+loop-less : tie.Need-loop-less Inv-loop μ-loop
+loop-less c = search needs
+
+loop-again : tie.Need-loop-again Inv-loop μ-loop
+loop-again c = hexing-next _ _ _ (rw (length-map (now (c .before .before .before .before .before .before .before .before .before .args .indices)) byteOf) (c .before .before .before .before .before .before .before .before .before .pre)) _ (c .before .before .before .before .before .before .before .loop .i) (c .before .before .before .before .before .before .before .loop .inv) _ (c .before .before .before .index-byte .result) (rw (length-map (now (c .before .before .before .before .before .before .before .before .before .args .indices)) byteOf) (c .before .before .before .before .before .before .loop-test .taken)) (bytes-at (now (c .before .before .before .before .before .before .before .before .before .args .indices)) (c .before .before .before .before .before .before .before .loop .i) (c .before .before .before .index-byte .result) (rw (back w16 (getD (now (c .before .before .before .before .before .before .before .before .before .args .indices)) (c .before .before .before .before .before .before .before .loop .i) (pos 0)) (c .before .before .before .before .index-byte-arg .given)) at (c .before .before .before .index-byte .ensures))) (c .before .before .put-byte .ensures)
+
+same-length : tie.Need-same-length Inv-loop μ-loop
+same-length c = c .before .loop .inv .long
+
+returns : tie.Need-returns Inv-loop μ-loop
+returns c = hexing-all _ _ _ (rw (length-map (now (c .before .before .before .args .indices)) byteOf) (c .before .before .before .pre)) _ (c .before .loop .i) (c .before .loop .inv) (rw (length-map (now (c .before .before .before .args .indices)) byteOf) (c .loop-test .left))
+
+pub put-indices-spec : {M : Type 1} → statement M
+put-indices-spec =
+    tie.close
+    (tie.spec
+    Inv-loop
+    μ-loop
+    loop-holds
+    mul-put-byte
+    add-put-byte
+    mul-index-byte
+    shared-slice-copy-out-index-byte
+    index-byte-requires
+    put-byte-requires
+    add-i
+    loop-less
+    loop-again
+    same-length
+    returns)

@@ -1,0 +1,44 @@
+-- `put_head`: five bytes, put as one run. Assumes nothing.
+use Rattle.frames.specs.Writing.{headOf}
+use Rattle.records.specs.Bytes.{le}
+use borrow.Author.Needs.{needs}
+use Rattle.frames.proofs.line.put_head.Statement.{statement}
+use Rattle.frames.proofs.line.put_head.Tie as tie
+
+cast-low : tie.Need-cast-low
+cast-low c = search needs
+
+cast-high : tie.Need-cast-high
+cast-high c = search needs
+
+mark-of-requires : tie.Need-mark-of-requires
+mark-of-requires c κs = search needs
+
+cast-entries : tie.Need-cast-entries
+cast-entries c = search needs
+
+slice-aggregate-put-bytes : tie.Need-slice-aggregate-put-bytes
+slice-aggregate-put-bytes c = search needs
+
+put-bytes-requires : tie.Need-put-bytes-requires
+put-bytes-requires c κs = search needs
+
+same-length : tie.Need-same-length
+same-length c = search needs
+
+returns : tie.Need-returns
+unfolding headOf le
+returns c = rw (c .before .before .before .before .before .mark-of .ensures) at (c .before .before .put-bytes .ensures)
+
+pub put-head-spec : {M : Type 1} → statement M
+put-head-spec =
+    tie.close
+    (tie.spec
+    cast-low
+    cast-high
+    mark-of-requires
+    cast-entries
+    slice-aggregate-put-bytes
+    put-bytes-requires
+    same-length
+    returns)

@@ -1,0 +1,35 @@
+-- `put_number`: two digits and the newline. Assumes nothing.
+use native.Mathlib.Omega.{arith}
+use Rattle.frames.proofs.Lines.{length-number, number-written}
+use borrow.Author.Needs.{needs}
+use Rattle.frames.proofs.line.put_number.Statement.{statement}
+use Rattle.frames.proofs.line.put_number.Tie as tie
+
+put-byte-requires : tie.Need-put-byte-requires
+put-byte-requires c κs = search needs
+
+add-put-newline : tie.Need-add-put-newline
+add-put-newline c = search needs
+
+put-newline-requires : tie.Need-put-newline-requires
+put-newline-requires c κs = search needs
+
+add-result : tie.Need-add-result
+add-result c = search needs
+
+same-length : tie.Need-same-length
+same-length c = search needs
+
+returns : tie.Need-returns
+returns c = let start = c .before .before .before .before .before .before .before .before .before in let n = start .args .n in (number-written n _ _ _ _ (start .pre) (c .before .before .before .before .before .before .put-byte .ensures) (c .before .before .put-newline .ensures), omega (arith, length-number n))
+
+pub put-number-spec : {M : Type 1} → statement M
+put-number-spec =
+    tie.close
+    (tie.spec
+    put-byte-requires
+    add-put-newline
+    put-newline-requires
+    add-result
+    same-length
+    returns)

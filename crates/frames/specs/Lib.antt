@@ -1,0 +1,5 @@
+pub mod Hex
+pub mod Reading
+pub mod Spelt
+pub mod Writing
+pub mod Opening

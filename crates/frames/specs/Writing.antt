@@ -1,0 +1,25 @@
+-- What `panel` prints: document 01, "Program `panel`". Definitions only. Assumes nothing.
+use Prim.Native.Nat.{ℕ, _%_}
+use mathlib.Core.Bool.{Bool}
+use mathlib.Core.List.{List, [], _∷_, _++_, map}
+use lib.IntN.{ℤ, pos, negsuc}
+use Rattle.sheet.specs.Document.{mark}
+use Rattle.records.specs.Bytes.{le}
+use Rattle.frames.specs.Hex.{hexOf}
+
+-- an index as a byte: "FF is -1"
+unfoldable pub byteOf : ℤ → ℕ
+byteOf (pos n) = n % 256
+byteOf (negsuc n) = 255
+
+-- "answer (00 done, FF still, else number), position (2), dirty, k"
+unfoldable pub headOf : ℕ → ℕ → Bool → ℕ → List ℕ
+headOf answer position dirty k = answer ∷ le 2 position ++ (mark dirty ∷ le 1 k)
+
+-- "It prints, upper-case hexadecimal: answer .., position (2), dirty, k, indices", and a newline
+unfoldable pub lineOf : ℕ → ℕ → Bool → ℕ → List ℤ → List ℕ
+lineOf answer position dirty k indices = hexOf (headOf answer position dirty k ++ map byteOf indices) ++ (10 ∷ [])
+
+-- "prints the number only"
+unfoldable pub numberLine : ℕ → List ℕ
+numberLine n = hexOf (n ∷ []) ++ (10 ∷ [])

@@ -1,0 +1,38 @@
+// The lines of `panel`: hexadecimal digits to a frame, and a state to a line of digits.
+//
+// proofs/Trips.antt has the laws between the two: what was written is read again.
+mod carry;
+mod hex;
+mod line;
+mod reading;
+
+pub use carry::take_bytes;
+pub use carry::take_changes;
+pub use carry::take_indices;
+use limits::Rgb;
+pub use line::put_line;
+pub use line::put_number;
+pub use reading::decode;
+
+// Digits of the longest line that is read, and the bytes that they spell.
+pub const MAX_DIGITS: usize = 16_384;
+
+// What a line is read as. An opening's palette and indices, and the changes of a pixel frame, stay in the
+// frame's bytes.
+pub enum Frame {
+    Open { w: usize, h: usize, k: usize },
+    Pixels { tool: u8, n: usize },
+    Set { index: usize, rgb: Rgb },
+    Add { rgb: Rgb },
+    Merge { from: usize, into: usize },
+    Undo,
+    Redo,
+    Mark,
+    Malformed,
+}
+
+// How many bytes the digits of a line spell.
+pub enum Spelt {
+    Bytes(usize),
+    Bad,
+}
