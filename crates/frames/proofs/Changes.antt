@@ -33,7 +33,7 @@ module _ (x y z : ℕ) (hx : x < 65536) (hy : y < 65536) (hz : z < 65536) where
 
 -- ---- all of them
 module _ (bs : List ℕ) where
-  length-changes : (i n : ℕ) → length (changesFrom bs i n) ≡ n
+  pub length-changes : (i n : ℕ) → length (changesFrom bs i n) ≡ n
   unfolding changesFrom
   length-changes i zero = refl
   length-changes i (suc n) = ap suc (length-changes (i + 6) n)
