@@ -1,18 +1,18 @@
 -- A loop that copies the front of a list over the front of a buffer. Assumes nothing.
-use Prim.Native.Nat.{ℕ, _+_, _%_, _≤_, _<_, _^_}
+use Prim.Native.Nat.{ℕ, zero, suc, _+_, _%_, _≤_, _<_, _^_}
 use mathlib.Core.Path.{_≡_, refl, sym, ap, _∙_}
 use mathlib.Core.List.{List, [], _∷_, map}
 use native.Mathlib.Omega.{arith}
 use native.Mathlib.Numerals.{add-one}
-use native.Mathlib.Decide.{ℕ-discrete}
+use native.Mathlib.Decide.{ℕ-discrete, decLt}
 use lib.IntN.{ℤ, pos}
-use lib.ListN.{length, take, drop, getD, set, length-map, List·getD-map}
+use lib.ListN.{length, take, drop, getD, set, length-take, length-map, List·getD-map}
 use lib.Signed.{mag}
 use mir.Syntax.{w16}
 use mir.Val.{SFits, toZ, ofZ, hbits}
 use mir.ValLaws.{ofZ-fits, toZ-ofZ}
 use Rattle.ints.proofs.Back.{by-value}
-use lib.Seq.{take-suc, take-all, take-at, length-take-le}
+use lib.Seq.{take-suc, take-all, take-at, length-take-le, take-set-lt, take-set-le, set-out}
 use Rattle.lists.specs.Lists.{over}
 use Rattle.changes.specs.Order.{All}
 use Rattle.changes.specs.Between.{laidOut}
@@ -88,3 +88,23 @@ module _ (l : List ℤ) (o₀ : List ℕ) where
       laying-laid =
           let front : take (length l) o ≡ bits = ap (take (length l)) laying-end ∙ take-at bits (drop (length bits) o₀) (length l) (length-map l (ofZ w16)) in
           rw front (bits-back l (all-at (SFits w16) (pos 0) l (λ j q. c .fits j (omega arith))))
+
+-- ---- an index painted in a picture that is laid out
+map-set : {A B : Type 0} (f : A → B) (l : List A) (i : ℕ) (a : A) → map f (set l i a) ≡ set (map f l) i (f a)
+map-set f [] i a = refl
+map-set f (x ∷ l) zero a = refl
+map-set f (x ∷ l) (suc i) a = ap (λ r. f x ∷ r) (map-set f l i a)
+
+pub laid-set : (n : ℕ) (s : List ℕ) (p : ℕ) (z : ℤ) → SFits w16 z → laidOut n (set s p (ofZ w16 z)) ≡ set (laidOut n s) p z
+unfolding laidOut
+laid-set n s p z f =
+    let v : ℕ = ofZ w16 z in
+    let index : ℕ → ℤ = λ v. toZ w16 (v % 2 ^ 16) in
+    elim (decLt p n) [
+      | yes h ↦ ap (map index) (take-set-lt n s p v h) ∙ map-set index (take n s) p v ∙ ap (set (map index (take n s)) p) (bit-back z f)
+      | no h ↦ ap (map index) (take-set-le n s p v (omega arith)) ∙ sym (set-out (map index (take n s)) p z (omega (arith, length-map (take n s) index, length-take n s)))
+    ]
+
+pub painted-laid : (s : List ℕ) (p : ℕ) {b : ℕ} (z : ℤ) → SFits w16 z → b ≡ ofZ w16 (toZ w16 (ofZ w16 z))
+    → (set s p b ≡ set s p (ofZ w16 z)) × ((n : ℕ) → laidOut n (set s p b) ≡ set (laidOut n s) p z)
+painted-laid s p {b} z f e = let bits : b ≡ ofZ w16 z = by-value (ofZ w16) f e in (rw bits, λ n. rw bits (laid-set n s p z f))

@@ -3,8 +3,8 @@
 use apply::bits_of;
 ghost use mathlib.Core.Path.{_≡_};
 ghost use mathlib.Core.List.{map};
-ghost use Prim.Native.Nat.{_+_, _*_, _≤_, _<_, _^_};
-ghost use lib.ListN.{length, drop};
+ghost use Prim.Native.Nat.{ℕ, _+_, _*_, _≤_, _<_, _^_};
+ghost use lib.ListN.{length, drop, set};
 ghost use mir.Syntax.{w16};
 ghost use mir.Val.{SFits, ofZ};
 ghost use Rattle.lists.specs.Lists.{over};
@@ -35,6 +35,16 @@ pub fn lay(indices: &[i16], scratch: &mut [u64])
         scratch[i] = bits;
         i += 1;
     }
+}
+
+// An index painted at place p of a picture that is laid out.
+pub fn paint(scratch: &mut [u64], p: usize, index: i16)
+    requires { ⌜ p < length (now scratch) ⌝ }
+    ensures { λ _. ⌜ now (scratch .exit) ≡ set (now (scratch .entry)) p (ofZ w16 index) ⌝ }
+    ensures { λ _. ⌜ ((n : ℕ) → laidOut n (now (scratch .exit)) ≡ set (laidOut n (now (scratch .entry))) p index) ⌝ }
+{
+    let bits = bits_of(index) as u64;
+    scratch[p] = bits;
 }
 
 // The change of old to new at m, where they differ; answers the next place.

@@ -8,6 +8,7 @@ mod sort;
 
 pub use between::differences;
 pub use between::lay;
+pub use between::paint;
 pub use copy::copy_out;
 pub use copy::hand_out;
 pub use normal::normalize_in;
