@@ -1,0 +1,4 @@
+pub mod Regions
+pub mod Points
+pub mod Tests
+pub mod Results

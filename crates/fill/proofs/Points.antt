@@ -1,0 +1,82 @@
+-- The point that a fill starts from. Assumes nothing.
+use mathlib.Core.Path.{_≡_, refl, sym, _∙_}
+use mathlib.Core.Bool.{Bool, true, false, cond}
+use Prim.Native.Nat.{ℕ, _+_, _*_, _≤_, _<_}
+use native.Mathlib.Omega.{arith}
+use native.Mathlib.Nat.{mul-le-mul, le-refl, mul-comm, add-mul, one-mul}
+use borrow.Author.Tests.{leb-true, ltb-true}
+use lib.Dec.{leb}
+use lib.IntN.{ℤ, pos, negsuc}
+use Rattle.limits.specs.Checks.{firstOf, refusedOr}
+use Rattle.ints.specs.Ints.{far, fromZero}
+use Rattle.ints.proofs.Back.{never}
+use Rattle.selection.specs.declared.Selection.{Selection}
+use Rattle.selection.specs.declared.Held.{Held}
+use Rattle.selection.specs.declared.Held.the-variants as held
+use Rattle.selection.specs.Selection.{inside, inSpan, contains, containsI}
+use Rattle.selection.specs.Calls.{farAway, containsIOf}
+use Rattle.flood.proofs.Reachable.{and-l, and-r}
+
+abbrev heldBy : Bool → Held
+heldBy b = cond b held.Inside held.Outside
+
+held-is : (s : Selection) (x y : ℤ) → far x ≡ false → far y ≡ false → containsIOf s x y ≡ heldBy (containsI s x y)
+unfolding containsIOf farAway firstOf refusedOr
+held-is s x y p q = rw (p, q)
+
+-- what each answer of it tells
+module _ (s : Selection) (x y : ℤ) (p : far x ≡ false) (q : far y ≡ false) where
+  pub by-inside : {r : Held} → r ≡ containsIOf s x y → r ≡ held.Inside → true ≡ containsI s x y
+  by-inside e f = go (containsI s x y) (sym f ∙ e ∙ held-is s x y p q)
+    where
+      go : (b : Bool) → held.Inside ≡ heldBy b → true ≡ b
+      go true e = refl
+      go false e = cc
+
+  pub by-outside : {r : Held} → r ≡ containsIOf s x y → r ≡ held.Outside → false ≡ containsI s x y
+  by-outside e f = go (containsI s x y) (sym f ∙ e ∙ held-is s x y p q)
+    where
+      go : (b : Bool) → held.Outside ≡ heldBy b → false ≡ b
+      go true e = cc
+      go false e = refl
+
+  pub by-refused : {r : Held} {n : ℕ} → r ≡ containsIOf s x y → r ≡ held.Refused n → false ≡ containsI s x y
+  by-refused {n = n} e f = go (containsI s x y) (sym f ∙ e ∙ held-is s x y p q)
+    where
+      go : (b : Bool) → held.Refused n ≡ heldBy b → false ≡ b
+      go true e = cc
+      go false e = refl
+
+-- a place of a span that ends in `side` is below it
+in-side : (start count at side : ℕ) → inSpan start count at ≡ true → start + count ≤ side → at < side
+unfolding inSpan
+in-side start count at side e h = omega (arith, ltb-true at (start + count) (and-r (leb start at) _ e))
+
+pub record OnSheet (w h : ℕ) (x y : ℤ) : Type 0 where
+  pub column : fromZero x < w
+  pub row : fromZero y < h
+
+pub on-sheet : (s : Selection) (x y : ℤ) (w h : ℕ) → containsI s x y ≡ true → inside s w h ≡ true → OnSheet w h x y
+unfolding containsI contains inside fromZero
+on-sheet s (pos x) (pos y) w h e i = record {
+  column = in-side (s .x) (s .w) x w (and-l (inSpan (s .x) (s .w) x) _ e) (leb-true (s .x + s .w) w (and-l (leb (s .x + s .w) w) _ i));
+  row = in-side (s .y) (s .h) y h (and-r (inSpan (s .x) (s .w) x) _ e) (leb-true (s .y + s .h) h (and-r (leb (s .x + s .w) w) _ i));
+}
+on-sheet s (pos x) (negsuc y) w h e i = never e
+on-sheet s (negsuc x) y w h e i = never e
+
+-- the start is a place of the sheet
+start-in : (w h x y : ℕ) → x < w → y < h → y * w + x < w * h
+start-in w h x y a b =
+    let r : (y + 1) * w ≤ h * w = (let k : y + 1 ≤ h = omega arith in mul-le-mul k (le-refl w)) in
+    omega (arith, add-mul y 1 w, one-mul w, mul-comm h w)
+
+module _ {w h : ℕ} {x y : ℤ} (on : OnSheet w h x y) (narrow : w ≤ 1024) (low : h ≤ 1024) (row column : ℕ) (down : row ≡ fromZero y) (across : column ≡ fromZero x) where
+  pub start-on : row * w + column < w * h
+  start-on = rw (down, across) (start-in w h (fromZero x) (fromZero y) (on .column) (on .row))
+
+  pub few : w * h ≤ 1048576
+  few = mul-le-mul narrow low
+
+pub rows-few : (w h : ℕ) → h ≤ 1024 → w * h ≤ 1024 * w
+rows-few w h low = rw (mul-comm w h) (mul-le-mul low (le-refl w))
