@@ -14,7 +14,7 @@ pub use line::put_line;
 pub use line::put_number;
 pub use reading::decode;
 
-// Digits of the longest line that is read, and the bytes that they spell.
+// Digits of the longest line that is read: 8,192 bytes.
 pub const MAX_DIGITS: usize = 16_384;
 
 // What a line is read as. An opening's palette and indices, and the changes of a pixel frame, stay in the

@@ -7,3 +7,4 @@ pub mod Feeding
 pub mod Turns
 pub mod Pours
 pub mod Printed
+pub mod Played

@@ -1,3 +1,4 @@
 pub mod Lines
 pub mod Panel
 pub mod Memory
+pub mod Played

@@ -64,7 +64,17 @@ add-result-2 c = search needs
 
 returns : tie.Need-returns
 unfolding changeAt
-returns c = let x = c .before .before .before .before .before .before .two-wide in let y = c .before .before .before .two-wide2 in let z = c .two-wide3 in let i = c .before .before .before .before .before .before .before .before .before .before .args .i in let e : i + 2 + 1 ≡ i + 3 = omega arith in let f : i + 4 + 1 ≡ i + 5 = omega arith in put-together (x .result) (y .result) (z .result) (x .ensures .1) (y .ensures .1) (z .ensures .1) ∙ rw (x .ensures .0, y .ensures .0, z .ensures .0, e, f)
+returns c =
+    let at-two-wide2 = c .before .before .before in
+    let at-two-wide = at-two-wide2 .before .before .before in
+    let start = at-two-wide .before .before .before .before in
+    let x = at-two-wide .two-wide in
+    let y = at-two-wide2 .two-wide2 in
+    let z = c .two-wide3 in
+    let i = start .args .i in
+    let e : i + 2 + 1 ≡ i + 3 = omega arith in
+    let f : i + 4 + 1 ≡ i + 5 = omega arith in
+    put-together (x .result) (y .result) (z .result) (x .ensures .1) (y .ensures .1) (z .ensures .1) ∙ rw (x .ensures .0, y .ensures .0, z .ensures .0, e, f)
 
 pub change-at-spec : {M : Type 1} → statement M
 change-at-spec =

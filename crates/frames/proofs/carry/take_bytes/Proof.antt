@@ -29,7 +29,11 @@ loop-less : tie.Need-loop-less Inv-loop μ-loop
 loop-less c = search needs
 
 loop-again : tie.Need-loop-again Inv-loop μ-loop
-loop-again c = filling-next _ _ (c .before .before .before .pre) _ (c .before .before .loop .i) (c .before .before .loop .inv) 0 _ (c .before .loop-test .taken) refl
+loop-again c =
+    let at-loop-test = c .before in
+    let at-loop = at-loop-test .before in
+    let start = at-loop .before in
+    filling-next _ _ (start .pre) _ (at-loop .loop .i) (at-loop .loop .inv) 0 _ (at-loop-test .loop-test .taken) refl
 
 same-length : tie.Need-same-length Inv-loop μ-loop
 same-length c = c .before .loop .inv .long

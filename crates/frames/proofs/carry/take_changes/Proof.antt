@@ -38,13 +38,23 @@ loop-less : tie.Need-loop-less Inv-loop μ-loop
 loop-less c = search needs
 
 loop-again : tie.Need-loop-again Inv-loop μ-loop
-loop-again c = let start = c .before .before .before .before .before in let at = c .before .before .loop in (search needs, search needs, copied-next _ _ (start .args .list .now) (start .pre .1) (at .list) (at .i) _ (at .inv) (c .before .loop-test .taken) (c .change-at .ensures))
+loop-again c =
+    let at-loop-test = c .before in
+    let at-loop = at-loop-test .before in
+    let at-before = at-loop .before .before in
+    let start = at-before .before in
+    let at = at-loop .loop in
+    (search needs, search needs, copied-next _ _ (start .args .list .now) (start .pre .1) (at .list) (at .i) _ (at .inv) (at-loop-test .loop-test .taken) (c .change-at .ensures))
 
 same-length : tie.Need-same-length Inv-loop μ-loop
 same-length c = c .before .loop .inv .1
 
 returns : tie.Need-returns Inv-loop μ-loop
-returns c = let at = c .before .loop in copied-all _ _ (c .before .before .before .before .args .list .now) (c .before .before .before .before .pre .1) (at .list) (at .i) (at .inv) (c .loop-test .left)
+returns c =
+    let at-loop = c .before in
+    let start = at-loop .before .before .before in
+    let at = at-loop .loop in
+    copied-all _ _ (start .args .list .now) (start .pre .1) (at .list) (at .i) (at .inv) (c .loop-test .left)
 
 pub take-changes-spec : {M : Type 1} → statement M
 take-changes-spec =

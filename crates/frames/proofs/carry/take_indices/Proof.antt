@@ -40,13 +40,20 @@ loop-less : tie.Need-loop-less Inv-loop μ-loop
 loop-less c = search needs
 
 loop-again : tie.Need-loop-again Inv-loop μ-loop
-loop-again c = filling-next _ _ (rw (length-map (now (c .before .before .before .before .before .args .bytes)) indexOf) (c .before .before .before .before .before .pre)) _ (c .before .before .before .loop .i) (c .before .before .before .loop .inv) (indexOf 0) _ (rw (length-map (now (c .before .before .before .before .before .args .bytes)) indexOf) (c .before .before .loop-test .taken)) (back w16 (c .index-of .result) (c .index-of .ok) ∙ c .index-of .ensures ∙ sym (List·getD-map indexOf (now (c .before .before .before .before .before .args .bytes)) (c .before .before .before .loop .i) 0))
+loop-again c =
+    let at-loop-test = c .before .before in
+    let at-loop = at-loop-test .before in
+    let start = at-loop .before .before in
+    filling-next _ _ (rw (length-map (now (start .args .bytes)) indexOf) (start .pre)) _ (at-loop .loop .i) (at-loop .loop .inv) (indexOf 0) _ (rw (length-map (now (start .args .bytes)) indexOf) (at-loop-test .loop-test .taken)) (back w16 (c .index-of .result) (c .index-of .ok) ∙ c .index-of .ensures ∙ sym (List·getD-map indexOf (now (start .args .bytes)) (at-loop .loop .i) 0))
 
 same-length : tie.Need-same-length Inv-loop μ-loop
 same-length c = c .before .loop .inv .long
 
 returns : tie.Need-returns Inv-loop μ-loop
-returns c = filling-all _ _ (rw (length-map (now (c .before .before .before .args .bytes)) indexOf) (c .before .before .before .pre)) _ (c .before .loop .i) (c .before .loop .inv) (rw (length-map (now (c .before .before .before .args .bytes)) indexOf) (c .loop-test .left))
+returns c =
+    let at-loop = c .before in
+    let start = at-loop .before .before in
+    filling-all _ _ (rw (length-map (now (start .args .bytes)) indexOf) (start .pre)) _ (at-loop .loop .i) (at-loop .loop .inv) (rw (length-map (now (start .args .bytes)) indexOf) (c .loop-test .left))
 
 pub take-indices-spec : {M : Type 1} → statement M
 take-indices-spec =

@@ -25,15 +25,32 @@ add-result c = search needs
 
 returns : tie.Need-returns
 unfolding pairVal
-returns c = rw (← c .before .before .before .before .before .digit .ensures, ← c .before .before .before .digit2 .ensures, ← c .before .before .before .before .wide .ensures, ← c .before .before .wide2 .ensures, lt-ltb _ _ (c .before .if1 .taken), lt-ltb _ _ (c .if2 .taken))
+returns c =
+    let at-if1 = c .before in
+    let at-wide2 = at-if1 .before in
+    let at-digit2 = at-wide2 .before in
+    let at-wide = at-digit2 .before in
+    let at-digit = at-wide .before in
+    rw (← at-digit .digit .ensures, ← at-digit2 .digit2 .ensures, ← at-wide .wide .ensures, ← at-wide2 .wide2 .ensures, lt-ltb _ _ (at-if1 .if1 .taken), lt-ltb _ _ (c .if2 .taken))
 
 returns-2 : tie.Need-returns-2
 unfolding pairVal
-returns-2 c = rw (← c .before .before .before .before .before .digit .ensures, ← c .before .before .before .digit2 .ensures, ← c .before .before .before .before .wide .ensures, ← c .before .before .wide2 .ensures, lt-ltb _ _ (c .before .if1 .taken), le-ltb _ _ (c .if2 .left))
+returns-2 c =
+    let at-if1 = c .before in
+    let at-wide2 = at-if1 .before in
+    let at-digit2 = at-wide2 .before in
+    let at-wide = at-digit2 .before in
+    let at-digit = at-wide .before in
+    rw (← at-digit .digit .ensures, ← at-digit2 .digit2 .ensures, ← at-wide .wide .ensures, ← at-wide2 .wide2 .ensures, lt-ltb _ _ (at-if1 .if1 .taken), le-ltb _ _ (c .if2 .left))
 
 returns-3 : tie.Need-returns-3
 unfolding pairVal
-returns-3 c = rw (← c .before .before .before .before .digit .ensures, ← c .before .before .digit2 .ensures, ← c .before .before .before .wide .ensures, ← c .before .wide2 .ensures, le-ltb _ _ (c .if1 .left))
+returns-3 c =
+    let at-wide2 = c .before in
+    let at-digit2 = at-wide2 .before in
+    let at-wide = at-digit2 .before in
+    let at-digit = at-wide .before in
+    rw (← at-digit .digit .ensures, ← at-digit2 .digit2 .ensures, ← at-wide .wide .ensures, ← at-wide2 .wide2 .ensures, le-ltb _ _ (c .if1 .left))
 
 pub pair-spec : {M : Type 1} → statement M
 pair-spec =

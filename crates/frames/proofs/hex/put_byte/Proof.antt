@@ -29,7 +29,10 @@ same-length c = search needs
 
 returns : tie.Need-returns
 unfolding hexByte
-returns c = rw (c .before .upper .ensures, c .upper2 .ensures, add-one) (splice-sets (hexByte (c .before .before .before .args .b)) (now (c .before .before .before .args .out)) (c .before .before .before .args .at) (omega arith))
+returns c =
+    let at-upper = c .before in
+    let start = at-upper .before .before in
+    rw (at-upper .upper .ensures, c .upper2 .ensures, add-one) (splice-sets (hexByte (start .args .b)) (now (start .args .out)) (start .args .at) (omega arith))
 
 pub put-byte-spec : {M : Type 1} → statement M
 put-byte-spec =

@@ -47,13 +47,23 @@ loop-less : tie.Need-loop-less Inv-loop μ-loop
 loop-less c = search needs
 
 loop-again : tie.Need-loop-again Inv-loop μ-loop
-loop-again c = hexing-next _ _ _ (rw (length-map (now (c .before .before .before .before .before .before .before .before .before .args .indices)) byteOf) (c .before .before .before .before .before .before .before .before .before .pre)) _ (c .before .before .before .before .before .before .before .loop .i) (c .before .before .before .before .before .before .before .loop .inv) _ (c .before .before .before .index-byte .result) (rw (length-map (now (c .before .before .before .before .before .before .before .before .before .args .indices)) byteOf) (c .before .before .before .before .before .before .loop-test .taken)) (bytes-at (now (c .before .before .before .before .before .before .before .before .before .args .indices)) (c .before .before .before .before .before .before .before .loop .i) (c .before .before .before .index-byte .result) (rw (back w16 (getD (now (c .before .before .before .before .before .before .before .before .before .args .indices)) (c .before .before .before .before .before .before .before .loop .i) (pos 0)) (c .before .before .before .before .index-byte-arg .given)) at (c .before .before .before .index-byte .ensures))) (c .before .before .put-byte .ensures)
+loop-again c =
+    let at-put-byte = c .before .before in
+    let at-index-byte = at-put-byte .before in
+    let at-index-byte-arg = at-index-byte .before in
+    let at-loop-test = at-index-byte-arg .before .before in
+    let at-loop = at-loop-test .before in
+    let start = at-loop .before .before in
+    hexing-next _ _ _ (rw (length-map (now (start .args .indices)) byteOf) (start .pre)) _ (at-loop .loop .i) (at-loop .loop .inv) _ (at-index-byte .index-byte .result) (rw (length-map (now (start .args .indices)) byteOf) (at-loop-test .loop-test .taken)) (bytes-at (now (start .args .indices)) (at-loop .loop .i) (at-index-byte .index-byte .result) (rw (back w16 (getD (now (start .args .indices)) (at-loop .loop .i) (pos 0)) (at-index-byte-arg .index-byte-arg .given)) at (at-index-byte .index-byte .ensures))) (at-put-byte .put-byte .ensures)
 
 same-length : tie.Need-same-length Inv-loop μ-loop
 same-length c = c .before .loop .inv .long
 
 returns : tie.Need-returns Inv-loop μ-loop
-returns c = hexing-all _ _ _ (rw (length-map (now (c .before .before .before .args .indices)) byteOf) (c .before .before .before .pre)) _ (c .before .loop .i) (c .before .loop .inv) (rw (length-map (now (c .before .before .before .args .indices)) byteOf) (c .loop-test .left))
+returns c =
+    let at-loop = c .before in
+    let start = at-loop .before .before in
+    hexing-all _ _ _ (rw (length-map (now (start .args .indices)) byteOf) (start .pre)) _ (at-loop .loop .i) (at-loop .loop .inv) (rw (length-map (now (start .args .indices)) byteOf) (c .loop-test .left))
 
 pub put-indices-spec : {M : Type 1} → statement M
 put-indices-spec =

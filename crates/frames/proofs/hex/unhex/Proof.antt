@@ -41,7 +41,9 @@ same-length c = search needs
 
 returns : tie.Need-returns Inv-loop μ-loop
 unfolding spelt Within
-returns c = (spelling-bad _ _ (c .before .before .before .before .before .loop .out) (c .before .before .before .before .before .loop .n) (c .before .before .before .before .before .loop .inv .1) (omega arith) (omega arith), tt)
+returns c =
+    let at-loop = c .before .before .before .before .before in
+    (spelling-bad _ _ (at-loop .loop .out) (at-loop .loop .n) (at-loop .loop .inv .1) (omega arith) (omega arith), tt)
 
 cast-out : tie.Need-cast-out Inv-loop μ-loop
 cast-out c = search needs
@@ -56,7 +58,10 @@ loop-less : tie.Need-loop-less Inv-loop μ-loop
 loop-less c = search needs
 
 loop-again : tie.Need-loop-again Inv-loop μ-loop
-loop-again c = (search needs, spelling-step _ _ (c .before .before .before .before .before .loop .out) (c .before .before .before .before .before .loop .n) (c .before .before .before .before .before .loop .inv .1) (c .before .pair .result) (omega arith) (omega arith) (c .before .pair .ensures) (omega arith))
+loop-again c =
+    let at-pair = c .before in
+    let at-loop = at-pair .before .before .before .before in
+    (search needs, spelling-step _ _ (at-loop .loop .out) (at-loop .loop .n) (at-loop .loop .inv .1) (at-pair .pair .result) (omega arith) (omega arith) (at-pair .pair .ensures) (omega arith))
 
 mul-if2 : tie.Need-mul-if2 Inv-loop μ-loop
 mul-if2 c = search needs

@@ -28,7 +28,10 @@ same-length c = search needs
 
 returns : tie.Need-returns
 unfolding headOf le
-returns c = rw (c .before .before .before .before .before .mark-of .ensures) at (c .before .before .put-bytes .ensures)
+returns c =
+    let at-put-bytes = c .before .before in
+    let at-mark-of = at-put-bytes .before .before .before in
+    rw (at-mark-of .mark-of .ensures) at (at-put-bytes .put-bytes .ensures)
 
 pub put-head-spec : {M : Type 1} → statement M
 put-head-spec =

@@ -35,7 +35,13 @@ same-length : tie.Need-same-length
 same-length c = search needs
 
 returns : tie.Need-returns
-returns c = let a = c .before .before .before .before .before .before .before .before .before .before .before .before .before .args in (line-written (a .answer) (a .position) (a .dirty) (a .k) (now (a .indices)) (now (a .out)) _ _ _ (a .at) _ (c .before .before .before .before .before .before .before .before .before .before .before .before .before .pre) refl (c .before .before .before .before .before .before .before .before .before .before .put-head .ensures) (c .before .before .before .before .before .before .put-indices .ensures) (c .before .before .put-newline .ensures), omega (arith, length-line (a .answer) (a .position) (a .dirty) (a .k) (now (a .indices))))
+returns c =
+    let at-put-newline = c .before .before in
+    let at-put-indices = at-put-newline .before .before .before .before in
+    let at-put-head = at-put-indices .before .before .before .before in
+    let start = at-put-head .before .before .before in
+    let a = start .args in
+    (line-written (a .answer) (a .position) (a .dirty) (a .k) (now (a .indices)) (now (a .out)) _ _ _ (a .at) _ (start .pre) refl (at-put-head .put-head .ensures) (at-put-indices .put-indices .ensures) (at-put-newline .put-newline .ensures), omega (arith, length-line (a .answer) (a .position) (a .dirty) (a .k) (now (a .indices))))
 
 pub put-line-spec : {M : Type 1} → statement M
 put-line-spec =

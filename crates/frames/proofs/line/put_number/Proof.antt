@@ -21,7 +21,13 @@ same-length : tie.Need-same-length
 same-length c = search needs
 
 returns : tie.Need-returns
-returns c = let start = c .before .before .before .before .before .before .before .before .before in let n = start .args .n in (number-written n _ _ _ _ (start .pre) (c .before .before .before .before .before .before .put-byte .ensures) (c .before .before .put-newline .ensures), omega (arith, length-number n))
+returns c =
+    let at-put-newline = c .before .before in
+    let at-put-byte = at-put-newline .before .before .before .before in
+    let at-before = at-put-byte .before .before in
+    let start = at-before .before in
+    let n = start .args .n in
+    (number-written n _ _ _ _ (start .pre) (at-put-byte .put-byte .ensures) (at-put-newline .put-newline .ensures), omega (arith, length-number n))
 
 pub put-number-spec : {M : Type 1} → statement M
 put-number-spec =

@@ -44,7 +44,11 @@ shared-slice-read-t17 c = search needs
 
 returns-4 : tie.Need-returns-4
 unfolding classOf rgbIn
-returns-4 c = rw (c .before .before .before .before .before .before .if4 .taken, c .before .before .before .before .before .if5 .taken, c .before .before .before .wide .ensures .0)
+returns-4 c =
+    let at-wide = c .before .before .before in
+    let at-if5 = at-wide .before .before in
+    let at-if4 = at-if5 .before in
+    rw (at-if4 .if4 .taken, at-if5 .if5 .taken, at-wide .wide .ensures .0)
 
 returns-5 : tie.Need-returns-5
 unfolding classOf
@@ -61,11 +65,17 @@ shared-slice-read-t26 c = search needs
 
 returns-6 : tie.Need-returns-6
 unfolding classOf rgbIn
-returns-6 c = rw (c .before .before .before .before .if6 .taken, c .before .before .before .if7 .taken)
+returns-6 c =
+    let at-if7 = c .before .before .before in
+    let at-if6 = at-if7 .before in
+    rw (at-if6 .if6 .taken, at-if7 .if7 .taken)
 
 returns-7 : tie.Need-returns-7
 unfolding classOf
-returns-7 c = rw (ne-eqb _ _ (c .before .before .before .before .before .before .if1 .left), c .before .if6 .taken, ne-eqb _ _ (c .if7 .left))
+returns-7 c =
+    let at-if6 = c .before in
+    let at-if1 = at-if6 .before .before .before .before .before in
+    rw (ne-eqb _ _ (at-if1 .if1 .left), at-if6 .if6 .taken, ne-eqb _ _ (c .if7 .left))
 
 shared-slice-read-wide-2 : tie.Need-shared-slice-read-wide-2
 shared-slice-read-wide-2 c = search needs
@@ -81,11 +91,18 @@ wide-requires-3 c κs = search needs
 
 returns-8 : tie.Need-returns-8
 unfolding classOf
-returns-8 c = rw (c .before .before .before .before .before .if8 .taken, c .before .before .before .before .if9 .taken, c .before .before .wide2 .ensures .0, c .wide3 .ensures .0)
+returns-8 c =
+    let at-wide2 = c .before .before in
+    let at-if9 = at-wide2 .before .before in
+    let at-if8 = at-if9 .before in
+    rw (at-if8 .if8 .taken, at-if9 .if9 .taken, at-wide2 .wide2 .ensures .0, c .wide3 .ensures .0)
 
 returns-9 : tie.Need-returns-9
 unfolding classOf
-returns-9 c = rw (ne-eqb _ _ (c .before .before .before .before .before .before .before .if1 .left), c .before .if8 .taken, ne-eqb _ _ (c .if9 .left))
+returns-9 c =
+    let at-if8 = c .before in
+    let at-if1 = at-if8 .before .before .before .before .before .before in
+    rw (ne-eqb _ _ (at-if1 .if1 .left), at-if8 .if8 .taken, ne-eqb _ _ (c .if9 .left))
 
 returns-10 : tie.Need-returns-10
 unfolding classOf
@@ -93,7 +110,10 @@ returns-10 c = rw (c .before .if10 .taken, c .if11 .taken)
 
 returns-11 : tie.Need-returns-11
 unfolding classOf
-returns-11 c = rw (ne-eqb _ _ (c .before .before .before .before .before .before .before .before .if1 .left), c .before .if10 .taken, ne-eqb _ _ (c .if11 .left))
+returns-11 c =
+    let at-if10 = c .before in
+    let at-if1 = at-if10 .before .before .before .before .before .before .before in
+    rw (ne-eqb _ _ (at-if1 .if1 .left), at-if10 .if10 .taken, ne-eqb _ _ (c .if11 .left))
 
 returns-12 : tie.Need-returns-12
 unfolding classOf
@@ -101,7 +121,10 @@ returns-12 c = rw (c .before .if12 .taken, c .if13 .taken)
 
 returns-13 : tie.Need-returns-13
 unfolding classOf
-returns-13 c = rw (ne-eqb _ _ (c .before .before .before .before .before .before .before .before .before .if1 .left), c .before .if12 .taken, ne-eqb _ _ (c .if13 .left))
+returns-13 c =
+    let at-if12 = c .before in
+    let at-if1 = at-if12 .before .before .before .before .before .before .before .before in
+    rw (ne-eqb _ _ (at-if1 .if1 .left), at-if12 .if12 .taken, ne-eqb _ _ (c .if13 .left))
 
 returns-14 : tie.Need-returns-14
 unfolding classOf
@@ -109,11 +132,23 @@ returns-14 c = rw (c .before .if14 .taken, c .if15 .taken)
 
 returns-15 : tie.Need-returns-15
 unfolding classOf
-returns-15 c = rw (ne-eqb _ _ (c .before .before .before .before .before .before .before .before .before .before .if1 .left), c .before .if14 .taken, ne-eqb _ _ (c .if15 .left))
+returns-15 c =
+    let at-if14 = c .before in
+    let at-if1 = at-if14 .before .before .before .before .before .before .before .before .before in
+    rw (ne-eqb _ _ (at-if1 .if1 .left), at-if14 .if14 .taken, ne-eqb _ _ (c .if15 .left))
 
 returns-16 : tie.Need-returns-16
 unfolding classOf
-returns-16 c = rw (ne-eqb _ _ (c .before .before .before .before .before .before .before .before .before .if1 .left), ne-eqb _ _ (c .before .before .before .before .before .before .before .if2 .left), ne-eqb _ _ (c .before .before .before .before .before .before .if3 .left), ne-eqb _ _ (c .before .before .before .before .before .if4 .left), ne-eqb _ _ (c .before .before .before .before .if6 .left), ne-eqb _ _ (c .before .before .before .if8 .left), ne-eqb _ _ (c .before .before .if10 .left), ne-eqb _ _ (c .before .if12 .left), ne-eqb _ _ (c .if14 .left))
+returns-16 c =
+    let at-if12 = c .before in
+    let at-if10 = at-if12 .before in
+    let at-if8 = at-if10 .before in
+    let at-if6 = at-if8 .before in
+    let at-if4 = at-if6 .before in
+    let at-if3 = at-if4 .before in
+    let at-if2 = at-if3 .before in
+    let at-if1 = at-if2 .before .before in
+    rw (ne-eqb _ _ (at-if1 .if1 .left), ne-eqb _ _ (at-if2 .if2 .left), ne-eqb _ _ (at-if3 .if3 .left), ne-eqb _ _ (at-if4 .if4 .left), ne-eqb _ _ (at-if6 .if6 .left), ne-eqb _ _ (at-if8 .if8 .left), ne-eqb _ _ (at-if10 .if10 .left), ne-eqb _ _ (at-if12 .if12 .left), ne-eqb _ _ (c .if14 .left))
 
 pub classify-spec : {M : Type 1} → statement M
 classify-spec =

@@ -21,7 +21,10 @@ same-length c = search needs
 
 returns-2 : tie.Need-returns-2
 unfolding frameOf
-returns-2 c = (rw (le-ltb _ _ (c .before .before .before .before .before .before .if1 .left), ← c .before .before .before .before .unhex .ensures .0) (c .spelt-frame .ensures .0), c .spelt-frame .ensures .1)
+returns-2 c =
+    let at-unhex = c .before .before .before .before in
+    let at-if1 = at-unhex .before .before in
+    (rw (le-ltb _ _ (at-if1 .if1 .left), ← at-unhex .unhex .ensures .0) (c .spelt-frame .ensures .0), c .spelt-frame .ensures .1)
 
 pub decode-spec : {M : Type 1} → statement M
 decode-spec =

@@ -43,18 +43,38 @@ add-if2 : tie.Need-add-if2
 add-if2 c = search needs
 
 mul-if2-2 : tie.Need-mul-if2-2
-mul-if2-2 c = let a : c .before .before .before .before .before .two .result ≤ 65535 = omega arith in let b : c .before .before .two2 .result ≤ 65535 = omega arith in omega (arith, mul-le-mul a b)
+mul-if2-2 c =
+    let at-two2 = c .before .before in
+    let at-two = at-two2 .before .before .before in
+    let a : at-two .two .result ≤ 65535 = omega arith in
+    let b : at-two2 .two2 .result ≤ 65535 = omega arith in
+    omega (arith, mul-le-mul a b)
 
 add-if2-2 : tie.Need-add-if2-2
-add-if2-2 c = let a : c .before .before .before .before .before .two .result ≤ 65535 = omega arith in let b : c .before .before .two2 .result ≤ 65535 = omega arith in omega (arith, mul-le-mul a b)
+add-if2-2 c =
+    let at-two2 = c .before .before in
+    let at-two = at-two2 .before .before .before in
+    let a : at-two .two .result ≤ 65535 = omega arith in
+    let b : at-two2 .two2 .result ≤ 65535 = omega arith in
+    omega (arith, mul-le-mul a b)
 
 returns-2 : tie.Need-returns-2
 unfolding openingOf
-returns-2 c = rw (le-ltb _ _ (c .before .before .before .before .before .before .before .before .before .if1 .left), ← c .before .before .before .before .before .before .two .ensures .0, ← c .before .before .before .two2 .ensures .0, ← c .before .wide .ensures .0, eq-eqb _ _ (c .if2 .taken))
+returns-2 c =
+    let at-wide = c .before in
+    let at-two2 = at-wide .before .before in
+    let at-two = at-two2 .before .before .before in
+    let at-if1 = at-two .before .before .before in
+    rw (le-ltb _ _ (at-if1 .if1 .left), ← at-two .two .ensures .0, ← at-two2 .two2 .ensures .0, ← at-wide .wide .ensures .0, eq-eqb _ _ (c .if2 .taken))
 
 returns-3 : tie.Need-returns-3
 unfolding openingOf
-returns-3 c = rw (le-ltb _ _ (c .before .before .before .before .before .before .before .before .before .if1 .left), ← c .before .before .before .before .before .before .two .ensures .0, ← c .before .before .before .two2 .ensures .0, ← c .before .wide .ensures .0, ne-eqb _ _ (c .if2 .left))
+returns-3 c =
+    let at-wide = c .before in
+    let at-two2 = at-wide .before .before in
+    let at-two = at-two2 .before .before .before in
+    let at-if1 = at-two .before .before .before in
+    rw (le-ltb _ _ (at-if1 .if1 .left), ← at-two .two .ensures .0, ← at-two2 .two2 .ensures .0, ← at-wide .wide .ensures .0, ne-eqb _ _ (c .if2 .left))
 
 pub opening-spec : {M : Type 1} → statement M
 opening-spec =

@@ -1,10 +1,8 @@
 -- `spelt_frame`: what the digits spell decides. Assumes nothing.
-use Rattle.frames.proofs.Sizes.{front-size}
-use Prim.Native.Nat.{zero-le}
-use Prim.Native.Nat.{_≤_}
+use Rattle.frames.proofs.Sizes.{front-size, told-front}
+use Prim.Native.Nat.{zero-le, _≤_}
 use lib.ListN.{length}
 use denote.Ref.{now}
-use Rattle.frames.proofs.Sizes.{told-front}
 use Rattle.frames.specs.Reading.{toldOf, sizeOf}
 use Rattle.frames.specs.Spelt.{spelt, Within}
 use borrow.Author.Needs.{needs}
@@ -23,7 +21,13 @@ enum-told c = search needs
 
 returns : tie.Need-returns
 unfolding spelt toldOf Within
-returns c = let n = c .before .before .s .given .0 .0 in let l = now (c .before .before .before .before .before .args .bytes) in let h : n ≤ length l = rw (c .before .before .s .given .1) at (c .before .before .before .before .before .pre) in (rw (c .before .before .s .given .1, c .classify-front .ensures) (told-front l n h), rw (c .classify-front .ensures) (front-size l n h))
+returns c =
+    let at-s = c .before .before in
+    let start = at-s .before .before .before in
+    let n = at-s .s .given .0 .0 in
+    let l = now (start .args .bytes) in
+    let h : n ≤ length l = rw (at-s .s .given .1) at (start .pre) in
+    (rw (at-s .s .given .1, c .classify-front .ensures) (told-front l n h), rw (c .classify-front .ensures) (front-size l n h))
 
 returns-2 : tie.Need-returns-2
 unfolding spelt toldOf sizeOf

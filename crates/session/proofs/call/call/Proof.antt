@@ -18,7 +18,10 @@ enum-known-frame c = search needs
 
 push-pixels-requires : tie.Need-push-pixels-requires
 unfolding sizeOf
-push-pixels-requires c κs = (rw (c .before .before .before .before .before .before .before .frame .given .1) at (c .before .before .before .before .before .before .before .before .before .before .before .before .before .before .pre .0), search needs, search needs)
+push-pixels-requires c κs =
+    let at-frame = c .before .before .before .before .before .before .before in
+    let start = at-frame .before .before .before .before .before .before .before in
+    (rw (at-frame .frame .given .1) at (start .pre .0), search needs, search needs)
 
 enum-known-frame-2 : tie.Need-enum-known-frame-2
 enum-known-frame-2 c = search needs
@@ -89,7 +92,10 @@ same-length-6 c = search needs
 
 returns-2 : tie.Need-returns-2
 unfolding callOf
-returns-2 c = rw (c .before .before .before .before .before .before .before .before .before .before .before .before .before .before .before .before .before .before .before .frame .given .1) (c .before .before .before .before .before .before .before .before .before .before .before .push-pixels .ensures)
+returns-2 c =
+    let at-push-pixels = c .before .before .before .before .before .before .before .before .before .before .before in
+    let at-frame = at-push-pixels .before .before .before .before .before .before .before .before in
+    rw (at-frame .frame .given .1) (at-push-pixels .push-pixels .ensures)
 
 same-length-7 : tie.Need-same-length-7
 same-length-7 c = search needs
@@ -111,7 +117,11 @@ same-length-12 c = search needs
 
 returns-3 : tie.Need-returns-3
 unfolding callOf
-returns-3 c = rw (c .before .before .before .before .before .before .before .before .before .before .before .before .before .before .before .before .before .before .frame2 .given .1) (rw (c .before .before .before .before .before .before .before .before .before .before .before .before .set-edit .ensures) at (c .before .before .before .before .before .before .before .before .before .push-entry .ensures))
+returns-3 c =
+    let at-push-entry = c .before .before .before .before .before .before .before .before .before in
+    let at-set-edit = at-push-entry .before .before .before in
+    let at-frame2 = at-set-edit .before .before .before .before .before .before in
+    rw (at-frame2 .frame2 .given .1) (rw (at-set-edit .set-edit .ensures) at (at-push-entry .push-entry .ensures))
 
 same-length-13 : tie.Need-same-length-13
 same-length-13 c = search needs
@@ -133,7 +143,10 @@ same-length-18 c = search needs
 
 returns-4 : tie.Need-returns-4
 unfolding callOf
-returns-4 c = rw (c .before .before .before .before .before .before .before .before .before .before .before .before .before .before .before .before .before .frame3 .given .1) (c .before .before .before .before .before .before .before .before .before .push-entry2 .ensures)
+returns-4 c =
+    let at-push-entry2 = c .before .before .before .before .before .before .before .before .before in
+    let at-frame3 = at-push-entry2 .before .before .before .before .before .before .before .before in
+    rw (at-frame3 .frame3 .given .1) (at-push-entry2 .push-entry2 .ensures)
 
 same-length-19 : tie.Need-same-length-19
 same-length-19 c = search needs
@@ -155,7 +168,10 @@ same-length-24 c = search needs
 
 returns-5 : tie.Need-returns-5
 unfolding callOf
-returns-5 c = rw (c .before .before .before .before .before .before .before .before .before .before .before .before .before .before .before .before .before .before .before .frame4 .given .1) (c .before .before .before .before .before .before .before .before .before .before .before .merge .ensures)
+returns-5 c =
+    let at-merge = c .before .before .before .before .before .before .before .before .before .before .before in
+    let at-frame4 = at-merge .before .before .before .before .before .before .before .before in
+    rw (at-frame4 .frame4 .given .1) (at-merge .merge .ensures)
 
 same-length-25 : tie.Need-same-length-25
 same-length-25 c = search needs
@@ -171,7 +187,10 @@ same-length-28 c = search needs
 
 returns-6 : tie.Need-returns-6
 unfolding callOf
-returns-6 c = rw (c .before .before .before .before .before .before .before .before .before .before .enum-told2 .given .1) (c .before .before .before .before .before .undo .ensures)
+returns-6 c =
+    let at-undo = c .before .before .before .before .before in
+    let at-enum-told2 = at-undo .before .before .before .before .before in
+    rw (at-enum-told2 .enum-told2 .given .1) (at-undo .undo .ensures)
 
 same-length-29 : tie.Need-same-length-29
 same-length-29 c = search needs
@@ -190,7 +209,11 @@ same-length-33 c = search needs
 
 returns-7 : tie.Need-returns-7
 unfolding callOf
-returns-7 c = rw (c .before .before .before .before .before .before .before .before .before .before .before .before .before .enum-told3 .given .1, ← c .before .before .before .before .before .before .before .before .before .before .before .before .before .before .before .before .before .before .before .before .pre .1) (c .before .before .before .before .before .before .before .redo .ensures)
+returns-7 c =
+    let at-redo = c .before .before .before .before .before .before .before in
+    let at-enum-told3 = at-redo .before .before .before .before .before .before in
+    let start = at-enum-told3 .before .before .before .before .before .before .before in
+    rw (at-enum-told3 .enum-told3 .given .1, ← start .pre .1) (at-redo .redo .ensures)
 
 same-length-34 : tie.Need-same-length-34
 same-length-34 c = search needs

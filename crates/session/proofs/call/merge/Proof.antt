@@ -16,7 +16,12 @@ enum-known-made : tie.Need-enum-known-made
 enum-known-made c = search needs
 
 push-edit-requires : tie.Need-push-edit-requires
-push-edit-requires c κs = let a = c .before .before .before .before .before .before .before .before .before .before .before .before .before .before .before .before .before .before .before .before .before .args in (omega (arith, merge-room (stateOf (sheetOf (a .w) (a .h) (a .k) (a .palette .now) (a .lab .now) (a .indices .now)) (a .journal .now) (a .handle)) (a .from) (a .into) (a .list .now) (c .before .before .before .before .before .before .before .before .before .before .before .before .before .before .before .before .before .before .before .before .before .pre .0) _ _ _ (rw (c .before .before .before .before .before .before .before .made .given .1) at (c .before .before .before .before .before .before .before .before .before .before .before .merge-entries .ensures)), c .before .before .before .before .before .before .before .before .before .before .before .merge-entries .kept .1 .1 .1 .1 .1 .1 .1 .1 .0), search needs)
+push-edit-requires c κs =
+    let at-made = c .before .before .before .before .before .before .before in
+    let at-merge-entries = at-made .before .before .before .before in
+    let start = at-merge-entries .before .before .before .before .before .before .before .before .before .before in
+    let a = start .args in
+    (omega (arith, merge-room (stateOf (sheetOf (a .w) (a .h) (a .k) (a .palette .now) (a .lab .now) (a .indices .now)) (a .journal .now) (a .handle)) (a .from) (a .into) (a .list .now) (start .pre .0) _ _ _ (rw (at-made .made .given .1) at (at-merge-entries .merge-entries .ensures)), at-merge-entries .merge-entries .kept .1 .1 .1 .1 .1 .1 .1 .1 .0), search needs)
 
 enum-known-made-2 : tie.Need-enum-known-made-2
 enum-known-made-2 c = search needs
@@ -43,7 +48,13 @@ same-length-6 : tie.Need-same-length-6
 same-length-6 c = search needs
 
 returns : tie.Need-returns
-returns c = let a = c .before .before .before .before .before .before .before .before .before .before .before .before .before .before .before .before .before .before .before .before .before .before .before .before .before .before .before .before .before .before .before .args in c .before .before .before .before .before .before .before .before .before .push-edit .ensures ∙ merge-made (stateOf (sheetOf (a .w) (a .h) (a .k) (a .palette .now) (a .lab .now) (a .indices .now)) (a .journal .now) (a .handle)) (a .from) (a .into) (a .list .now) (c .before .before .before .before .before .before .before .before .before .before .before .before .before .before .before .before .before .before .before .before .before .before .before .before .before .before .before .before .before .before .before .pre .0) _ _ _ (rw (c .before .before .before .before .before .before .before .before .before .before .before .before .before .before .before .before .before .made .given .1) at (c .before .before .before .before .before .before .before .before .before .before .before .before .before .before .before .before .before .before .before .before .before .merge-entries .ensures))
+returns c =
+    let at-push-edit = c .before .before .before .before .before .before .before .before .before in
+    let at-made = at-push-edit .before .before .before .before .before .before .before .before in
+    let at-merge-entries = at-made .before .before .before .before in
+    let start = at-merge-entries .before .before .before .before .before .before .before .before .before .before in
+    let a = start .args in
+    at-push-edit .push-edit .ensures ∙ merge-made (stateOf (sheetOf (a .w) (a .h) (a .k) (a .palette .now) (a .lab .now) (a .indices .now)) (a .journal .now) (a .handle)) (a .from) (a .into) (a .list .now) (start .pre .0) _ _ _ (rw (at-made .made .given .1) at (at-merge-entries .merge-entries .ensures))
 
 same-length-7 : tie.Need-same-length-7
 same-length-7 c = search needs
@@ -58,7 +69,12 @@ same-length-10 : tie.Need-same-length-10
 same-length-10 c = search needs
 
 returns-2 : tie.Need-returns-2
-returns-2 c = let a = c .before .before .before .before .before .before .before .before .before .before .before .before .before .before .before .before .args in leaves-refused _ _ _ _ _ _ _ _ _ _ (c .refused .ensures) ∙ merge-refused (stateOf (sheetOf (a .w) (a .h) (a .k) (a .palette .now) (a .lab .now) (a .indices .now)) (a .journal .now) (a .handle)) (a .from) (a .into) (a .list .now) (c .before .before .before .before .before .before .before .before .before .before .before .before .before .before .before .before .pre .0) _ _ (rw (c .before .before .made2 .given .1) at (c .before .before .before .before .before .before .merge-entries .ensures))
+returns-2 c =
+    let at-made2 = c .before .before in
+    let at-merge-entries = at-made2 .before .before .before .before in
+    let start = at-merge-entries .before .before .before .before .before .before .before .before .before .before in
+    let a = start .args in
+    leaves-refused _ _ _ _ _ _ _ _ _ _ (c .refused .ensures) ∙ merge-refused (stateOf (sheetOf (a .w) (a .h) (a .k) (a .palette .now) (a .lab .now) (a .indices .now)) (a .journal .now) (a .handle)) (a .from) (a .into) (a .list .now) (start .pre .0) _ _ (rw (at-made2 .made2 .given .1) at (at-merge-entries .merge-entries .ensures))
 
 pub merge-spec : {M : Type 1} → statement M
 merge-spec =

@@ -9,7 +9,9 @@ slice-aggregate-push : tie.Need-slice-aggregate-push
 slice-aggregate-push c = search needs
 
 slice-aggregate-push-2 : tie.Need-slice-aggregate-push-2
-slice-aggregate-push-2 c = sym (length-take-le _ _ (c .before .before .before .before .before .before .before .before .before .before .pre .0))
+slice-aggregate-push-2 c =
+    let start = c .before .before .before .before .before .before .before .before .before .before in
+    sym (length-take-le _ _ (start .pre .0))
 
 push-requires : tie.Need-push-requires
 push-requires c κs = search needs
@@ -30,7 +32,10 @@ same-length-5 : tie.Need-same-length-5
 same-length-5 c = search needs
 
 returns : tie.Need-returns
-returns c = rw (c .before .before .before .before .before .before .before .before .before .before .before .before .before .before .before .before .before .before .before .before .before .before .pre .1) at (c .before .before .before .before .before .before .before .before .before .push .ensures)
+returns c =
+    let at-push = c .before .before .before .before .before .before .before .before .before in
+    let start = at-push .before .before .before .before .before .before .before .before .before .before .before .before .before in
+    rw (start .pre .1) at (at-push .push .ensures)
 
 pub push-edit-spec : {M : Type 1} → statement M
 push-edit-spec =

@@ -29,7 +29,11 @@ same-length-6 : tie.Need-same-length-6
 same-length-6 c = search needs
 
 returns : tie.Need-returns
-returns c = rw (changes-front (c .before .before .before .before .before .before .before .before .before .before .before .before .before .before .before .before .before .before .before .before .before .before .before .before .before .before .args .bytes .now) (c .before .before .before .before .before .before .before .before .before .before .before .before .before .before .before .before .before .before .before .before .before .before .before .before .before .before .args .n) (c .before .before .before .before .before .before .before .before .before .before .before .before .before .before .before .before .before .before .before .before .before .before .before .before .before .before .args .list .now) (c .before .before .before .before .before .before .before .before .before .before .before .before .before .before .before .before .before .before .take-changes .last .1 .1 .0) (c .before .before .before .before .before .before .before .before .before .before .before .before .before .before .before .before .before .before .take-changes .ensures)) at (c .before .before .before .before .before .before .before .before .before .push-edit .ensures)
+returns c =
+    let at-push-edit = c .before .before .before .before .before .before .before .before .before in
+    let at-take-changes = at-push-edit .before .before .before .before .before .before .before .before .before in
+    let start = at-take-changes .before .before .before .before .before .before .before .before in
+    rw (changes-front (start .args .bytes .now) (start .args .n) (start .args .list .now) (at-take-changes .take-changes .last .1 .1 .0) (at-take-changes .take-changes .ensures)) at (at-push-edit .push-edit .ensures)
 
 pub push-pixels-spec : {M : Type 1} → statement M
 push-pixels-spec =

@@ -9,10 +9,19 @@ unopened-core-requires : tie.Need-unopened-core-requires
 unopened-core-requires c κs = search needs
 
 answer-reads-requires : tie.Need-answer-reads-requires
-answer-reads-requires c κs = let p = c .before .before .before .before .before .before .before .before .before .before .before .before .before .before .before .before .before .before .pre in let e = c .before .before .before .before .before .before .before .before .before .unopened-core .ensures in (record { small = rw (e .0, e .1) (omega arith); palette-length = p .0 .0; lab-length = p .0 .1; indices-length = p .0 .2; journal-length = p .0 .3; bytes-length = p .1 .0; list-length = p .1 .1 }, (record { line-length = p .0 .4; within = omega arith }, p .1 .2))
+answer-reads-requires c κs =
+    let at-unopened-core = c .before .before .before .before .before .before .before .before .before in
+    let start = at-unopened-core .before .before .before .before .before .before .before .before .before in
+    let p = start .pre in
+    let e = at-unopened-core .unopened-core .ensures in
+    (record { small = rw (e .0, e .1) (omega arith); palette-length = p .0 .0; lab-length = p .0 .1; indices-length = p .0 .2; journal-length = p .0 .3; bytes-length = p .1 .0; list-length = p .1 .1 }, (record { line-length = p .0 .4; within = omega arith }, p .1 .2))
 
 answer-last-requires : tie.Need-answer-last-requires
-answer-last-requires c κs = let r = c .before .before .before .before .before .before .before .before .before .before .before .before .before .before .before .before .before .before .before .before .before .before .before .before .before .answer-reads in (r .ensures .0, (r .ensures .1, r .kept .1 .1 .1 .1 .1 .1 .1 .1 .1 .0 ∙ c .before .before .before .before .before .before .before .before .before .before .before .before .before .before .before .before .before .before .before .before .before .before .before .before .before .before .before .before .before .before .before .before .before .before .before .before .before .before .before .before .before .before .before .before .pre .1 .2))
+answer-last-requires c κs =
+    let at-answer-reads = c .before .before .before .before .before .before .before .before .before .before .before .before .before .before .before .before .before .before .before .before .before .before .before .before .before in
+    let start = at-answer-reads .before .before .before .before .before .before .before .before .before .before .before .before .before .before .before .before .before .before .before in
+    let r = at-answer-reads .answer-reads in
+    (r .ensures .0, (r .ensures .1, r .kept .1 .1 .1 .1 .1 .1 .1 .1 .1 .0 ∙ start .pre .1 .2))
 
 same-length : tie.Need-same-length
 same-length c = search needs

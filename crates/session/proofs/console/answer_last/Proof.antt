@@ -7,16 +7,28 @@ use Rattle.session.proofs.console.answer_last.Statement.{statement}
 use Rattle.session.proofs.console.answer_last.Tie as tie
 
 slice-aggregate-step : tie.Need-slice-aggregate-step
-slice-aggregate-step c = sym (length-take-le _ _ (omega (arith, c .before .before .before .before .before .before .before .before .before .before .before .before .before .pre .1 .0 .line-length, c .before .before .before .before .before .before .before .before .before .before .before .before .before .pre .1 .0 .within)))
+slice-aggregate-step c =
+    let start = c .before .before .before .before .before .before .before .before .before .before .before .before .before in
+    sym (length-take-le _ _ (omega (arith, start .pre .1 .0 .line-length, start .pre .1 .0 .within)))
 
 step-requires : tie.Need-step-requires
-step-requires c κs = (c .before .before .before .before .before .before .before .before .before .before .before .before .before .before .before .before .pre .0, omega (arith, c .before .before .before .before .before .before .before .before .before .before .before .before .before .before .before .before .pre .1 .1))
+step-requires c κs =
+    let start = c .before .before .before .before .before .before .before .before .before .before .before .before .before .before .before .before in
+    (start .pre .0, omega (arith, start .pre .1 .1))
 
 slice-reshare-prefix-write-all : tie.Need-slice-reshare-prefix-write-all
-slice-reshare-prefix-write-all c = let s = c .before .before .before .before .before .before .before .before .before .before .before .before .before .step in omega (arith, s .ensures .end-is, s .ensures .short, s .kept .1 .1 .1 .1 .1 .1 .1 .1 .0, c .before .before .before .before .before .before .before .before .before .before .before .before .before .before .before .before .before .before .before .before .before .before .before .before .before .before .before .before .before .before .pre .1 .1)
+slice-reshare-prefix-write-all c =
+    let at-step = c .before .before .before .before .before .before .before .before .before .before .before .before .before in
+    let start = at-step .before .before .before .before .before .before .before .before .before .before .before .before .before .before .before .before .before in
+    let s = at-step .step in
+    omega (arith, s .ensures .end-is, s .ensures .short, s .kept .1 .1 .1 .1 .1 .1 .1 .1 .0, start .pre .1 .1)
 
 slice-aggregate-write-all : tie.Need-slice-aggregate-write-all
-slice-aggregate-write-all c = let s = c .before .before .before .before .before .before .before .before .before .before .before .before .before .before .step in sym (length-take-le _ _ (omega (arith, s .ensures .end-is, s .ensures .short, s .kept .1 .1 .1 .1 .1 .1 .1 .1 .0, c .before .before .before .before .before .before .before .before .before .before .before .before .before .before .before .before .before .before .before .before .before .before .before .before .before .before .before .before .before .before .before .pre .1 .1)))
+slice-aggregate-write-all c =
+    let at-step = c .before .before .before .before .before .before .before .before .before .before .before .before .before .before in
+    let start = at-step .before .before .before .before .before .before .before .before .before .before .before .before .before .before .before .before .before in
+    let s = at-step .step in
+    sym (length-take-le _ _ (omega (arith, s .ensures .end-is, s .ensures .short, s .kept .1 .1 .1 .1 .1 .1 .1 .1 .0, start .pre .1 .1)))
 
 write-all-requires : tie.Need-write-all-requires
 write-all-requires c κs = search needs

@@ -25,7 +25,10 @@ same-length : tie.Need-same-length
 same-length c = search needs
 
 returns : tie.Need-returns
-returns c = indices-filled (c .before .before .before .before .before .args .bytes .now) (c .before .before .before .before .before .args .start) (c .before .before .before .before .before .args .n) (c .before .before .before .before .before .args .start + c .before .before .before .before .before .args .n - c .before .before .before .before .before .args .start) (c .before .before .before .before .before .args .indices .now) _ (omega arith) (c .before .before .before .before .before .pre .0) (c .before .take-indices .ensures)
+returns c =
+    let at-take-indices = c .before in
+    let start = at-take-indices .before .before .before .before in
+    indices-filled (start .args .bytes .now) (start .args .start) (start .args .n) (start .args .start + start .args .n - start .args .start) (start .args .indices .now) _ (omega arith) (start .pre .0) (at-take-indices .take-indices .ensures)
 
 pub open-indices-spec : {M : Type 1} → statement M
 open-indices-spec =

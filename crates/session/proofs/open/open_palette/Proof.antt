@@ -26,13 +26,20 @@ part-take-bytes-end : tie.Need-part-take-bytes-end
 part-take-bytes-end c = search needs
 
 take-bytes-requires : tie.Need-take-bytes-requires
-take-bytes-requires c κs = simp (length-take, length-drop) (omega (arith, c .before .before .before .before .before .before .before .before .pre, c .before .before .before .before .clear-bytes .kept .0))
+take-bytes-requires c κs =
+    let at-clear-bytes = c .before .before .before .before in
+    let start = at-clear-bytes .before .before .before .before in
+    simp (length-take, length-drop) (omega (arith, start .pre, at-clear-bytes .clear-bytes .kept .0))
 
 same-length : tie.Need-same-length
 same-length c = search needs
 
 returns : tie.Need-returns
-returns c = palette-filled (c .before .before .before .before .before .before .before .before .before .before .before .args .bytes .now) (c .before .before .before .before .before .before .before .before .before .before .before .args .k) (6 + 3 * c .before .before .before .before .before .before .before .before .before .before .before .args .k - 6) (c .before .before .before .before .before .before .before .before .before .before .before .args .palette .now) _ _ (omega arith) (c .before .before .before .before .before .before .before .before .before .before .before .pre .2) (c .before .before .before .before .before .before .before .clear-bytes .ensures) (c .before .before .take-bytes .ensures)
+returns c =
+    let at-take-bytes = c .before .before in
+    let at-clear-bytes = at-take-bytes .before .before .before .before .before in
+    let start = at-clear-bytes .before .before .before .before in
+    palette-filled (start .args .bytes .now) (start .args .k) (6 + 3 * start .args .k - 6) (start .args .palette .now) _ _ (omega arith) (start .pre .2) (at-clear-bytes .clear-bytes .ensures) (at-take-bytes .take-bytes .ensures)
 
 pub open-palette-spec : {M : Type 1} → statement M
 open-palette-spec =

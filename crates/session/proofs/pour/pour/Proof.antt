@@ -16,7 +16,10 @@ abbrev μ-loop : tie.MeasureT-loop
 μ-loop len palette₀ lab₀ indices₀ journal₀ line₀ chunk from bytes₀ list₀ out₀ t₀ i₀ palette lab indices journal line bytes list out t i = length chunk - i
 
 loop-holds : tie.Need-loop-holds Inv-loop μ-loop
-loop-holds c = let p = c .before .before .before .before .before .before .before .before .pre in (p .0, p .1 .0, p .1 .1 .1, pouring-none _ _ _ _ _ (p .1 .1 .0))
+loop-holds c =
+    let start = c .before .before .before .before .before .before .before .before in
+    let p = start .pre in
+    (p .0, p .1 .0, p .1 .1 .1, pouring-none _ _ _ _ _ (p .1 .1 .0))
 
 sub-if1 : tie.Need-sub-if1 Inv-loop μ-loop
 sub-if1 c = search needs
@@ -25,16 +28,31 @@ shared-slice-read-take-byte : tie.Need-shared-slice-read-take-byte Inv-loop μ-l
 shared-slice-read-take-byte c = search needs
 
 take-byte-requires : tie.Need-take-byte-requires Inv-loop μ-loop
-take-byte-requires c κs = let v = c .before .before .before .before .before .before .before .before .before .before .before .before .loop .inv in (v .0, (v .1, omega (arith, v .2, c .before .before .before .before .before .before .before .before .before .if1 .left)))
+take-byte-requires c κs =
+    let at-if1 = c .before .before .before .before .before .before .before .before .before in
+    let at-loop = at-if1 .before .before .before in
+    let v = at-loop .loop .inv in
+    (v .0, (v .1, omega (arith, v .2, at-if1 .if1 .left)))
 
 add-i : tie.Need-add-i Inv-loop μ-loop
-add-i c = omega (arith, c .before .before .before .before .before .before .before .before .before .before .before .before .before .before .before .before .before .before .before .before .before .before .before .before .before .before .before .loop-test .taken, c .before .before .before .before .before .before .before .before .before .before .before .before .before .before .before .before .before .before .before .before .before .before .before .before .before .before .before .before .before .before .before .before .before .before .before .before .before .good .1 .1 .1 .1 .1 .1 .1 .0 .0)
+add-i c =
+    let at-loop-test = c .before .before .before .before .before .before .before .before .before .before .before .before .before .before .before .before .before .before .before .before .before .before .before .before .before .before .before in
+    let start = at-loop-test .before .before .before .before .before .before .before .before .before .before in
+    omega (arith, at-loop-test .loop-test .taken, start .good .1 .1 .1 .1 .1 .1 .1 .0 .0)
 
 loop-less : tie.Need-loop-less Inv-loop μ-loop
 loop-less c = search needs
 
 loop-again : tie.Need-loop-again Inv-loop μ-loop
-loop-again c = let l = c .before .before .before .before .before .before .before .before .before .before .before .before .before .before .before .before .before .before .before .before .before .before .before .before .before .before .before .before .loop in let v = l .inv in let b = c .before .before .before .before .before .before .before .before .before .before .before .before .before .before .before .take-byte in (b .ensures .1 .0, b .ensures .1 .1 .0, b .kept .1 .1 .1 .1 .1 .1 .1 .1 .1 .0 ∙ v .2, pouring-next _ _ _ _ _ _ (l .out) (l .t .at) (l .i) (v .3) _ _ _ _ (c .before .before .before .before .before .before .before .before .before .before .before .before .before .before .before .before .before .before .before .before .before .before .before .before .before .before .before .loop-test .taken) (omega (arith, c .before .before .before .before .before .before .before .before .before .before .before .before .before .before .before .before .before .before .before .before .before .before .before .before .before .if1 .left)) (b .ensures .0) (b .ensures .1 .1 .1))
+loop-again c =
+    let at-take-byte = c .before .before .before .before .before .before .before .before .before .before .before .before .before .before .before in
+    let at-if1 = at-take-byte .before .before .before .before .before .before .before .before .before .before in
+    let at-loop-test = at-if1 .before .before in
+    let at-loop = at-loop-test .before in
+    let l = at-loop .loop in
+    let v = l .inv in
+    let b = at-take-byte .take-byte in
+    (b .ensures .1 .0, b .ensures .1 .1 .0, b .kept .1 .1 .1 .1 .1 .1 .1 .1 .1 .0 ∙ v .2, pouring-next _ _ _ _ _ _ (l .out) (l .t .at) (l .i) (v .3) _ _ _ _ (at-loop-test .loop-test .taken) (omega (arith, at-if1 .if1 .left)) (b .ensures .0) (b .ensures .1 .1 .1))
 
 same-length : tie.Need-same-length Inv-loop μ-loop
 same-length c = search needs

@@ -13,7 +13,11 @@ same-length : tie.Need-same-length
 same-length c = search needs
 
 returns : tie.Need-returns
-returns c = let p = c .before .before .put-number .ensures in record { core-is = refl; out-is = p .0; end-is = p .1; short = omega (arith, length-number (c .before .before .before .before .before .args .no)) }
+returns c =
+    let at-put-number = c .before .before in
+    let start = at-put-number .before .before .before in
+    let p = at-put-number .put-number .ensures in
+    record { core-is = refl; out-is = p .0; end-is = p .1; short = omega (arith, length-number (start .args .no)) }
 
 pub number-spec : {M : Type 1} → statement M
 number-spec = tie.close (tie.spec put-number-requires same-length returns)

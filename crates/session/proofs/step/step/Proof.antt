@@ -10,7 +10,12 @@ decode-requires : tie.Need-decode-requires
 decode-requires c κs = search needs
 
 act-requires : tie.Need-act-requires
-act-requires c κs = let f = c .before .before .before .before .before .before .before .before .before .before .before .before .before .before .before .before .before .before .before .pre .0 in (c .before .before .before .before .before .before .before .if1 .taken, (refits f (f .small) refl refl refl refl (c .before .before .before .before .before .before .before .before .before .before .decode .kept .1 .0) refl, (c .before .before .before .before .before .before .before .before .before .before .decode .ensures .1, c .before .before .before .before .before .before .before .before .before .before .before .before .before .before .before .before .before .before .before .pre .1)))
+act-requires c κs =
+    let at-if1 = c .before .before .before .before .before .before .before in
+    let at-decode = at-if1 .before .before .before in
+    let start = at-decode .before .before .before .before .before .before .before .before .before in
+    let f = start .pre .0 in
+    (at-if1 .if1 .taken, (refits f (f .small) refl refl refl refl (at-decode .decode .kept .1 .0) refl, (at-decode .decode .ensures .1, start .pre .1)))
 
 same-length : tie.Need-same-length
 same-length c = search needs
@@ -34,10 +39,20 @@ same-length-7 : tie.Need-same-length-7
 same-length-7 c = search needs
 
 returns : tie.Need-returns
-returns c = let a = c .before .before .before .before .before .before .before .before .before .before .before .before .before .before .before .before .before .before .before .before .before .before .before .before .before .before .before .before .before .before .before .before .before .args in rw (step-by (panelIn (a .core) (a .palette .now) (a .lab .now) (a .indices .now) (a .journal .now)) (a .line .now) (c .before .before .before .before .before .before .before .before .before .before .before .before .before .before .before .before .before .before .before .before .before .before .before .before .decode .result) _ (c .before .before .before .before .before .before .before .before .before .before .before .before .before .before .before .before .before .before .before .before .before .before .before .before .decode .ensures .0)) (c .before .before .before .before .before .before .before .before .before .before .before .before .before .act .ensures)
+returns c =
+    let at-act = c .before .before .before .before .before .before .before .before .before .before .before .before .before in
+    let at-decode = at-act .before .before .before .before .before .before .before .before .before .before .before in
+    let start = at-decode .before .before .before .before .before .before .before .before .before in
+    let a = start .args in
+    rw (step-by (panelIn (a .core) (a .palette .now) (a .lab .now) (a .indices .now) (a .journal .now)) (a .line .now) (at-decode .decode .result) _ (at-decode .decode .ensures .0)) (at-act .act .ensures)
 
 unopened-requires : tie.Need-unopened-requires
-unopened-requires c κs = let f = c .before .before .before .before .before .before .before .before .before .before .before .before .before .before .before .before .before .before .pre .0 in (c .before .before .before .before .before .before .if1 .left, (record { small = f .small; palette-length = f .palette-length; lab-length = f .lab-length; indices-length = f .indices-length; journal-length = f .journal-length; bytes-length = c .before .before .before .before .before .before .before .before .before .decode .kept .1 .0 ∙ f .bytes-length; list-length = refl }, (c .before .before .before .before .before .before .before .before .before .decode .ensures .1, c .before .before .before .before .before .before .before .before .before .before .before .before .before .before .before .before .before .before .pre .1)))
+unopened-requires c κs =
+    let at-if1 = c .before .before .before .before .before .before in
+    let at-decode = at-if1 .before .before .before in
+    let start = at-decode .before .before .before .before .before .before .before .before .before in
+    let f = start .pre .0 in
+    (at-if1 .if1 .left, (record { small = f .small; palette-length = f .palette-length; lab-length = f .lab-length; indices-length = f .indices-length; journal-length = f .journal-length; bytes-length = at-decode .decode .kept .1 .0 ∙ f .bytes-length; list-length = refl }, (at-decode .decode .ensures .1, start .pre .1)))
 
 same-length-8 : tie.Need-same-length-8
 same-length-8 c = search needs
@@ -58,7 +73,13 @@ same-length-13 : tie.Need-same-length-13
 same-length-13 c = search needs
 
 returns-2 : tie.Need-returns-2
-returns-2 c = let a = c .before .before .before .before .before .before .before .before .before .before .before .before .before .before .before .before .before .before .before .before .before .before .before .before .before .before .before .before .args in rw (step-by (panelIn (a .core) (a .palette .now) (a .lab .now) (a .indices .now) (a .journal .now)) (a .line .now) (c .before .before .before .before .before .before .before .before .before .before .before .before .before .before .before .before .before .before .before .decode .result) _ (c .before .before .before .before .before .before .before .before .before .before .before .before .before .before .before .before .before .before .before .decode .ensures .0), act-shut (a .core) (a .palette .now) (a .lab .now) (a .indices .now) (a .journal .now) (c .before .before .before .before .before .before .before .before .before .before .before .before .before .before .before .before .before .before .before .decode .result) _ (c .before .before .before .before .before .before .before .before .before .before .before .before .before .before .before .before .if1 .left)) (c .before .before .before .before .before .before .before .before .before .unopened .ensures)
+returns-2 c =
+    let at-unopened = c .before .before .before .before .before .before .before .before .before in
+    let at-if1 = at-unopened .before .before .before .before .before .before .before in
+    let at-decode = at-if1 .before .before .before in
+    let start = at-decode .before .before .before .before .before .before .before .before .before in
+    let a = start .args in
+    rw (step-by (panelIn (a .core) (a .palette .now) (a .lab .now) (a .indices .now) (a .journal .now)) (a .line .now) (at-decode .decode .result) _ (at-decode .decode .ensures .0), act-shut (a .core) (a .palette .now) (a .lab .now) (a .indices .now) (a .journal .now) (at-decode .decode .result) _ (at-if1 .if1 .left)) (at-unopened .unopened .ensures)
 
 pub step-spec : {M : Type 1} → statement M
 step-spec =

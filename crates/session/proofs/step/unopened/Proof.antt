@@ -11,7 +11,10 @@ enum-known-frame c = search needs
 
 open-sheet-requires : tie.Need-open-sheet-requires
 unfolding sizeOf
-open-sheet-requires c κs = (c .before .before .before .before .before .before .before .before .before .before .before .before .before .pre .0, (c .before .before .before .before .before .before .before .before .before .before .before .before .before .pre .1 .0, (rw (c .before .before .before .before .before .before .frame .given .1) at (c .before .before .before .before .before .before .before .before .before .before .before .before .before .pre .1 .1 .0), c .before .before .before .before .before .before .before .before .before .before .before .before .before .pre .1 .1 .1)))
+open-sheet-requires c κs =
+    let at-frame = c .before .before .before .before .before .before in
+    let start = at-frame .before .before .before .before .before .before .before in
+    (start .pre .0, (start .pre .1 .0, (rw (at-frame .frame .given .1) at (start .pre .1 .1 .0), start .pre .1 .1 .1)))
 
 number-requires : tie.Need-number-requires
 number-requires c κs = search needs
@@ -33,13 +36,21 @@ same-length-5 c = search needs
 
 returns : tie.Need-returns
 unfolding unopenedOf
-returns c = rw (c .before .before .before .before .before .before .before .before .before .before .before .before .before .before .before .before .frame .given .1) (c .before .before .before .before .before .before .before .before .before .open-sheet .ensures)
+returns c =
+    let at-open-sheet = c .before .before .before .before .before .before .before .before .before in
+    let at-frame = at-open-sheet .before .before .before .before .before .before .before in
+    rw (at-frame .frame .given .1) (at-open-sheet .open-sheet .ensures)
 
 same-length-6 : tie.Need-same-length-6
 same-length-6 c = search needs
 
 returns-2 : tie.Need-returns-2
-returns-2 c = let a = c .before .before .before .before .before .before .before .before .before .before .args in told-failed _ _ _ _ _ _ _ _ _ _ _ (c .before .before .number .ensures) (c .before .before .before .before .before .before .before .before .before .before .pre .0) (unopened-call (a .frame) (a .bytes .now) (c .before .before .before .before .match .keys2)) (c .before .before .before .before .before .before .before .before .before .before .pre .1 .0 .small)
+returns-2 c =
+    let at-number = c .before .before in
+    let at-match = at-number .before .before in
+    let start = at-match .before .before .before .before .before .before in
+    let a = start .args in
+    told-failed _ _ _ _ _ _ _ _ _ _ _ (at-number .number .ensures) (start .pre .0) (unopened-call (a .frame) (a .bytes .now) (at-match .match .keys2)) (start .pre .1 .0 .small)
 
 pub unopened-spec : {M : Type 1} → statement M
 unopened-spec =

@@ -25,7 +25,13 @@ same-length : tie.Need-same-length
 same-length c = search needs
 
 returns : tie.Need-returns
-returns c = let p = c .before .before .put-line .ensures in let d = c .before .before .before .before .before .is-dirty .ensures in record { core-is = refl; out-is = rw d at (p .0); end-is = rw d at (p .1); short = line-short _ _ _ _ _ _ (c .before .before .before .before .before .before .before .before .before .pre .0) (omega arith) }
+returns c =
+    let at-put-line = c .before .before in
+    let at-is-dirty = at-put-line .before .before .before in
+    let start = at-is-dirty .before .before .before .before in
+    let p = at-put-line .put-line .ensures in
+    let d = at-is-dirty .is-dirty .ensures in
+    record { core-is = refl; out-is = rw d at (p .0); end-is = rw d at (p .1); short = line-short _ _ _ _ _ _ (start .pre .0) (omega arith) }
 
 pub whole-spec : {M : Type 1} → statement M
 whole-spec =
