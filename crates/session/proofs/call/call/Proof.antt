@@ -213,7 +213,7 @@ returns-7 c =
     let at-redo = c .before .before .before .before .before .before .before in
     let at-enum-told3 = at-redo .before .before .before .before .before .before in
     let start = at-enum-told3 .before .before .before .before .before .before .before in
-    rw (at-enum-told3 .enum-told3 .given .1, ← start .pre .1) (at-redo .redo .ensures)
+    rw (at-enum-told3 .enum-told3 .given .1, ← start .pre .1) (at-redo .redo .ensures .0)
 
 same-length-34 : tie.Need-same-length-34
 same-length-34 c = search needs

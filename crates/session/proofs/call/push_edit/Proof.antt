@@ -35,7 +35,7 @@ returns : tie.Need-returns
 returns c =
     let at-push = c .before .before .before .before .before .before .before .before .before in
     let start = at-push .before .before .before .before .before .before .before .before .before .before .before .before .before in
-    rw (start .pre .1) at (at-push .push .ensures)
+    rw (start .pre .1) at (at-push .push .ensures .0)
 
 pub push-edit-spec : {M : Type 1} → statement M
 push-edit-spec =
