@@ -71,12 +71,8 @@ start-in w h x y a b =
     let r : (y + 1) * w ≤ h * w = (let k : y + 1 ≤ h = omega arith in mul-le-mul k (le-refl w)) in
     omega (arith, add-mul y 1 w, one-mul w, mul-comm h w)
 
-module _ {w h : ℕ} {x y : ℤ} (on : OnSheet w h x y) (narrow : w ≤ 1024) (low : h ≤ 1024) (row column : ℕ) (down : row ≡ fromZero y) (across : column ≡ fromZero x) where
-  pub start-on : row * w + column < w * h
-  start-on = rw (down, across) (start-in w h (fromZero x) (fromZero y) (on .column) (on .row))
-
-  pub few : w * h ≤ 1048576
-  few = mul-le-mul narrow low
+pub start-on : {w h : ℕ} {x y : ℤ} (row column : ℕ) → OnSheet w h x y → row ≡ fromZero y → column ≡ fromZero x → row * w + column < w * h
+start-on {w} {h} {x} {y} row column on down across = rw (down, across) (start-in w h (fromZero x) (fromZero y) (on .column) (on .row))
 
 pub rows-few : (w h : ℕ) → h ≤ 1024 → w * h ≤ 1024 * w
 rows-few w h low = rw (mul-comm w h) (mul-le-mul low (le-refl w))

@@ -14,12 +14,12 @@ use Rattle.changes.specs.Normal.{kept}
 use Rattle.flood.specs.Flood.{changeAt, flooded, floodOf}
 use Rattle.flood.specs.Cells.{placed, emitted, pairOf, Fills}
 
-kept-same : (f g : ℕ → Bool) (i k : ℕ) → ((p : ℕ) → p < i + k → f p ≡ g p) → kept f (range i k) ≡ kept g (range i k)
+pub kept-same : (f g : ℕ → Bool) (i k : ℕ) → ((p : ℕ) → p < i + k → f p ≡ g p) → kept f (range i k) ≡ kept g (range i k)
 unfolding kept range
 kept-same f g i zero h = refl
 kept-same f g i (suc k) h = let e : f i ≡ g i = h i (omega arith) in let r : kept f (range (suc i) k) ≡ kept g (range (suc i) k) = kept-same f g (suc i) k (λ p q. h p (omega arith)) in rw (e, r)
 
-pub map-map : {A B C : Type 0} (f : B → C) (g : A → B) (l : List A) → map f (map g l) ≡ map (λ x. f (g x)) l
+map-map : {A B C : Type 0} (f : B → C) (g : A → B) (l : List A) → map f (map g l) ≡ map (λ x. f (g x)) l
 map-map f g [] = refl
 map-map f g (x ∷ l) = ap (λ r. f (g x) ∷ r) (map-map f g l)
 

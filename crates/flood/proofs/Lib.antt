@@ -6,3 +6,4 @@ pub mod Flooding
 pub mod Filling
 pub mod Emitting
 pub mod Flooded
+pub mod RowScan

@@ -43,7 +43,7 @@ start-is c = rw (row-is (c .before), column-is c)
 
 -- it is a place of the sheet
 inside : (c : tie.After-from-zero2) → let a = c .before .before .before .before .before .args in c .before .from-zero .result * a .w + c .from-zero2 .result < length (a .indices .now)
-inside c = let p = c .before .before .before .before .before .pre in rw (p .size) (start-on (on (c .before .before)) (p .narrow) (p .low) _ _ (row-is (c .before)) (column-is c))
+inside c = let p = c .before .before .before .before .before .pre in rw (p .size) (start-on _ _ (on (c .before .before)) (row-is (c .before)) (column-is c))
 
 size : (c : tie.Start) → length (c .args .indices .now) ≤ 1048576
 size c = let p = c .pre in rw (p .size) (mul-le-mul (p .narrow) (p .low))
