@@ -15,3 +15,4 @@ pub mod Left
 pub mod Listed
 pub mod Targets
 pub mod Bare
+pub mod Places

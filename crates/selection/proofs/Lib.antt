@@ -4,3 +4,4 @@ pub mod Moved
 pub mod Pointer
 pub mod Rows
 mod Examples
+pub mod Regions

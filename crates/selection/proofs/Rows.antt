@@ -22,7 +22,7 @@ unfolding flat
 flat-append ps qs = flatMap-append coordinates ps qs
 
 -- ---- a row
-length-row : (x w y : ℕ) → length (row x w y) ≡ w
+pub length-row : (x w y : ℕ) → length (row x w y) ≡ w
 unfolding row
 length-row x w y = length-map (range x w) (position y) ∙ length-range x w
 
@@ -43,7 +43,7 @@ row-step x i y l h = over-pair (flat (row x i y)) l (2 * i) (pos (x + i)) (pos y
 abbrev pub rows : ℕ → ℕ → ℕ → ℕ → List Position
 rows x w y n = flatMap (row x w) (range y n)
 
-length-rows : (x w y n : ℕ) → length (rows x w y n) ≡ n * w
+pub length-rows : (x w y n : ℕ) → length (rows x w y n) ≡ n * w
 length-rows x w y n = length-flatMap (row x w) w (length-row x w) (range y n) ∙ ap (λ k. k * w) (length-range y n)
 
 flat-rows-next : (x w y j : ℕ) → flat (rows x w y (j + 1)) ≡ flat (rows x w y j) ++ flat (row x w (y + j))

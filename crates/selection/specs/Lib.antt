@@ -1,3 +1,4 @@
 pub mod Selection
 pub mod Calls
 pub mod Asked
+pub mod Region

@@ -1,0 +1,77 @@
+-- `copy`, `clip_rgba` and `eyedropper` of tools.rs: their checks, in document 01's order, and their answers. Definitions only. Assumes nothing.
+use Prim.Native.Nat.{ℕ, _+_, _*_}
+use mathlib.Core.Bool.{not, cond}
+use mathlib.Core.List.{List, [], _∷_, _++_, map, flatMap}
+use lib.Dec.{ltb, eqb}
+use lib.IntN.{ℤ, pos, negsuc}
+use lib.ListN.{length, getD}
+use Rattle.limits.specs.Limits.{maxSide}
+use Rattle.limits.specs.Numbers.{noSpace, badClip}
+use Rattle.limits.specs.Checks.{Check, _when_, checked}
+use Rattle.limits.specs.Answer.{Filled, filled}
+use Rattle.limits.specs.declared.Counted.the-variants as counted
+use Rattle.limits.specs.declared.Rgb.{Rgb}
+use Rattle.lists.specs.Lists.{over}
+use Rattle.sheet.specs.Sheet.{Sheet}
+use Rattle.sheet.specs.Checks.{sheetChecks}
+use Rattle.sheet.specs.Document.{rgbAt}
+use Rattle.selection.specs.declared.Selection.{Selection}
+use Rattle.selection.specs.declared.Area.{Area}
+use Rattle.selection.specs.Selection.{Position, positions}
+use Rattle.selection.specs.Region.{regionChecks, regionIn}
+use Rattle.clips.specs.declared.Copied.{Copied}
+use Rattle.clips.specs.declared.Copied.the-variants as copied
+
+-- ---- what a call that makes a clip leaves: its answer, and the buffer
+pub record Clipped : Type 0 where
+  pub answer : Copied
+  pub buffer : List ℤ
+
+abbrev pub clipped : Copied → List ℤ → Clipped
+clipped answer buffer = record { answer = answer; buffer = buffer }
+
+-- a call's checks, then 16; a clip of w by h, its indices row by row at the front of the buffer
+unfoldable pub clipOf : List Check → ℕ → ℕ → List ℤ → List ℤ → Clipped
+clipOf checks w h indices out =
+    checked (checks ++ (noSpace when ltb (length out) (length indices) ∷ []))
+    (λ n. clipped (copied.Refused n) out)
+    (clipped (copied.Clip w h) (over indices out))
+
+-- what the pixels at these positions give, out of rows that are w wide
+unfoldable pub fromRows : ℕ → (ℕ → ℤ) → List Position → List ℤ
+fromRows w pixel ps = map (λ p. pixel (p .y * w + p .x)) ps
+
+-- ---- `copy`: "Copy the selection's indices (the whole image without one)"; 1, 2, 3, 5, 16
+abbrev pub indexOf : List ℤ → ℕ → ℤ
+indexOf indices p = getD indices p (pos 0)
+
+unfoldable pub copyOf : Sheet → Area → List ℤ → Clipped
+copyOf s area out =
+    let region = regionIn area (s .w) (s .h) in
+    clipOf (sheetChecks [] s ++ regionChecks area (s .w) (s .h)) (region .w) (region .h) (fromRows (s .w) (indexOf (s .indices)) (positions region)) out
+
+-- ---- `clip_rgba`: "A clip as RGBA8 (transparent pixels `0, 0, 0, 0`)"; 1, 2, 3, 17, 16
+abbrev pub opaque : Rgb → List ℕ
+opaque c = c .r ∷ c .g ∷ c .b ∷ 255 ∷ []
+
+abbrev pub clear : List ℕ
+clear = 0 ∷ 0 ∷ 0 ∷ 0 ∷ []
+
+-- the palette's colour where the index is an entry
+unfoldable pub rgbaOf : ℕ → List ℕ → ℤ → List ℕ
+rgbaOf k palette (pos n) = cond (ltb n k) (opaque (rgbAt palette n)) clear
+rgbaOf k palette (negsuc n) = clear
+
+-- "side over 1,024 .. or length not w × h"
+unfoldable pub clipChecks : ℕ → ℕ → List ℤ → List Check
+clipChecks w h clip =
+    badClip when ltb maxSide w
+    ∷ badClip when ltb maxSide h
+    ∷ badClip when not (eqb (length clip) (w * h))
+    ∷ []
+
+unfoldable pub clipRgbaOf : Sheet → ℕ → ℕ → List ℤ → List ℕ → Filled ℕ
+clipRgbaOf s w h clip out =
+    checked (sheetChecks [] s ++ (clipChecks w h clip ++ (noSpace when ltb (length out) (4 * length clip) ∷ [])))
+    (λ n. filled (counted.Refused n) out)
+    (filled (counted.Count (4 * length clip)) (over (flatMap (rgbaOf (s .k) (s .palette)) clip) out))
