@@ -1,7 +1,7 @@
 -- The cache of `snap_rgba`: each slot holds a colour with its own entry. Definitions only. Assumes nothing.
 use mathlib.Core.Path.{_≡_}
 use mathlib.Core.List.{List}
-use Prim.Native.Nat.{ℕ, _+_, _*_, _/_, _%_, _^_, _<_}
+use Prim.Native.Nat.{ℕ, _+_, _/_, _%_, _^_, _<_}
 use lib.Ieee.{Float}
 use lib.ListN.{getD}
 use Rattle.limits.specs.declared.Rgb.{Rgb}

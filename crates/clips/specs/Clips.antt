@@ -15,7 +15,6 @@ use Rattle.lists.specs.Lists.{over}
 use Rattle.sheet.specs.Sheet.{Sheet}
 use Rattle.sheet.specs.Checks.{sheetChecks}
 use Rattle.sheet.specs.Document.{rgbAt}
-use Rattle.selection.specs.declared.Selection.{Selection}
 use Rattle.selection.specs.declared.Area.{Area}
 use Rattle.selection.specs.Selection.{Position, positions}
 use Rattle.selection.specs.Region.{regionChecks, regionIn}
