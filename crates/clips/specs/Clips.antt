@@ -1,4 +1,4 @@
--- `copy`, `clip_rgba` and `eyedropper` of tools.rs: their checks, in document 01's order, and their answers. Definitions only. Assumes nothing.
+-- `copy` and `clip_rgba` of tools.rs: their checks, in document 01's order, and their answers. Definitions only. Assumes nothing.
 use Prim.Native.Nat.{ℕ, _+_, _*_}
 use mathlib.Core.Bool.{not, cond}
 use mathlib.Core.List.{List, [], _∷_, _++_, map, flatMap}
