@@ -1,0 +1,163 @@
+// `move_selection`.
+use crate::Shifted;
+use crate::blocks::clear_rows;
+use crate::blocks::land;
+use changes::differences;
+use changes::hand_out;
+use changes::lay;
+use limits::Counted;
+use limits::NO_SPACE;
+use selection::Chosen;
+use selection::Selection;
+use sheet::check;
+ghost use mathlib.Core.Path.{_≡_};
+ghost use mathlib.Core.List.{map};
+ghost use lib.ListN.{length};
+ghost use Rattle.limits.specs.Checks.{firstOf};
+ghost use Rattle.sheet.specs.Sheet.{sheetOf};
+ghost use Rattle.selection.specs.Calls.{shiftChecks};
+ghost use Rattle.edits.specs.Change.{packed};
+ghost use Rattle.changes.specs.Normal.{normalizeOf, Front};
+ghost use Rattle.moves.specs.Blocks.{Movable};
+ghost use Rattle.moves.specs.Moves.{unmoved, moveChanges, movedList, movedSelection, shiftedOf, moveChecks, moveCall, left};
+
+// Shift 0.
+fn is_unmoved(dx: i32, dy: i32) -> bool
+    ensures { λ r. ⌜ r ≡ unmoved dx dy ⌝ }
+{
+    dx == 0 && dy == 0
+}
+
+// The number of the first check of a shift and a selection that applies, or 0: 15, 5.
+fn shift_no(s: Selection, dx: i32, dy: i32, w: usize, h: usize) -> u8
+    ensures { λ r. ⌜ r ≡ firstOf (shiftChecks s dx dy w h) ⌝ }
+{
+    match s.translated(dx, dy, w, h) {
+        Chosen::Part(_) => 0,
+        Chosen::Nothing => 0,
+        Chosen::Refused(no) => no,
+    }
+}
+
+// The number of the first check of a move that applies, or 0. `room` is the scratch's length.
+fn move_no(
+    w: usize,
+    h: usize,
+    k: usize,
+    palette: &[u8],
+    lab: &[f64],
+    indices: &[i16],
+    s: Selection,
+    dx: i32,
+    dy: i32,
+    room: usize,
+) -> u8
+    ensures { λ r. ⌜ r ≡ firstOf (moveChecks (sheetOf w h k (now (palette .entry)) (now (lab .entry)) (now (indices .entry))) s dx dy room) ⌝ }
+{
+    let no = check(w, h, k, palette, lab, indices);
+    if no != 0 {
+        return no;
+    }
+    let far = shift_no(s, dx, dy, w, h);
+    if far != 0 {
+        return far;
+    }
+    if room < indices.len() {
+        return NO_SPACE;
+    }
+    0
+}
+
+// The changes of a move at the front of the scratch; answers how many they are. The selection is cleared first,
+// then painted where it lands; `indices` keeps the picture as it was.
+fn list_move(
+    w: usize,
+    h: usize,
+    indices: &[i16],
+    s: Selection,
+    dx: i32,
+    dy: i32,
+    scratch: &mut [u64],
+) -> usize
+    requires { ⌜ Movable w h (now indices) s dx dy (length (now scratch)) ⌝ }
+    ensures { λ r. ⌜ Front (map packed (normalizeOf (moveChanges w h (now (indices .entry)) s dx dy))) (now (scratch .exit)) r ⌝ }
+{
+    lay(indices, scratch);
+    clear_rows(
+        scratch,
+        w,
+        s.x as usize,
+        s.y as usize,
+        s.w as usize,
+        s.h as usize,
+    );
+    land(indices, w, s, dx, dy, w, h, scratch);
+    differences(indices, w, h, scratch)
+}
+
+// The same, and none where the shift is 0.
+fn list_moved(
+    w: usize,
+    h: usize,
+    indices: &[i16],
+    s: Selection,
+    dx: i32,
+    dy: i32,
+    scratch: &mut [u64],
+) -> usize
+    requires { ⌜ Movable w h (now indices) s dx dy (length (now scratch)) ⌝ }
+    ensures { λ r. ⌜ Front (map packed (movedList w h (now (indices .entry)) s dx dy)) (now (scratch .exit)) r ⌝ }
+{
+    if is_unmoved(dx, dy) {
+        return 0;
+    }
+    list_move(w, h, indices, s, dx, dy, scratch)
+}
+
+// The selection after a move: the old one where the shift is 0.
+fn moved_selection(s: Selection, dx: i32, dy: i32, w: usize, h: usize) -> Chosen
+    requires { ⌜ firstOf (shiftChecks s dx dy w h) ≡ 0 ⌝ }
+    ensures { λ r. ⌜ r ≡ movedSelection s dx dy w h ⌝ }
+{
+    if is_unmoved(dx, dy) {
+        return Chosen::Part(s);
+    }
+    s.translated(dx, dy, w, h)
+}
+
+// What a call answers with a list that was handed out and a selection.
+pub(crate) fn shifted(counted: Counted, selection: Chosen) -> Shifted
+    ensures { λ r. ⌜ r ≡ shiftedOf selection counted ⌝ }
+{
+    match counted {
+        Counted::Count(count) => Shifted::Changes { count, selection },
+        Counted::Refused(no) => Shifted::Refused(no),
+    }
+}
+
+// Moves the selection's contents by (dx, dy): transparency where they were, the moved indices where they land,
+// clipped to the sheet. The changes are written to the front of out.
+pub fn move_selection(
+    w: usize,
+    h: usize,
+    k: usize,
+    palette: &[u8],
+    lab: &[f64],
+    indices: &[i16],
+    s: Selection,
+    dx: i32,
+    dy: i32,
+    scratch: &mut [u64],
+    out: &mut [u64],
+) -> Shifted
+    ensures { λ r. ⌜ left r (now (out .exit)) ≡ moveCall (sheetOf w h k (now (palette .entry)) (now (lab .entry)) (now (indices .entry))) s dx dy (length (now (scratch .entry))) (now (out .entry)) ⌝ }
+    ensures { λ _. ⌜ length (now (scratch .exit)) ≡ length (now (scratch .entry)) ⌝ }
+{
+    let no = move_no(w, h, k, palette, lab, indices, s, dx, dy, scratch.len());
+    if no != 0 {
+        return Shifted::Refused(no);
+    }
+    let n = list_moved(w, h, indices, s, dx, dy, scratch);
+    let counted = hand_out(scratch, n, out);
+    shifted(counted, moved_selection(s, dx, dy, w, h))
+}
