@@ -1,0 +1,259 @@
+// The calls: their checks, and the picture laid out, painted and compared.
+use crate::Stage;
+use crate::brush::clamp;
+use crate::brush::paint_path;
+use crate::brush::paint_two;
+use crate::frame::paint_rectangle;
+use apply::bits_of;
+use changes::differences;
+use changes::hand_out;
+use changes::lay;
+use ints::is_far;
+use limits::BAD_SHEET;
+use limits::Counted;
+use limits::LIST_TOO_LONG;
+use limits::MAX_CHANGES;
+use limits::NO_SPACE;
+use limits::OFF_THE_SHEET;
+use limits::TOO_FAR;
+use lists::either;
+use selection::Area;
+use selection::Chosen;
+use selection::region;
+use sheet::check;
+ghost use mathlib.Core.Path.{_≡_};
+ghost use mathlib.Core.List.{List, map};
+ghost use Prim.Native.Nat.{_*_, _%_, _≤_, _^_};
+ghost use lib.ListN.{length};
+ghost use Rattle.limits.specs.Checks.{Check, firstOf};
+ghost use Rattle.lists.specs.Lists.{some};
+ghost use Rattle.ints.specs.Ints.{far};
+ghost use Rattle.sheet.specs.Sheet.{sheetOf};
+ghost use Rattle.lines.specs.Line.{point, farPoint};
+ghost use Rattle.edits.specs.Change.{packed};
+ghost use Rattle.changes.specs.Between.{between, laidOut};
+ghost use Rattle.changes.specs.Listed.{handed};
+ghost use Rattle.drawing.specs.Calls.{leaves, stageOf, cornerChecks, pointChecks, pencilCall, eraserCall, lineCall, rectangleCall};
+
+// The region to draw in, or the number of the first of 1 to 3, `no`, 5 and the scratch's 16 that applies; `no`
+// is what the points are refused with, or 0.
+fn stage(
+    w: usize,
+    h: usize,
+    k: usize,
+    palette: &[u8],
+    lab: &[f64],
+    indices: &[i16],
+    no: u8,
+    area: Area,
+    room: usize,
+) -> Stage
+    ensures { λ r. ⌜ ((given : List Check) → no ≡ firstOf given → r ≡ stageOf (sheetOf w h k (now (palette .entry)) (now (lab .entry)) (now (indices .entry))) given area room) ⌝ }
+{
+    let first = check(w, h, k, palette, lab, indices);
+    if first != 0 {
+        return Stage::Refused(first);
+    }
+    if no != 0 {
+        return Stage::Refused(no);
+    }
+    let Chosen::Part(s) = region(area, w, h) else {
+        return Stage::Refused(OFF_THE_SHEET);
+    };
+    if room < indices.len() {
+        return Stage::Refused(NO_SPACE);
+    }
+    Stage::Canvas(s)
+}
+
+// The end of each call: the changes from the picture to the one that is painted in the scratch, over the front of
+// out; 16 where it has fewer places, and then nothing is written.
+fn finish(indices: &[i16], w: usize, h: usize, scratch: &mut [u64], out: &mut [u64]) -> Counted
+    requires { ⌜ (w ≤ 2 ^ 16) × (h ≤ 2 ^ 16) × (length (now indices) ≡ w * h) × (length (now indices) ≤ length (now scratch)) ⌝ }
+    ensures { λ r. ⌜ leaves r (now (out .exit)) ≡ handed (map packed (between w (now (indices .entry)) (laidOut (length (now (indices .entry))) (now (scratch .entry))))) (now (out .entry)) ⌝ }
+{
+    let n = differences(indices, w, h, scratch);
+    hand_out(scratch, n, out)
+}
+
+// Number 15 of a point.
+fn far_point(x: i32, y: i32) -> bool
+    ensures { λ r. ⌜ r ≡ farPoint (point x y) ⌝ }
+{
+    is_far(x) || is_far(y)
+}
+
+// Number 15 of two corners, or 0.
+fn corners_no(ax: i32, ay: i32, bx: i32, by: i32) -> u8
+    ensures { λ r. ⌜ r ≡ firstOf (cornerChecks (point ax ay) (point bx by)) ⌝ }
+{
+    if far_point(ax, ay) {
+        return TOO_FAR;
+    }
+    if far_point(bx, by) {
+        return TOO_FAR;
+    }
+    0
+}
+
+// Whether a number lies beyond the limit. The scan has no early exit.
+fn any_far(points: &[i32]) -> bool
+    ensures { λ r. ⌜ r ≡ some far (now (points .entry)) ⌝ }
+{
+    let mut bad = false;
+    let mut i: usize = 0;
+    while i < points.len() {
+        bad = either(bad, is_far(points[i]));
+        i += 1;
+    }
+    bad
+}
+
+// 21 or 15 of a list of points, or 0.
+fn points_no(points: &[i32]) -> u8
+    requires { ⌜ length (now points) % 2 ≡ 0 ⌝ }
+    ensures { λ r. ⌜ r ≡ firstOf (pointChecks (now (points .entry))) ⌝ }
+{
+    if MAX_CHANGES < points.len() / 2 {
+        return LIST_TOO_LONG;
+    }
+    if any_far(points) {
+        return TOO_FAR;
+    }
+    0
+}
+
+// Paints `index` with a square brush along points, which are lent as x then y; a list of an odd length is 1. The
+// brush is clamped to 1 to 8.
+pub fn pencil(
+    w: usize,
+    h: usize,
+    k: usize,
+    palette: &[u8],
+    lab: &[f64],
+    indices: &[i16],
+    area: Area,
+    points: &[i32],
+    size: usize,
+    index: i16,
+    scratch: &mut [u64],
+    out: &mut [u64],
+) -> Counted
+    ensures { λ r. ⌜ leaves r (now (out .exit)) ≡ pencilCall (sheetOf w h k (now (palette .entry)) (now (lab .entry)) (now (indices .entry))) area (now (points .entry)) size index (length (now (scratch .entry))) (now (out .entry)) ⌝ }
+    ensures { λ _. ⌜ length (now (scratch .exit)) ≡ length (now (scratch .entry)) ⌝ }
+{
+    if points.len() % 2 != 0 {
+        return Counted::Refused(BAD_SHEET);
+    }
+    let no = points_no(points);
+    match stage(w, h, k, palette, lab, indices, no, area, scratch.len()) {
+        Stage::Canvas(s) => {
+            let v = bits_of(index) as u64;
+            let brush = clamp(size);
+            lay(indices, scratch);
+            paint_path(points, scratch, w, s, brush, v);
+            finish(indices, w, h, scratch, out)
+        }
+        Stage::Refused(n) => Counted::Refused(n),
+    }
+}
+
+// The pencil with transparency.
+pub fn eraser(
+    w: usize,
+    h: usize,
+    k: usize,
+    palette: &[u8],
+    lab: &[f64],
+    indices: &[i16],
+    area: Area,
+    points: &[i32],
+    size: usize,
+    scratch: &mut [u64],
+    out: &mut [u64],
+) -> Counted
+    ensures { λ r. ⌜ leaves r (now (out .exit)) ≡ eraserCall (sheetOf w h k (now (palette .entry)) (now (lab .entry)) (now (indices .entry))) area (now (points .entry)) size (length (now (scratch .entry))) (now (out .entry)) ⌝ }
+    ensures { λ _. ⌜ length (now (scratch .exit)) ≡ length (now (scratch .entry)) ⌝ }
+{
+    pencil(
+        w,
+        h,
+        k,
+        palette,
+        lab,
+        indices,
+        area,
+        points,
+        size,
+        -1,
+        scratch,
+        out,
+    )
+}
+
+// The line from a to b with the brush.
+pub fn line(
+    w: usize,
+    h: usize,
+    k: usize,
+    palette: &[u8],
+    lab: &[f64],
+    indices: &[i16],
+    area: Area,
+    ax: i32,
+    ay: i32,
+    bx: i32,
+    by: i32,
+    size: usize,
+    index: i16,
+    scratch: &mut [u64],
+    out: &mut [u64],
+) -> Counted
+    ensures { λ r. ⌜ leaves r (now (out .exit)) ≡ lineCall (sheetOf w h k (now (palette .entry)) (now (lab .entry)) (now (indices .entry))) area (point ax ay) (point bx by) size index (length (now (scratch .entry))) (now (out .entry)) ⌝ }
+    ensures { λ _. ⌜ length (now (scratch .exit)) ≡ length (now (scratch .entry)) ⌝ }
+{
+    let no = corners_no(ax, ay, bx, by);
+    match stage(w, h, k, palette, lab, indices, no, area, scratch.len()) {
+        Stage::Canvas(s) => {
+            let v = bits_of(index) as u64;
+            let brush = clamp(size);
+            lay(indices, scratch);
+            paint_two(scratch, w, s, brush, ax, ay, bx, by, v);
+            finish(indices, w, h, scratch, out)
+        }
+        Stage::Refused(n) => Counted::Refused(n),
+    }
+}
+
+// The rectangle with corners a and b, both included: its four edges, or every pixel inside with `filled`.
+pub fn rectangle(
+    w: usize,
+    h: usize,
+    k: usize,
+    palette: &[u8],
+    lab: &[f64],
+    indices: &[i16],
+    area: Area,
+    ax: i32,
+    ay: i32,
+    bx: i32,
+    by: i32,
+    filled: bool,
+    index: i16,
+    scratch: &mut [u64],
+    out: &mut [u64],
+) -> Counted
+    ensures { λ r. ⌜ leaves r (now (out .exit)) ≡ rectangleCall (sheetOf w h k (now (palette .entry)) (now (lab .entry)) (now (indices .entry))) area (point ax ay) (point bx by) filled index (length (now (scratch .entry))) (now (out .entry)) ⌝ }
+    ensures { λ _. ⌜ length (now (scratch .exit)) ≡ length (now (scratch .entry)) ⌝ }
+{
+    let no = corners_no(ax, ay, bx, by);
+    match stage(w, h, k, palette, lab, indices, no, area, scratch.len()) {
+        Stage::Canvas(s) => {
+            let v = bits_of(index) as u64;
+            lay(indices, scratch);
+            paint_rectangle(scratch, w, s, ax, ay, bx, by, filled, v);
+            finish(indices, w, h, scratch, out)
+        }
+        Stage::Refused(n) => Counted::Refused(n),
+    }
+}

@@ -1,0 +1,34 @@
+// The drawing tools of tools.rs: `pencil`, `eraser`, `line`, `rectangle`. Each makes the list of changes that
+// paints one index at its points, as far as the selection has them; no sheet is changed.
+//
+// The picture is laid out in the scratch and painted there, clipped to the selection first; then the places that
+// differ are the changes. So the raw list of the Rust, which may be far longer than the sheet, is never made.
+mod brush;
+mod calls;
+mod frame;
+mod paint;
+
+pub use calls::eraser;
+pub use calls::line;
+pub use calls::pencil;
+pub use calls::rectangle;
+use selection::Selection;
+
+// The places of one axis that are painted: count of them from start on.
+pub(crate) struct Run {
+    pub start: usize,
+    pub count: usize,
+}
+
+// The columns of a rectangle: all of them, the first, and the last where it is another.
+pub(crate) struct Columns {
+    pub all: Run,
+    pub left: Run,
+    pub right: Run,
+}
+
+// What the checks leave: the region to draw in, or their number.
+pub(crate) enum Stage {
+    Canvas(Selection),
+    Refused(u8),
+}
