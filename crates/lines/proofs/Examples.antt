@@ -8,17 +8,17 @@ use Rattle.lists.specs.Lists.{range}
 use Rattle.lines.specs.Line.{Point, point, side, toward, dividend, offset, longer, pointAt, lineOf}
 use Rattle.lines.specs.Brush.{clamped, covered, stampAt, onward, pathOf, stamped}
 
-abbrev at : ℕ → ℕ → Point
+abbrev pub at : ℕ → ℕ → Point
 at x y = point (pos x) (pos y)
 
 -- "starred: proved together as a group"
-record Starred : Type 0 where
+pub record Starred : Type 0 where
   -- "(0,0)-(2,1): (0,0),(1,1),(2,1)"
-  forth : lineOf (at 0 0) (at 2 1) ≡ at 0 0 ∷ at 1 1 ∷ at 2 1 ∷ []
+  pub forth : lineOf (at 0 0) (at 2 1) ≡ at 0 0 ∷ at 1 1 ∷ at 2 1 ∷ []
   -- "Back: (2,1),(1,0),(0,0)"
-  back : lineOf (at 2 1) (at 0 0) ≡ at 2 1 ∷ at 1 0 ∷ at 0 0 ∷ []
+  pub back : lineOf (at 2 1) (at 0 0) ≡ at 2 1 ∷ at 1 0 ∷ at 0 0 ∷ []
 
-starred : Starred
+pub starred : Starred
 unfolding range side toward dividend offset longer pointAt lineOf
 starred = record { forth = refl; back = refl }
 

@@ -3,4 +3,4 @@ pub mod Toward
 pub mod Walks
 pub mod Points
 pub mod Ends
-mod Examples
+pub mod Examples

@@ -13,19 +13,19 @@ use Rattle.edits.specs.Change.{place, painted, newOf}
 use Rattle.changes.specs.Normal.{keyOf, joined, enter, entered, kept, changing, normalizeOf}
 use Rattle.moves.specs.Moves.{ontoGot, onto, landed, cleared, moveChanges, unmoved, movedList, movedSelection, pasteChanges, pastedSelection}
 
-abbrev at : ℕ → ℕ → ℕ → ℕ → Selection
+abbrev pub at : ℕ → ℕ → ℕ → ℕ → Selection
 at x y w h = record { x = x; y = y; w = w; h = h }
 
 -- three pixels in a row: 4, 5, transparent
-abbrev line : List ℤ
+abbrev pub line : List ℤ
 line = pos 4 ∷ pos 5 ∷ negsuc 0 ∷ []
 
 -- "starred: proved together as a group"
-record Starred : Type 0 where
+pub record Starred : Type 0 where
   -- "4,5,-1, first two moved right by 1: -1,4,5"
-  right : painted newOf 3 (movedList 3 1 line (at 0 0 2 1) (pos 1) (pos 0)) line ≡ negsuc 0 ∷ pos 4 ∷ pos 5 ∷ []
+  pub right : painted newOf 3 (movedList 3 1 line (at 0 0 2 1) (pos 1) (pos 0)) line ≡ negsuc 0 ∷ pos 4 ∷ pos 5 ∷ []
 
-starred : Starred
+pub starred : Starred
 unfolding flatMap range eqZ fromZero indexAt row positions place painted keyOf joined enter entered kept changing normalizeOf ontoGot onto landed cleared moveChanges unmoved movedList
 starred = record { right = refl }
 

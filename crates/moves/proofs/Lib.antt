@@ -6,4 +6,4 @@ pub mod Placing
 pub mod Answers
 pub mod Spans
 pub mod Clips
-mod Examples
+pub mod Examples

@@ -1,0 +1,1 @@
+// No code: specs/ has document 01's starred examples as one group, which proofs/ proves.
