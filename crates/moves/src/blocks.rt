@@ -33,7 +33,7 @@ fn clear_row(scratch: &mut [u64], to: usize, n: usize)
 }
 
 // h rows of w places cleared, from column x and row y of a picture on.
-pub fn clear_rows(scratch: &mut [u64], width: usize, x: usize, y: usize, w: usize, h: usize)
+pub(crate) fn clear_rows(scratch: &mut [u64], width: usize, x: usize, y: usize, w: usize, h: usize)
     requires { ⌜ Rows width x y w h (length (now scratch)) ⌝ }
     ensures { λ _. ⌜ ((p : ℕ) → laidOut p (now (scratch .exit)) ≡ block (λ j i. negsuc 0) width x y w h (laidOut p (now (scratch .entry)))) ⌝ }
 {
@@ -53,7 +53,7 @@ fn write_row(source: &[i16], from: usize, scratch: &mut [u64], to: usize, n: usi
 }
 
 // The part of a source that lands on a picture, written there.
-pub fn write_rows(
+pub(crate) fn write_rows(
     source: &[i16],
     source_w: usize,
     scratch: &mut [u64],
@@ -84,7 +84,7 @@ fn offset(d: i32) -> usize
 }
 
 // Where count places from start on land on an axis of `side` places, moved by d.
-pub fn landing(start: usize, count: usize, d: i32, side: usize) -> Landing
+pub(crate) fn landing(start: usize, count: usize, d: i32, side: usize) -> Landing
     requires { ⌜ (far d ≡ false) × (start < 2 ^ 16) × (count < 2 ^ 16) ⌝ }
     ensures { λ r. ⌜ r ≡ landing start count (fromZero (d +ℤ pos 65536)) side ⌝ }
 {
@@ -99,7 +99,7 @@ pub fn landing(start: usize, count: usize, d: i32, side: usize) -> Landing
 }
 
 // The rectangle s of a source, moved by (dx, dy), written on the part of a sheet that it lands on.
-pub fn land(
+pub(crate) fn land(
     source: &[i16],
     source_w: usize,
     s: Selection,
