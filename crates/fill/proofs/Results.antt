@@ -22,7 +22,8 @@ use Rattle.sheet.specs.Sheet.{Sheet}
 use Rattle.edits.specs.Change.{Change, packed}
 use Rattle.changes.specs.Normal.{Front}
 use Rattle.flood.specs.Flood.{floodOf}
-use Rattle.fill.specs.Fill.{regionIn, startOf, fillOf, fillChecks, floodFillOf}
+use Rattle.selection.specs.Region.{regionIn}
+use Rattle.fill.specs.Fill.{startOf, fillOf, fillChecks, floodFillOf}
 
 -- ---- what is filled
 pub none-front : (s : List ℕ) (cs : List Change) → cs ≡ [] → Front (map packed cs) s 0

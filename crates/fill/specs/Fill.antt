@@ -15,16 +15,12 @@ use Rattle.ints.specs.Ints.{eqZ, far, fromZero}
 use Rattle.selection.specs.declared.Selection.{Selection}
 use Rattle.selection.specs.declared.Area.{Area}
 use Rattle.selection.specs.declared.Area.the-variants as area
-use Rattle.selection.specs.Selection.{inside, all, containsI}
+use Rattle.selection.specs.Selection.{inside, containsI}
+use Rattle.selection.specs.Region.{regionIn}
 use Rattle.sheet.specs.Sheet.{Sheet}
 use Rattle.sheet.specs.Checks.{sheetChecks, WellFormed}
 use Rattle.edits.specs.Change.{Change, packed}
 use Rattle.flood.specs.Flood.{floodOf}
-
--- "a selection (none means all)": `region`
-unfoldable pub regionIn : Area → ℕ → ℕ → Selection
-regionIn area.Whole w h = all w h
-regionIn (area.Part s) w h = s
 
 -- "off the sheet: a selection, not inside"
 unfoldable pub offSheet : Area → ℕ → ℕ → Bool

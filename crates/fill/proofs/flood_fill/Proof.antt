@@ -8,7 +8,8 @@ use Rattle.edits.specs.Change.{packed}
 use Rattle.changes.specs.Normal.{Front}
 use Rattle.changes.proofs.Fronts.{front-within}
 use Rattle.limits.specs.Checks.{firstOf}
-use Rattle.fill.specs.Fill.{regionIn, fillOf, fillChecks, Fillable, Fine}
+use Rattle.selection.specs.Region.{regionIn}
+use Rattle.fill.specs.Fill.{fillOf, fillChecks, Fillable, Fine}
 use Rattle.fill.proofs.Tests.{ready}
 use Rattle.fill.proofs.Results.{answer-refused, answer-short, answer-filled}
 use borrow.Author.Needs.{needs}

@@ -1,6 +1,6 @@
 -- `region_in`: by the two cases. Assumes nothing.
 use Rattle.selection.specs.Selection.{all}
-use Rattle.fill.specs.Fill.{regionIn}
+use Rattle.selection.specs.Region.{regionIn}
 use borrow.Author.Needs.{needs}
 use Rattle.fill.proofs.region_in.Statement.{statement}
 use Rattle.fill.proofs.region_in.Tie as tie
