@@ -1,0 +1,36 @@
+// A change as makers hold it: a struct of four fields. The calls over lent slices of them stand in the crates
+// above; here is what they do with one.
+use apply::change_of;
+use apply::column;
+use apply::new_of;
+use apply::old_of;
+use apply::row;
+ghost use mathlib.Core.Path.{_≡_};
+ghost use Rattle.structs.specs.Struct.{packedOf, structOf};
+
+// "a list of changes, each with x, y, old and new".
+pub struct Change {
+    pub x: u16,
+    pub y: u16,
+    pub old: i16,
+    pub new: i16,
+}
+
+// The change as one number of 64 bits, as the core takes it.
+pub fn packed(c: Change) -> u64
+    ensures { λ r. ⌜ r ≡ packedOf c ⌝ }
+{
+    change_of(c.x as usize, c.y as usize, c.old, c.new)
+}
+
+// The struct of such a number.
+pub fn unpacked(c: u64) -> Change
+    ensures { λ r. ⌜ r ≡ structOf c ⌝ }
+{
+    Change {
+        x: column(c) as u16,
+        y: row(c) as u16,
+        old: old_of(c),
+        new: new_of(c),
+    }
+}
