@@ -13,7 +13,7 @@ use Rattle.sheet.specs.Document.{rgbAt}
 use Rattle.edits.specs.declared.Edit.the-variants.{PaletteRemove}
 use Rattle.edits.specs.Change.{Change}
 use Rattle.edits.specs.Checks.{Permitted, sameRgb, pixelChecks, misdirected, remapChecks, leftFrom, ownChecks}
-use Rattle.apply.specs.Inside.{bare}
+use Rattle.pixels.specs.Inside.{bare}
 
 module _ (s : Sheet) where
   pub bare-pixels : (replay : Bool) → pixelChecks replay (bare (s .w) (s .h) (s .k) (s .indices)) ≡ pixelChecks replay s

@@ -21,7 +21,7 @@ use Rattle.ints.specs.Ints.{eqZ}
 use Rattle.ints.proofs.Back.{by-value}
 use Rattle.edits.specs.Change.{Change}
 use Rattle.edits.specs.Checks.{named, leftFrom}
-use Rattle.apply.specs.Inside.{marked, Marks, leftAt}
+use Rattle.pixels.specs.Inside.{marked, Marks, leftAt}
 
 -- as the code reads it
 pub left-read : (i : ℕ) (l : List ℤ) (marks : List ℕ) (q : ℕ) {r : Bool} → mag (getD l q (pos 0)) < 2 ^ hbits w16

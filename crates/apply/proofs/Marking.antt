@@ -10,8 +10,8 @@ use lib.Seq.{getD-set-same, getD-set-other}
 use Rattle.lists.proofs.Scan.{Flagged, flag-step, flag-end}
 use Rattle.edits.specs.Change.{unpacked, place}
 use Rattle.edits.specs.Checks.{named}
-use Rattle.apply.specs.Inside.{marked, Marks}
-use Rattle.apply.proofs.Unpacking.{some-unpacked}
+use Rattle.pixels.specs.Inside.{marked, Marks}
+use Rattle.pixels.proofs.Unpacking.{some-unpacked}
 
 -- whether a change, as a number, names p
 abbrev names : ℕ → ℕ → ℕ → Bool

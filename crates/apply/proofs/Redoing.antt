@@ -16,9 +16,9 @@ use Rattle.edits.specs.declared.Edit.{Edit}
 use Rattle.edits.specs.declared.Edit.the-variants.{Pixels, PaletteSet, PaletteAdd, PaletteRemove}
 use Rattle.edits.specs.Change.{Change}
 use Rattle.edits.proofs.Passed.{Passed, passed}
-use Rattle.apply.specs.Inside.{past}
+use Rattle.pixels.specs.Inside.{past}
 use Rattle.apply.specs.Redoable.{EntryIn, Unrefused, Redoable}
-use Rattle.apply.proofs.Inside.{none-past}
+use Rattle.pixels.proofs.Inside.{none-past}
 
 facts : (s : Sheet) (e : Edit) (cs : List Change) → Unrefused s e cs → Passed s e cs
 facts s e cs u = passed (u .replay) s (u .permitted) e cs (u .passes)

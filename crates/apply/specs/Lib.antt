@@ -1,3 +1,1 @@
-pub mod Inside
 pub mod Redoable
-pub mod Listing

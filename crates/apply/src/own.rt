@@ -1,10 +1,8 @@
 // The checks of an edit, in document 01's order: one function a kind.
-use crate::checks::both;
-use crate::checks::pixels_no;
-use crate::colours::check_color;
-use crate::colours::has_rgb;
 use crate::remap::removal_no;
 use edits::Edit;
+use entries::check_color;
+use entries::has_rgb;
 use limits::COLOUR_NOT_PERMITTED;
 use limits::LAST_ENTRY;
 use limits::MAX_ENTRIES;
@@ -12,6 +10,8 @@ use limits::NO_SUCH_ENTRY;
 use limits::PALETTE_FULL;
 use limits::Rgb;
 use limits::STALE;
+use pixels::both;
+use pixels::pixels_no;
 ghost use mathlib.Core.Path.{_≡_};
 ghost use mathlib.Core.Bool.{Bool, not, _&&_};
 ghost use mathlib.Core.List.{List, map};

@@ -1,15 +1,15 @@
 // An edit that no check refuses: its record filled in, and the edit done.
-use crate::colours::rgb_at;
-use crate::indices::lower_above;
-use crate::paint::paint_news;
-use crate::storage::close_lab_gap;
-use crate::storage::close_palette_gap;
-use crate::storage::store_lab;
-use crate::storage::store_rgb;
 use cielab::lab_at;
 use color::rgb8_to_lab;
 use edits::Edit;
+use entries::close_lab_gap;
+use entries::close_palette_gap;
+use entries::rgb_at;
+use entries::store_lab;
+use entries::store_rgb;
 use limits::Rgb;
+use pixels::lower_above;
+use pixels::paint_news;
 ghost use mathlib.Core.Path.{_≡_};
 ghost use mathlib.Core.Bool.{false};
 ghost use mathlib.Core.List.{List, map};
@@ -22,7 +22,7 @@ ghost use Rattle.sheet.specs.Sheet.{Sheet, sheetOf};
 ghost use Rattle.edits.specs.Change.{unpacked, painted, newOf};
 ghost use Rattle.edits.specs.Storage.{bytesOf, numbersOf, stored, closed, lowered};
 ghost use Rattle.edits.specs.Apply.{filledEdit, redone};
-ghost use Rattle.apply.specs.Inside.{past};
+ghost use Rattle.pixels.specs.Inside.{past};
 ghost use Rattle.apply.specs.Redoable.{EntryIn, Redoable};
 
 // The edit with the colour and the LAB that its entry has now, as the journal keeps it.

@@ -1,16 +1,16 @@
 // The checks of a removal's list: 5 and 12, change by change, then 13: each pixel of the entry is named. The
 // named places are marked in a scratch of a byte a pixel, and the sheet is scanned once.
-use crate::change::is_outside;
-use crate::change::new_of;
-use crate::change::old_of;
-use crate::change::place_of;
-use crate::checks::both;
-use crate::checks::is_stray;
 use ints::same;
 use limits::BAD_REMAP;
 use limits::OFF_THE_SHEET;
 use limits::STILL_USED;
 use lists::either;
+use pixels::both;
+use pixels::is_outside;
+use pixels::is_stray;
+use pixels::new_of;
+use pixels::old_of;
+use pixels::place_of;
 ghost use mathlib.Core.Path.{_≡_};
 ghost use mathlib.Core.Bool.{false, _&&_, _||_};
 ghost use mathlib.Core.List.{List, [], _∷_, _++_, map, flatMap};
@@ -25,7 +25,7 @@ ghost use Rattle.ints.specs.Ints.{eqZ};
 ghost use Rattle.sheet.specs.Sheet.{stray};
 ghost use Rattle.edits.specs.Change.{Change, unpacked, place};
 ghost use Rattle.edits.specs.Checks.{misdirected, remapChecks, leftFrom};
-ghost use Rattle.apply.specs.Inside.{bare, past, Marks, leftAt};
+ghost use Rattle.pixels.specs.Inside.{bare, past, Marks, leftAt};
 
 // Whether an index is the entry's.
 pub fn is_entry(z: i16, index: usize) -> bool

@@ -4,7 +4,7 @@ use Prim.Native.Nat.{ℕ, zero, suc, _+_, _*_, _/_, _%_, _≤_, _<_, _^_}
 use mathlib.Core.Path.{_≡_, refl, sym, ap, _∙_}
 use mathlib.Core.Logic.{_≢_}
 use mathlib.Core.Bool.{true, false, cond}
-use mathlib.Core.List.{List, [], _∷_}
+use mathlib.Core.List.{List, [], _∷_, _++_}
 use native.Mathlib.Omega.{arith}
 use native.Mathlib.Decide.{ℕ-discrete}
 use lib.Arith.{digits-lt, digits-div, digits-mod}
@@ -24,6 +24,12 @@ use Rattle.changes.specs.Laws.{On, FirstOlds, Ordered}
 use Rattle.changes.specs.Between.{betweenFrom, between}
 use Rattle.changes.proofs.Order.{all-map}
 use Rattle.changes.proofs.Shortest.{eqZ-same, unchanged, normal-ordered, normal-changing, inside, normal-on, normal-olds, same-picture}
+
+-- one list painted after the other
+pub painted-append : (w : ℕ) (a b : List Change) (l : List ℤ) → painted newOf w (a ++ b) l ≡ painted newOf w b (painted newOf w a l)
+unfolding painted
+painted-append w [] b l = refl
+painted-append w (c ∷ a) b l = painted-append w a b (set l (place w c) (c .new))
 
 none : (w : ℕ) (m : List Change) (q : ℕ) → All (λ e. place w e ≢ q) m → named w m q ≡ false
 unfolding named some All

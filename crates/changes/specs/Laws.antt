@@ -33,6 +33,10 @@ firstLast (c ∷ cs) = folded c cs ∷ []
 unfoldable pub On : ℕ → ℕ → Change → Type 0
 On w h c = (c .x < w) × (c .y < h)
 
+-- "each tool's olds are the sheet's"
+unfoldable pub SheetOlds : ℕ → List ℤ → List Change → Type 0
+SheetOlds w l cs = All (λ c. c .old ≡ getD l (place w c) (pos 0)) cs
+
 -- E13: "first old at each place is the sheet's own index": m are the changes that came before
 unfoldable pub FirstOlds : ℕ → List ℤ → List Change → List Change → Type 0
 FirstOlds w l m [] = Unit {0}

@@ -1,6 +1,6 @@
 // The changes between two pictures: a tool lays the picture out in the scratch, paints there, and then the places
 // that differ are listed, row by row, over what was read. So no tool has a list of its own to normalise.
-use apply::bits_of;
+use pixels::bits_of;
 ghost use mathlib.Core.Path.{_≡_};
 ghost use mathlib.Core.List.{map};
 ghost use Prim.Native.Nat.{ℕ, _+_, _*_, _≤_, _<_, _^_};

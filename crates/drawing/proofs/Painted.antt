@@ -15,6 +15,7 @@ use Rattle.lines.specs.Line.{Point}
 use Rattle.edits.specs.Change.{Change, place, painted, newOf}
 use Rattle.changes.specs.Between.{laidOut}
 use Rattle.changes.proofs.Copying.{laid-set}
+use Rattle.changes.proofs.Pictures.{painted-append}
 use Rattle.drawing.specs.Points.{changeAt, changesAt}
 use Rattle.drawing.specs.Places.{setAll, placeAt, placesOf}
 
@@ -54,11 +55,6 @@ laid-all n [] z s f = refl
 laid-all n (p ∷ ps) z s f = laid-all n ps z (set s p (ofZ w16 z)) f ∙ ap (setAll ps z) (laid-set n s p z f)
 
 module _ (w : ℕ) (l₀ : List ℤ) (region : Selection) (z : ℤ) where
-  painted-append : (a b : List Change) (l : List ℤ) → painted newOf w (a ++ b) l ≡ painted newOf w b (painted newOf w a l)
-  unfolding painted
-  painted-append [] b l = refl
-  painted-append (c ∷ a) b l = painted-append a b (set l (place w c) (c .new))
-
   one : (p : Point) (l : List ℤ) → painted newOf w (changeAt w l₀ region z p) l ≡ setAll (placeAt region w p) z l
   unfolding changeAt placeAt painted setAll place
   one p l = go (containsI region (p .x) (p .y))
@@ -73,7 +69,7 @@ module _ (w : ℕ) (l₀ : List ℤ) (region : Selection) (z : ℤ) where
   unfolding changesAt placesOf painted setAll flatMap
   painted-places [] l = refl
   painted-places (p ∷ ps) l =
-      painted-append (changeAt w l₀ region z p) (flatMap (changeAt w l₀ region z) ps) l
+      painted-append w (changeAt w l₀ region z p) (flatMap (changeAt w l₀ region z) ps) l
       ∙ ap (painted newOf w (flatMap (changeAt w l₀ region z) ps)) (one p l)
       ∙ painted-places ps (setAll (placeAt region w p) z l)
       ∙ sym (set-append (placeAt region w p) (flatMap (placeAt region w) ps) z l)

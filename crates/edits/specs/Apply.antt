@@ -1,10 +1,11 @@
 -- What `redo` and `revert` of op.rs make of a sheet, and the picture that the ledger appends. Definitions only. Assumes nothing.
 use Prim.Native.Nat.{ℕ, suc, _-_, _*_}
-use mathlib.Core.Bool.{Bool, not, _&&_}
+use mathlib.Core.Bool.{Bool, false, not, _&&_}
 use mathlib.Core.List.{List, _++_, map}
-use lib.Dec.{ltb, leb}
+use lib.Dec.{ltb, leb, eqb}
 use lib.IntN.{ℤ}
 use lib.Ieee.{Float}
+use lib.ListN.{length}
 use Rattle.limits.specs.declared.Rgb.{Rgb}
 use Rattle.limits.specs.declared.Lab.{Lab}
 use Rattle.lists.specs.Lists.{some}
@@ -15,6 +16,13 @@ use Rattle.edits.specs.declared.Edit.{Edit}
 use Rattle.edits.specs.declared.Edit.the-variants.{Pixels, PaletteSet, PaletteAdd, PaletteRemove}
 use Rattle.edits.specs.Change.{Change, outside, painted, newOf, oldOf, filledIn}
 use Rattle.edits.specs.Storage.{bytesOf, numbersOf, stored, closed, opened, cut, lowered, raised}
+
+-- ---- "an empty pixel list"; "a removal with no remap is not empty"
+unfoldable pub noPixels : Edit → List Change → Bool
+noPixels (Pixels tool) cs = eqb (length cs) 0
+noPixels (PaletteSet i old new lab) cs = false
+noPixels (PaletteAdd c) cs = false
+noPixels (PaletteRemove i c lab) cs = false
 
 -- the sheet with other indices; with another palette count, palette and LAB
 abbrev pub withIndices : Sheet → List ℤ → Sheet

@@ -2,6 +2,11 @@
 // they need; the calls that answer every input stand in the crates above.
 use limits::Lab;
 use limits::Rgb;
+ghost use mathlib.Core.Path.{_≡_};
+ghost use mathlib.Core.List.{List};
+ghost use lib.ListN.{length};
+ghost use Rattle.edits.specs.Change.{Change};
+ghost use Rattle.edits.specs.Apply.{noPixels};
 
 // An edit, beside its list of changes: `Op` of op.rs.
 pub enum Edit {
@@ -26,4 +31,27 @@ pub enum Edit {
         rgb: Rgb,
         lab: Lab,
     },
+}
+
+impl Edit {
+    // Whether the edit, beside a list of `count` changes, is an empty list of pixels.
+    pub fn is_empty(self, count: usize) -> bool
+        ensures { λ r. ⌜ ((cs : List Change) → length cs ≡ count → r ≡ noPixels self cs) ⌝ }
+    {
+        match self {
+            Edit::Pixels { tool: _ } => count == 0,
+            Edit::PaletteSet {
+                index: _,
+                old: _,
+                new: _,
+                old_lab: _,
+            } => false,
+            Edit::PaletteAdd { rgb: _ } => false,
+            Edit::PaletteRemove {
+                index: _,
+                rgb: _,
+                lab: _,
+            } => false,
+        }
+    }
 }

@@ -16,8 +16,8 @@ use Rattle.ints.specs.Ints.{eqZ}
 use Rattle.selection.specs.Selection.{Position, position, row}
 use Rattle.selection.proofs.Rows.{rows}
 use Rattle.edits.specs.Change.{packed}
-use Rattle.apply.specs.Listing.{placesFrom}
-use Rattle.apply.proofs.Places.{places-few}
+use Rattle.pixels.specs.Listing.{placesFrom}
+use Rattle.pixels.proofs.Places.{places-few}
 use Rattle.fills.specs.Fills.{filter, hasIndex, replacing}
 
 -- ---- lists

@@ -2,9 +2,6 @@
 // makes the list of its changes, in rows, and changes no sheet.
 //
 // The changes are counted before the first is written, so that a buffer that is too short keeps its bits.
-use apply::change_of;
-use apply::count_on;
-use apply::list_row;
 use ints::from_zero;
 use ints::is_far;
 use ints::same;
@@ -12,6 +9,9 @@ use limits::Counted;
 use limits::NO_SPACE;
 use limits::OFF_THE_SHEET;
 use limits::TOO_FAR;
+use pixels::change_of;
+use pixels::count_on;
+use pixels::list_row;
 use selection::Area;
 use selection::Chosen;
 use selection::Held;

@@ -7,3 +7,4 @@ pub mod Filling
 pub mod Emitting
 pub mod Flooded
 pub mod RowScan
+pub mod Olds

@@ -1,5 +1,5 @@
 // The changes of the marked places, row by row.
-use apply::bits_of;
+use pixels::bits_of;
 ghost use mathlib.Core.Path.{_≡_};
 ghost use Prim.Native.Nat.{_*_, _%_, _≤_, _<_, _^_};
 ghost use lib.ListN.{length};

@@ -25,8 +25,8 @@ use Rattle.ledger.specs.Handle.{sound, steppedBack}
 use Rattle.ledger.specs.Calls.{Outcome, refused, done}
 use Rattle.ledger.specs.Journal.{State, over}
 use Rattle.ledger.proofs.Soundness.{sound-facts}
-use Rattle.history.specs.Editing.{taken, undoneBy, editing}
-use Rattle.history.specs.Calls.{stateOf, Standing}
+use Rattle.editing.specs.Editing.{taken, undoneBy, editing}
+use Rattle.editing.specs.Calls.{stateOf, Standing}
 use Rattle.history.proofs.Steps.{over-none, over-not, over-unsound, over-done}
 
 module _ (st : State editing) (kind start n count : ℕ) (stands : Standing st) where

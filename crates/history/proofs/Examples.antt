@@ -13,14 +13,14 @@ use Rattle.sheet.specs.Document.{rgbAt}
 use Rattle.edits.specs.Change.{unpacked, place, outside, painted, filledIn}
 use Rattle.edits.specs.Checks.{barred, pixelChecks, misdirected, remapChecks, named, leftFrom, ownChecks}
 use Rattle.edits.specs.Storage as storage
-use Rattle.edits.specs.Apply.{filledEdit, filledChanges, redone, reverted, canRevert}
+use Rattle.edits.specs.Apply.{noPixels, filledEdit, filledChanges, redone, reverted, canRevert}
 use Rattle.records.specs.Bytes.{le, unle, leAt}
 use Rattle.records.specs.Record as record-forms
 use Rattle.recorded.specs.Sound.{undoable}
 use Rattle.ledger.specs.Handle.{clauses, sound, savedPosition}
 use Rattle.ledger.specs.Calls.{play}
 use Rattle.ledger.specs.Journal.{written, pushed, pushOf, over, undoOf, markOf}
-use Rattle.history.specs.Editing.{noPixels, tooLong, undoneBy}
+use Rattle.editing.specs.Editing.{tooLong, undoneBy}
 use Rattle.history.specs.Examples.{Examples}
 
 pub examples : Examples

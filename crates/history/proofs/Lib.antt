@@ -1,14 +1,7 @@
-pub mod Recordable
-pub mod Keeps
-pub mod Demand3
-pub mod Answers
-pub mod PushChecks
-pub mod Accepting
 pub mod Steps
 pub mod Forth
 pub mod Back
 pub mod NextFound
 pub mod NextShown
-pub mod ReplayChecks
 pub mod NextTold
 pub mod Examples

@@ -19,8 +19,8 @@ use Rattle.ledger.specs.Algebra.{Reading}
 use Rattle.ledger.specs.Calls.{Outcome, refused, still, done}
 use Rattle.ledger.specs.Journal.{State, moveChecks, shortScratch, over, undoOf, redoOf}
 use Rattle.ledger.proofs.Soundness.{Sound, sound-facts}
-use Rattle.history.specs.Editing.{taken, undoneBy, redoneBy, editing}
-use Rattle.history.specs.Calls.{stateOf, Standing, Moves}
+use Rattle.editing.specs.Editing.{taken, undoneBy, redoneBy, editing}
+use Rattle.editing.specs.Calls.{stateOf, Standing, Moves}
 
 -- ---- the record is refused, or the step is made
 module _ (st : State editing) (inside : ℕ → Bool) (stepped : ℕ → Handle → Handle) where

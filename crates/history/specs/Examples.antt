@@ -20,7 +20,7 @@ use Rattle.ledger.specs.Handle.{savedPosition}
 use Rattle.ledger.specs.Calls.{Call, Outcome, Played, play}
 use Rattle.ledger.specs.Calls.Call.{push, undo, mark}
 use Rattle.ledger.specs.Journal.{State, opened, pushOf, undoOf, step}
-use Rattle.history.specs.Editing.{Given, editing}
+use Rattle.editing.specs.Editing.{Given, editing}
 
 -- a sheet of one row, its storage black; an empty journal of n bytes
 abbrev nought : Float

@@ -1,6 +1,2 @@
-pub mod Editing
-pub mod Demand3
-pub mod Calls
 pub mod Examples
 pub mod Looks
-pub mod Replay

@@ -1,7 +1,7 @@
 // `undo` and `redo`: one step over the record before or after the standing offset. Neither writes the journal.
 use crate::Handle;
 use crate::Moved;
-use crate::entering::move_no;
+use editing::move_no;
 use limits::Answer;
 use limits::JOURNAL_DAMAGED;
 use limits::NO_SPACE;
@@ -23,8 +23,8 @@ ghost use Rattle.records.specs.Record.{readForth, readBack};
 ghost use Rattle.records.specs.Found.{foundAt, foundBefore};
 ghost use Rattle.ledger.specs.Handle.{steppedBack, steppedForth};
 ghost use Rattle.ledger.specs.Journal.{over, undoOf, redoOf};
-ghost use Rattle.history.specs.Editing.{undoneBy, redoneBy, editing};
-ghost use Rattle.history.specs.Calls.{stateOf, leaves, Standing};
+ghost use Rattle.editing.specs.Editing.{undoneBy, redoneBy, editing};
+ghost use Rattle.editing.specs.Calls.{stateOf, leaves, Standing};
 
 // One step back over a record of n bytes that was found: where `can_revert` refuses it, the sheet would not be
 // well-formed after it, or the handle not sound, the journal is damaged.

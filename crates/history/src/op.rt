@@ -17,7 +17,7 @@ ghost use Rattle.limits.specs.Checks.{firstOf};
 ghost use Rattle.sheet.specs.Sheet.{sheetOf};
 ghost use Rattle.edits.specs.Change.{unpacked};
 ghost use Rattle.edits.specs.Checks.{permittedOf};
-ghost use Rattle.history.specs.Replay.{replayChecks, replayed, replayOf};
+ghost use Rattle.editing.specs.Replay.{replayChecks, replayed, replayOf};
 
 // The number of the first check that applies, or 0.
 fn replay_no(

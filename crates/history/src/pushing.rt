@@ -1,10 +1,11 @@
 // `push`: an edit checked, recorded and done.
 use crate::Handle;
 use crate::Moved;
-use crate::entering::entry_no;
 use apply::fill_edit;
 use apply::own_no;
 use apply::redo_edit;
+use editing::entry_no;
+use editing::record_length;
 use edits::Edit;
 use limits::Answer;
 use limits::JOURNAL_FULL;
@@ -23,51 +24,8 @@ ghost use Rattle.edits.specs.Change.{unpacked};
 ghost use Rattle.records.specs.Record.{recordLength};
 ghost use Rattle.ledger.specs.Calls.{done};
 ghost use Rattle.ledger.specs.Journal.{pushOf, pushed};
-ghost use Rattle.history.specs.Editing.{editing, givenOf, noPixels};
-ghost use Rattle.history.specs.Calls.{stateOf, leaves, Standing, Acceptable, Pushes};
-
-// Whether the edit is an empty list of pixels.
-fn is_empty(edit: Edit, list: &[u64]) -> bool
-    ensures { λ r. ⌜ r ≡ noPixels edit (map unpacked (now (list .entry))) ⌝ }
-{
-    match edit {
-        Edit::Pixels { tool: _ } => list.len() == 0,
-        Edit::PaletteSet {
-            index: _,
-            old: _,
-            new: _,
-            old_lab: _,
-        } => false,
-        Edit::PaletteAdd { rgb: _ } => false,
-        Edit::PaletteRemove {
-            index: _,
-            rgb: _,
-            lab: _,
-        } => false,
-    }
-}
-
-// The bytes of an edit's record with n changes.
-fn record_length(edit: Edit, n: usize) -> usize
-    requires { ⌜ n ≤ maxChanges ⌝ }
-    ensures { λ r. ⌜ r ≡ recordLength edit n ⌝ }
-{
-    match edit {
-        Edit::Pixels { tool: _ } => 10 + 8 * n,
-        Edit::PaletteSet {
-            index: _,
-            old: _,
-            new: _,
-            old_lab: _,
-        } => 36,
-        Edit::PaletteAdd { rgb: _ } => 8,
-        Edit::PaletteRemove {
-            index: _,
-            rgb: _,
-            lab: _,
-        } => 37 + 8 * n,
-    }
-}
+ghost use Rattle.editing.specs.Editing.{editing, givenOf};
+ghost use Rattle.editing.specs.Calls.{stateOf, leaves, Standing, Acceptable, Pushes};
 
 // The number of the first check of a push after "still" that applies, or 0: 21, 16, the edit's own, 14.
 fn push_no(
@@ -181,7 +139,7 @@ pub fn push(
     if no != 0 {
         return Moved::refused(no, k, handle);
     }
-    if is_empty(edit, list) {
+    if edit.is_empty(list.len()) {
         return Moved::still(k, handle);
     }
     let no = push_no(

@@ -9,12 +9,8 @@ use lib.ListN.{set}
 use Rattle.lists.specs.Lists.{range}
 use Rattle.lists.proofs.Collect.{range-next, flatMap-append, flatMap-one}
 use Rattle.edits.specs.Change.{Change, place, painted, newOf}
+use Rattle.changes.proofs.Pictures.{painted-append}
 use Rattle.moves.specs.Blocks.{written, block}
-
-pub painted-append : (w : ℕ) (a b : List Change) (l : List ℤ) → painted newOf w (a ++ b) l ≡ painted newOf w b (painted newOf w a l)
-unfolding painted
-painted-append w [] b l = refl
-painted-append w (c ∷ a) b l = painted-append w a b (set l (place w c) (c .new))
 
 -- one change, to z at a place
 pub record One (w at : ℕ) (z : ℤ) (cs : List Change) : Type 0 where

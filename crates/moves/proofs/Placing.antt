@@ -22,13 +22,13 @@ use Rattle.changes.specs.Laws.{On}
 use Rattle.changes.specs.Between.{between, laidOut}
 use Rattle.changes.proofs.Order.{all-map, all-append}
 use Rattle.changes.proofs.Shortest.{first-olds}
-use Rattle.changes.proofs.Pictures.{normal-between}
+use Rattle.changes.proofs.Pictures.{painted-append, normal-between}
 use Rattle.moves.specs.declared.Landing.{Landing}
 use Rattle.moves.specs.Blocks.{block, sourceAt, landing, Rows, Lands, Movable, Pastable}
 use Rattle.moves.specs.Moves.{indexIn, ontoGot, onto, landed, cleared, moveChanges, pasteChanges}
 use Rattle.moves.proofs.Landings.{offsetOf, Off, before, past, axis-low, axis-high, axis-side, axis-few, axis-near, axis-meets, axis-before, axis-past}
 use Rattle.moves.proofs.Collected.{none-collected, clipped, collected-alike, map-collected, by-rows, all-collected, all-range}
-use Rattle.moves.proofs.Painting.{painted-append, One, block-painted}
+use Rattle.moves.proofs.Painting.{One, block-painted}
 
 -- ---- one index, where it lands
 module _ (w h : ℕ) (l : List ℤ) where

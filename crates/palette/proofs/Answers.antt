@@ -5,7 +5,7 @@ use mathlib.Core.List.{List, [], map}
 use Prim.Native.Nat.{ℕ, _*_, _<_, _≤_}
 use native.Mathlib.Omega.{arith}
 use borrow.Author.Tests.{le-leb, lt-leb, le-ltb, lt-ltb, eq-eqb, ne-eqb}
-use lib.IntN.{ℤ}
+use lib.IntN.{ℤ, pos}
 use lib.ListN.{length, take, length-map}
 use Rattle.limits.specs.Checks.{Check, firstOf, refusedOr}
 use Rattle.limits.specs.declared.Rgb.{Rgb}
@@ -24,7 +24,8 @@ use Rattle.palette.specs.declared.Choices.the-variants as choices
 use Rattle.palette.specs.declared.Removal.the-variants as removal
 use Rattle.palette.specs.Colours.{Opened, colourCount, usedOf, chosen, fixedChoicesOf, noLab}
 use Rattle.palette.specs.Nearest.{otherChecks, Removable, Nearest, nearestOtherOf, NearestOther}
-use Rattle.palette.specs.Removal.{placesFrom, moved, remapOf, remapped, removeTo, mergeChecks}
+use Rattle.pixels.specs.Listing.{placesFrom}
+use Rattle.palette.specs.Removal.{moved, remapOf, remapped, removeTo, mergeChecks}
 use Rattle.palette.proofs.Opening.{past-opened, refused-opened}
 
 no : {n : ℕ} → 0 < n → n ≡ 0 → ⊥
@@ -86,9 +87,9 @@ module _ (s : Sheet) (i : ℕ) where
       }
 
 -- ---- the remap
-pub remap-length : (w : ℕ) (l : List ℤ) (i target : ℕ) → length (remapOf w l i target) ≡ length (placesFrom i 0 l)
+pub remap-length : (w : ℕ) (l : List ℤ) (i target : ℕ) → length (remapOf w l i target) ≡ length (placesFrom (pos i) 0 l)
 unfolding remapOf
-remap-length w l i target = length-map (placesFrom i 0 l) (moved w i target)
+remap-length w l i target = length-map (placesFrom (pos i) 0 l) (moved w i target)
 
 module _ (w : ℕ) (palette : List ℕ) (l : List ℤ) (i target : ℕ) (list : List ℕ) where
   -- a call's own checks before it
@@ -101,11 +102,11 @@ module _ (w : ℕ) (palette : List ℕ) (l : List ℤ) (i target : ℕ) (list : 
   remove-past cs e = rw (first-past cs _ e)
 
   -- 16, or the list
-  pub remove-short : length list < length (placesFrom i 0 l) → remapped (removal.Refused 16) list ≡ removeTo [] w palette l i target list
+  pub remove-short : length list < length (placesFrom (pos i) 0 l) → remapped (removal.Refused 16) list ≡ removeTo [] w palette l i target list
   unfolding removeTo firstOf refusedOr
   remove-short h = rw (remap-length w l i target, lt-ltb _ _ h)
 
-  pub remove-done : (count : ℕ) (c : Rgb) (v : Lab) (list' : List ℕ) → count ≡ length (placesFrom i 0 l) → count ≤ length list
+  pub remove-done : (count : ℕ) (c : Rgb) (v : Lab) (list' : List ℕ) → count ≡ length (placesFrom (pos i) 0 l) → count ≤ length list
       → c ≡ rgbAt palette i → v ≡ noLab → list' ≡ over (map packed (remapOf w l i target)) list
       → remapped (removal.Made (PaletteRemove i c v) count) list' ≡ removeTo [] w palette l i target list
   unfolding removeTo firstOf refusedOr

@@ -1,7 +1,6 @@
 pub mod Maps
 pub mod Opening
 pub mod Used
-pub mod Places
 pub mod Rows
 pub mod Others
 pub mod Answers

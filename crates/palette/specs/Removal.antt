@@ -1,5 +1,5 @@
 -- `remove_entry` and `merge_entries` of palette.rs: the remap, and the calls. Definitions only. Assumes nothing.
-use Prim.Native.Nat.{ℕ, suc, _/_, _%_}
+use Prim.Native.Nat.{ℕ, _/_, _%_}
 use mathlib.Core.Bool.{_||_, cond}
 use mathlib.Core.List.{List, [], _∷_, _++_, map}
 use lib.Dec.{ltb, leb, eqb}
@@ -8,29 +8,24 @@ use lib.ListN.{length}
 use Rattle.limits.specs.Numbers.{badMerge, noSpace}
 use Rattle.limits.specs.Checks.{Check, _when_, checked}
 use Rattle.lists.specs.Lists.{over}
-use Rattle.ints.specs.Ints.{eqZ}
 use Rattle.sheet.specs.Sheet.{Sheet}
 use Rattle.sheet.specs.Checks.{sheetChecks}
 use Rattle.sheet.specs.Document.{rgbAt}
 use Rattle.edits.specs.declared.Edit.the-variants.{PaletteRemove}
 use Rattle.edits.specs.Change.{Change, packed}
+use Rattle.pixels.specs.Listing.{placesFrom}
 use Rattle.palette.specs.declared.Removal.{Removal}
 use Rattle.palette.specs.declared.Removal.the-variants as removal
 use Rattle.palette.specs.Colours.{noLab}
 use Rattle.palette.specs.Nearest.{otherChecks, nearestOther}
 
 -- ---- "`remove_to` lists the entry's pixels in row order"
--- the places, from p on, of the pixels on the entry
-unfoldable pub placesFrom : ℕ → ℕ → List ℤ → List ℕ
-placesFrom i p [] = []
-placesFrom i p (z ∷ l) = cond (eqZ z (pos i)) (p ∷ placesFrom i (suc p) l) (placesFrom i (suc p) l)
-
 -- the change of the pixel at a place, on a sheet of width w
 unfoldable pub moved : ℕ → ℕ → ℕ → ℕ → Change
 moved w i target p = record { x = p % w; y = p / w; old = pos i; new = pos target }
 
 unfoldable pub remapOf : ℕ → List ℤ → ℕ → ℕ → List Change
-remapOf w indices i target = map (moved w i target) (placesFrom i 0 indices)
+remapOf w indices i target = map (moved w i target) (placesFrom (pos i) 0 indices)
 
 -- ---- the answer, and the list
 pub record Remapped : Type 0 where

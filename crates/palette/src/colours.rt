@@ -1,9 +1,9 @@
 // Colours that entries may take: `check_color`, `fixed_choices`, `set_color`, `add_color`.
 use crate::Choices;
 use crate::Made;
-use apply::is_listed;
-use apply::rgb_at;
 use edits::Edit;
+use entries::is_listed;
+use entries::rgb_at;
 use limits::Answer;
 use limits::COLOUR_NOT_PERMITTED;
 use limits::Lab;
@@ -51,7 +51,7 @@ pub fn check_color(limited: bool, permitted: &[u8], rgb: Rgb) -> Answer
     if no != 0 {
         return Answer::Refused(no);
     }
-    if apply::check_color(limited, permitted, rgb) {
+    if entries::check_color(limited, permitted, rgb) {
         return Answer::Refused(COLOUR_NOT_PERMITTED);
     }
     Answer::Done
@@ -146,7 +146,7 @@ pub fn set_color(
     if k <= index {
         return Made::Refused(NO_SUCH_ENTRY);
     }
-    if apply::check_color(limited, permitted, rgb) {
+    if entries::check_color(limited, permitted, rgb) {
         return Made::Refused(COLOUR_NOT_PERMITTED);
     }
     let old = rgb_at(palette, index);
@@ -180,7 +180,7 @@ pub fn add_color(
     if MAX_ENTRIES <= k {
         return Made::Refused(PALETTE_FULL);
     }
-    if apply::check_color(limited, permitted, rgb) {
+    if entries::check_color(limited, permitted, rgb) {
         return Made::Refused(COLOUR_NOT_PERMITTED);
     }
     Made::Edit(Edit::PaletteAdd { rgb })

@@ -4,11 +4,13 @@ use crate::Removal;
 use crate::colours::no_lab;
 use crate::nearest::nearest_but;
 use crate::nearest::other_no;
-use apply::is_entry;
-use apply::rgb_at;
 use edits::Edit;
+use entries::rgb_at;
 use limits::BAD_MERGE;
 use limits::NO_SPACE;
+use pixels::change_of;
+use pixels::count_on;
+use pixels::list_row;
 use sheet::check;
 ghost use mathlib.Core.Path.{_≡_};
 ghost use mathlib.Core.List.{[], map};
@@ -18,69 +20,31 @@ ghost use lib.ListN.{length};
 ghost use Rattle.lists.specs.Lists.{over};
 ghost use Rattle.sheet.specs.Sheet.{sheetOf};
 ghost use Rattle.edits.specs.Change.{packed};
-ghost use Rattle.palette.specs.Removal.{placesFrom, remapOf, remapped, removeTo, removeEntryOf, mergeEntriesOf};
+ghost use Rattle.pixels.specs.Listing.{placesFrom};
+ghost use Rattle.palette.specs.Removal.{remapOf, remapped, removeTo, removeEntryOf, mergeEntriesOf};
 
-// The units in which a change counts its row, its old and its new.
-const ROW: u64 = 65_536;
-
-const OLD: u64 = 4_294_967_296;
-
-const NEW: u64 = 281_474_976_710_656;
-
-// How many pixels are on the entry.
-fn count_on(indices: &[i16], index: usize) -> usize
-    requires { ⌜ index ≤ 255 ⌝ }
-    ensures { λ r. ⌜ r ≡ length (placesFrom index 0 (now (indices .entry))) ⌝ }
+// An entry as pixels have it.
+fn as_index(entry: usize) -> i16
+    requires { ⌜ entry ≤ 255 ⌝ }
+    ensures { λ r. ⌜ r ≡ pos entry ⌝ }
 {
-    let mut n: usize = 0;
-    let mut i: usize = 0;
-    while i < indices.len() {
-        if is_entry(indices[i], index) {
-            n += 1;
-        }
-        i += 1;
-    }
-    n
-}
-
-// The change that moves the first pixel of a row from an entry to another. That of column x is x more.
-fn row_change(y: usize, index: usize, target: usize) -> u64
-    requires { ⌜ (y < 1024) × (index ≤ 255) × (target ≤ 255) ⌝ }
-    ensures { λ r. ⌜ r ≡ packed (record { x = 0; y = y; old = pos index; new = pos target }) ⌝ }
-{
-    ROW * (y as u64) + OLD * (index as u64) + NEW * (target as u64)
-}
-
-// Lists the changes of the pixels of a row that are on the entry, and answers how many they are. `first` is
-// the change of the row's first pixel.
-fn list_row(row: &[i16], index: usize, first: u64, list: &mut [u64]) -> usize
-    requires { ⌜ (index ≤ 255) × (first + length (now row) < 2 ^ 64) × (length (placesFrom index 0 (now row)) ≤ length (now list)) ⌝ }
-    ensures { λ r. ⌜ (r ≡ length (placesFrom index 0 (now (row .entry)))) × (now (list .exit) ≡ over (map (λ x. first + x) (placesFrom index 0 (now (row .entry)))) (now (list .entry))) ⌝ }
-{
-    let mut n: usize = 0;
-    let mut x: usize = 0;
-    while x < row.len() {
-        if is_entry(row[x], index) {
-            list[n] = first + x as u64;
-            n += 1;
-        }
-        x += 1;
-    }
-    n
+    entry as i16
 }
 
 // Lists the changes of the pixels that are on the entry, row by row. What the list has past them keeps.
 fn list_rows(w: usize, h: usize, indices: &[i16], index: usize, target: usize, list: &mut [u64])
-    requires { ⌜ (w ≤ 1024) × (h ≤ 1024) × (length (now indices) ≡ w * h) × (index ≤ 255) × (target ≤ 255) × (length (placesFrom index 0 (now indices)) ≤ length (now list)) ⌝ }
+    requires { ⌜ (w ≤ 1024) × (h ≤ 1024) × (length (now indices) ≡ w * h) × (index ≤ 255) × (target ≤ 255) × (length (placesFrom (pos index) 0 (now indices)) ≤ length (now list)) ⌝ }
     ensures { λ _. ⌜ now (list .exit) ≡ over (map packed (remapOf w (now (indices .entry)) index target)) (now (list .entry)) ⌝ }
 {
+    let from = as_index(index);
+    let to = as_index(target);
     let mut n: usize = 0;
     let mut y: usize = 0;
     while y < h {
         let at = y * w;
         let end = at + w;
-        let first = row_change(y, index, target);
-        n += list_row(&indices[at..end], index, first, &mut list[n..]);
+        let first = change_of(0, y, from, to);
+        n += list_row(&indices[at..end], from, first, &mut list[n..]);
         y += 1;
     }
 }
@@ -99,7 +63,7 @@ fn remove_to(
     requires { ⌜ (w ≤ 1024) × (h ≤ 1024) × (length (now indices) ≡ w * h) × (length (now palette) ≡ 765) × (index < 255) × (target < 255) ⌝ }
     ensures { λ r. ⌜ remapped r (now (list .exit)) ≡ removeTo [] w (now (palette .entry)) (now (indices .entry)) index target (now (list .entry)) ⌝ }
 {
-    let count = count_on(indices, index);
+    let count = count_on(indices, as_index(index));
     if list.len() < count {
         return Removal::Refused(NO_SPACE);
     }

@@ -12,11 +12,11 @@ use Rattle.lists.specs.Lists.{some}
 use Rattle.lists.proofs.Scan.{Flagged, flag-step, flag-end}
 use Rattle.sheet.specs.Sheet.{stray}
 use Rattle.edits.specs.Change.{Change, unpacked, place, painted, oldOf}
-use Rattle.apply.specs.Inside.{past, Marks}
-use Rattle.apply.proofs.Inside.{inside-at}
-use Rattle.apply.proofs.Unpacking.{some-unpacked}
-use Rattle.apply.proofs.Passing.{Passing, passing-hit, passing-next, passing-all}
-use Rattle.apply.proofs.Painting.{Painting, painting-next, painting-all}
+use Rattle.pixels.specs.Inside.{past, Marks}
+use Rattle.pixels.proofs.Inside.{inside-at}
+use Rattle.pixels.proofs.Unpacking.{some-unpacked}
+use Rattle.pixels.proofs.Passing.{Passing, passing-hit, passing-next, passing-all}
+use Rattle.pixels.proofs.Painting.{Painting, painting-next, painting-all}
 use Rattle.apply.proofs.Marking.{Marking, marking-next, marking-all}
 use Rattle.records.specs.Bytes.{leAt}
 use Rattle.records.specs.Record.{changesIn}

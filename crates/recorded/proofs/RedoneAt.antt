@@ -21,7 +21,7 @@ use Rattle.edits.specs.declared.Edit.the-variants.{PaletteSet, PaletteRemove}
 use Rattle.edits.specs.Change.{Change, painted, newOf}
 use Rattle.edits.specs.Storage.{bytesOf, numbersOf, stored, closed, lowered}
 use Rattle.edits.specs.Apply.{redone}
-use Rattle.apply.specs.Inside.{past}
+use Rattle.pixels.specs.Inside.{past}
 use Rattle.apply.specs.Redoable.{Redoable}
 use Rattle.apply.proofs.Redoing.{pixels-fit, set-fits, add-fits, remove-fits}
 use Rattle.records.specs.Record.{byKind, rgbIn, labIn, changesIn}

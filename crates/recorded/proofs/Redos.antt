@@ -15,7 +15,7 @@ use Rattle.edits.specs.declared.Edit.{Edit}
 use Rattle.edits.specs.declared.Edit.the-variants.{Pixels, PaletteSet, PaletteAdd, PaletteRemove}
 use Rattle.edits.specs.Change.{Change}
 use Rattle.edits.specs.Checks.{barred, pixelChecks, remapChecks, leftFrom, ownChecks}
-use Rattle.apply.specs.Inside.{bare}
+use Rattle.pixels.specs.Inside.{bare}
 use Rattle.apply.proofs.Bare.{bare-pixels, removal-left}
 use Rattle.records.specs.Record.{changesIn}
 use Rattle.records.proofs.Finding.{length-in}

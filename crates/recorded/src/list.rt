@@ -3,10 +3,10 @@
 use apply::any_left;
 use apply::clear;
 use apply::move_no;
-use apply::paint_new;
-use apply::pixel_no;
-use apply::place_of;
 use limits::STILL_USED;
+use pixels::paint_new;
+use pixels::pixel_no;
+use pixels::place_of;
 use records::get_u64;
 ghost use mathlib.Core.Path.{_≡_};
 ghost use mathlib.Core.Bool.{false};
@@ -18,7 +18,7 @@ ghost use Rattle.limits.specs.Checks.{_when_, firstOf};
 ghost use Rattle.lists.specs.Lists.{some};
 ghost use Rattle.edits.specs.Change.{painted, newOf};
 ghost use Rattle.edits.specs.Checks.{pixelChecks, remapChecks, leftFrom};
-ghost use Rattle.apply.specs.Inside.{bare, past, Marks};
+ghost use Rattle.pixels.specs.Inside.{bare, past, Marks};
 ghost use Rattle.records.specs.Bytes.{leAt};
 ghost use Rattle.records.specs.Record.{changesIn};
 

@@ -1,13 +1,13 @@
 // The changes of a record, read from its bytes: those that are off the sheet, and their olds, judged and
 // painted.
 use crate::list::change_at;
-use apply::both;
-use apply::is_outside;
-use apply::is_stray;
-use apply::old_of;
-use apply::paint_old;
-use apply::place_of;
 use lists::either;
+use pixels::both;
+use pixels::is_outside;
+use pixels::is_stray;
+use pixels::old_of;
+use pixels::paint_old;
+use pixels::place_of;
 ghost use mathlib.Core.Path.{_≡_};
 ghost use mathlib.Core.Bool.{false, not, _&&_};
 ghost use mathlib.Core.List.{List};
@@ -17,7 +17,7 @@ ghost use lib.ListN.{length, getD, set};
 ghost use Rattle.lists.specs.Lists.{some};
 ghost use Rattle.sheet.specs.Sheet.{stray};
 ghost use Rattle.edits.specs.Change.{unpacked, place, outside, painted, oldOf};
-ghost use Rattle.apply.specs.Inside.{past};
+ghost use Rattle.pixels.specs.Inside.{past};
 ghost use Rattle.records.specs.Record.{changesIn};
 ghost use Rattle.recorded.specs.OldClaims.{claimed, claimOf, releaseOf, Claims};
 

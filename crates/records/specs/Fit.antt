@@ -15,7 +15,7 @@ use Rattle.sheet.specs.Sheet.{Sheet, sheetOf}
 use Rattle.edits.specs.declared.Edit.{Edit}
 use Rattle.edits.specs.declared.Edit.the-variants.{Pixels, PaletteSet, PaletteAdd, PaletteRemove}
 use Rattle.edits.specs.Change.{Change}
-use Rattle.apply.specs.Inside.{past}
+use Rattle.pixels.specs.Inside.{past}
 use Rattle.records.specs.Record.{recordLength}
 
 -- "x, y unsigned 16-bit, old, new signed 16-bit"

@@ -2,10 +2,10 @@
 use crate::bytes::put_f64;
 use crate::bytes::put_u32;
 use crate::bytes::put_u64;
-use apply::filled_in;
 use edits::Edit;
 use limits::Lab;
 use limits::Rgb;
+use pixels::filled_in;
 ghost use mathlib.Core.Path.{_≡_};
 ghost use mathlib.Core.Bool.{false};
 ghost use mathlib.Core.List.{[], _∷_, map, flatMap};
@@ -16,7 +16,7 @@ ghost use Rattle.edits.specs.declared.Edit.the-variants.{Pixels, PaletteSet, Pa
 ghost use Rattle.edits.specs.Change.{unpacked, filledIn};
 ghost use Rattle.edits.specs.Storage.{bytesOf};
 ghost use Rattle.edits.specs.Apply.{filledChanges};
-ghost use Rattle.apply.specs.Inside.{past};
+ghost use Rattle.pixels.specs.Inside.{past};
 ghost use Rattle.records.specs.Bytes.{splice};
 ghost use Rattle.records.specs.Record.{changeBytes, labBytes, recordLength, recordOf};
 ghost use Rattle.records.specs.Fit.{Numbers, Writable, rowsOf};

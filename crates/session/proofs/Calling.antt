@@ -12,9 +12,9 @@ use Rattle.edits.specs.Change.{unpacked}
 use Rattle.ledger.specs.declared.Handle.{Handle}
 use Rattle.ledger.specs.Calls.Call.{mark}
 use Rattle.ledger.specs.Journal.{markOf, step}
-use Rattle.history.specs.declared.Moved.{Moved}
-use Rattle.history.specs.Editing.{editing}
-use Rattle.history.specs.Calls.{stateOf, leaves}
+use Rattle.editing.specs.declared.Moved.{Moved}
+use Rattle.editing.specs.Editing.{editing}
+use Rattle.editing.specs.Calls.{stateOf, leaves}
 use Rattle.history.specs.Looks.{outcomeOf}
 use Rattle.frames.specs.Reading.{changesFrom}
 use Rattle.frames.proofs.Changes.{length-changes}

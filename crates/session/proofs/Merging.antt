@@ -22,24 +22,17 @@ use Rattle.edits.specs.Change.{Change, unpacked, packed}
 use Rattle.palette.specs.declared.Removal.{Removal}
 use Rattle.palette.specs.declared.Removal.the-variants.{Made, Refused}
 use Rattle.palette.specs.Colours.{noLab}
-use Rattle.palette.specs.Removal.{placesFrom, moved, remapOf, Remapped, remapped, removeTo, mergeChecks, mergeEntriesOf}
+use Rattle.pixels.specs.Listing.{placesFrom}
+use Rattle.pixels.proofs.Places.{places-few}
+use Rattle.palette.specs.Removal.{moved, remapOf, Remapped, remapped, removeTo, mergeChecks, mergeEntriesOf}
 use Rattle.ledger.specs.Calls.{refused}
 use Rattle.ledger.specs.Journal.{State, pushOf}
-use Rattle.history.specs.Editing.{editing}
+use Rattle.editing.specs.Editing.{editing}
 use Rattle.session.specs.Panel.{room, given, mergedOf}
-
-few : (i p : ℕ) (l : List ℤ) → length (placesFrom i p l) ≤ length l
-unfolding placesFrom
-few i p [] = omega arith
-few i p (z ∷ l) = by (eqZ z (pos i)) refl (few i (suc p) l)
-  where
-    by : (t : Bool) → eqZ z (pos i) ≡ t → length (placesFrom i (suc p) l) ≤ length l → length (placesFrom i p (z ∷ l)) ≤ suc (length l)
-    by true e h = rw e (omega (arith, h))
-    by false e h = rw e (omega (arith, h))
 
 remap-few : (w i target : ℕ) (l : List ℤ) → length (remapOf w l i target) ≤ length l
 unfolding remapOf
-remap-few w i target l = rw (length-map (placesFrom i 0 l) (moved w i target)) (few i 0 l)
+remap-few w i target l = rw (length-map (placesFrom (pos i) 0 l) (moved w i target)) (places-few (pos i) 0 l)
 
 abbrev made : Removal → Bool
 made (Made e n) = true

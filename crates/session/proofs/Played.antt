@@ -8,7 +8,7 @@ use Rattle.limits.specs.Checks.{firstOf, refusedOr}
 use Rattle.palette.specs.Removal.{mergeChecks}
 use Rattle.ledger.specs.Calls.{Outcome, play}
 use Rattle.ledger.specs.Journal.{State, step}
-use Rattle.history.specs.Editing.{editing}
+use Rattle.editing.specs.Editing.{editing}
 use Rattle.frames.specs.Reading.{frameOf}
 use Rattle.frames.specs.declared.Frame.{Frame}
 use Rattle.frames.specs.declared.Frame.the-variants.{Open, Pixels, Set, Add, Merge, Undo, Redo, Mark, Malformed}

@@ -15,8 +15,8 @@ use types.Run.{OneOf}
 use denote.Enum.Declared.{tagOf}
 use Rattle.limits.specs.Answer.{numberOf}
 use Rattle.sheet.specs.Sheet.{sheetOf}
-use Rattle.history.specs.declared.Moved.{Moved}
-use Rattle.history.specs.Calls.{stateOf, leaves}
+use Rattle.editing.specs.declared.Moved.{Moved}
+use Rattle.editing.specs.Calls.{stateOf, leaves}
 use Rattle.history.specs.Looks.{dirty}
 use Rattle.records.proofs.LittleEndian.{drop-take}
 use Rattle.frames.specs.Reading.{told, sizeOf, frameOf, changeAt, changesFrom}

@@ -9,7 +9,7 @@ use lib.Ieee.{Float}
 use lib.ListN.{length, take}
 use Rattle.sheet.specs.Sheet.{sheetOf}
 use Rattle.records.specs.Bytes.{splice}
-use Rattle.history.specs.Calls.{stateOf}
+use Rattle.editing.specs.Calls.{stateOf}
 use Rattle.session.specs.declared.Core.{Core}
 use Rattle.session.specs.declared.Stepped.{Stepped}
 use Rattle.session.specs.declared.Turn.{Turn}

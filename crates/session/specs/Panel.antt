@@ -28,7 +28,7 @@ use Rattle.palette.specs.Removal.{remapOf, mergeChecks}
 use Rattle.ledger.specs.Calls.{Outcome, refused, guarded}
 use Rattle.ledger.specs.Calls.Call.{push, undo, redo, mark}
 use Rattle.ledger.specs.Journal.{State, opened, step}
-use Rattle.history.specs.Editing.{Given, givenOf, editing}
+use Rattle.editing.specs.Editing.{Given, givenOf, editing}
 use Rattle.history.specs.Looks.{dirty}
 use Rattle.frames.specs.Reading.{frameOf, paletteIn, indicesIn, changesFrom}
 use Rattle.frames.specs.Writing.{lineOf, numberLine}

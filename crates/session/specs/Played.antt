@@ -12,7 +12,7 @@ use Rattle.palette.specs.Removal.{remapOf, mergeChecks}
 use Rattle.ledger.specs.Calls.{Call, play}
 use Rattle.ledger.specs.Calls.Call.{push, undo, redo, mark}
 use Rattle.ledger.specs.Journal.{State, step}
-use Rattle.history.specs.Editing.{Given, givenOf, editing}
+use Rattle.editing.specs.Editing.{Given, givenOf, editing}
 use Rattle.frames.specs.Reading.{frameOf, changesFrom}
 use Rattle.frames.specs.declared.Frame.{Frame}
 use Rattle.frames.specs.declared.Frame.the-variants.{Open, Pixels, Set, Add, Merge, Undo, Redo, Mark, Malformed}

@@ -17,7 +17,7 @@ ghost use Prim.Native.Nat.{_+_, _*_, _≤_};
 ghost use lib.ListN.{length, take};
 ghost use Rattle.limits.specs.Answer.{numberOf};
 ghost use Rattle.sheet.specs.Sheet.{sheetOf};
-ghost use Rattle.history.specs.Calls.{stateOf};
+ghost use Rattle.editing.specs.Calls.{stateOf};
 ghost use Rattle.history.specs.Looks as looks;
 ghost use Rattle.frames.specs.Reading.{sizeOf};
 ghost use Rattle.frames.specs.Writing.{lineOf, numberLine};

@@ -11,13 +11,8 @@ use Rattle.changes.specs.Laws.{On}
 use Rattle.changes.specs.Between.{between}
 use Rattle.changes.proofs.Order.{all-append}
 use Rattle.changes.proofs.Shortest.{first-olds, normal-on, normal-olds, same-picture}
-use Rattle.changes.proofs.Pictures.{normal-between}
+use Rattle.changes.proofs.Pictures.{painted-append, normal-between}
 use Rattle.tools.specs.Stroke.{extended}
-
-painted-append : (w : ℕ) (a b : List Change) (l : List ℤ) → painted newOf w (a ++ b) l ≡ painted newOf w b (painted newOf w a l)
-unfolding painted
-painted-append w [] b l = refl
-painted-append w (c ∷ a) b l = painted-append w a b (set l (place w c) (c .new))
 
 module _ (w h : ℕ) (small : w ≤ 2 ^ 16) (l : List ℤ) (size : length l ≡ w * h) where
   -- "computed on the document as it was before the stroke": on the sheet, with the picture's indices as olds

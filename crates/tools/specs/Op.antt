@@ -41,10 +41,3 @@ pixelsOf tool (counted.Refused n) = made-of.Refused n
 
 unfoldable pub pixelsCall : ℕ → ℕ → List ℕ → List ℕ → MadeList
 pixelsCall tool room list out = let r = normalizeCall room list out in made (pixelsOf tool (r .answer)) (r .buffer)
-
--- "A `Pixels` op without changes (applying it would do nothing)"
-unfoldable pub isEmptyOf : Edit → List Change → Bool
-isEmptyOf (Pixels tool) cs = eqb (length cs) 0
-isEmptyOf (PaletteSet i old new lab) cs = false
-isEmptyOf (PaletteAdd c) cs = false
-isEmptyOf (PaletteRemove i c lab) cs = false

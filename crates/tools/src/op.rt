@@ -12,8 +12,9 @@ ghost use mathlib.Core.List.{map};
 ghost use lib.ListN.{length};
 ghost use Rattle.limits.specs.Answer.{filled};
 ghost use Rattle.edits.specs.Change.{unpacked};
+ghost use Rattle.edits.specs.Apply.{noPixels};
 ghost use Rattle.records.specs.Found.{kindOf};
-ghost use Rattle.tools.specs.Op.{normalizeCall, made, pixelsCall, isEmptyOf};
+ghost use Rattle.tools.specs.Op.{normalizeCall, made, pixelsCall};
 
 // The normal form of a list, at the front of out: in order by y, then x, with the first old and the last new of
 // each place, and without what changes nothing.
@@ -47,23 +48,9 @@ pub fn pixels(tool: u8, list: &[u64], scratch: &mut [u64], out: &mut [u64]) -> M
 
 // Whether the edit is of pixels, and its list is empty.
 pub fn is_empty(edit: Edit, list: &[u64]) -> bool
-    ensures { λ r. ⌜ r ≡ isEmptyOf edit (map unpacked (now (list .entry))) ⌝ }
+    ensures { λ r. ⌜ r ≡ noPixels edit (map unpacked (now (list .entry))) ⌝ }
 {
-    match edit {
-        Edit::Pixels { tool: _ } => list.len() == 0,
-        Edit::PaletteSet {
-            index: _,
-            old: _,
-            new: _,
-            old_lab: _,
-        } => false,
-        Edit::PaletteAdd { rgb: _ } => false,
-        Edit::PaletteRemove {
-            index: _,
-            rgb: _,
-            lab: _,
-        } => false,
-    }
+    edit.is_empty(list.len())
 }
 
 // The journal's kind of an edit: 1 "pixels", 2 "palette_set", 3 "palette_add", 4 "palette_remove".

@@ -10,7 +10,7 @@ use mir.Facts.{toZ-ofZ}
 use Rattle.selection.specs.Selection.{positions}
 use Rattle.selection.proofs.Regions.{row-inside}
 use Rattle.edits.specs.Change.{packed}
-use Rattle.apply.specs.Listing.{placesFrom}
+use Rattle.pixels.specs.Listing.{placesFrom}
 use Rattle.fills.proofs.Rows.{lent, met, numbers, Listed, listed-none, listed-room, listed-lent, listed-more}
 use Rattle.fills.proofs.list_rows.Statement.{statement}
 use Rattle.fills.proofs.list_rows.Tie as tie

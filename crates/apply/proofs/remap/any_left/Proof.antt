@@ -6,7 +6,7 @@ use Prim.Native.Nat.{ℕ, _≤_, _<_, _-_, _+_, _*_}
 use native.Mathlib.Omega.{arith}
 use borrow.Author.Needs.{needs}
 use Rattle.sheet.proofs.Places.{place}
-use Rattle.apply.specs.Inside.{leftAt}
+use Rattle.pixels.specs.Inside.{leftAt}
 use Rattle.apply.proofs.Left.{left-read, NoneLeft, none-yet, none-start, none-column, none-row, none-rows, left-hit, row-ends, parts-same, row-clear}
 use Rattle.apply.proofs.remap.any_left.Statement.{statement}
 use Rattle.apply.proofs.remap.any_left.Tie as tie

@@ -6,7 +6,7 @@ use native.Mathlib.Omega.{arith}
 use borrow.Author.Needs.{needs}
 use lib.ListN.{length, getD}
 use Rattle.edits.specs.Change.{unpacked, place}
-use Rattle.apply.proofs.Inside.{inside-at}
+use Rattle.pixels.proofs.Inside.{inside-at}
 use Rattle.apply.proofs.Marking.{Marking, marking-none, marking-next, marking-all}
 use Rattle.apply.proofs.remap.mark_places.Statement.{statement}
 use Rattle.apply.proofs.remap.mark_places.Tie as tie

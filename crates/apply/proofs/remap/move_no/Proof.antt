@@ -7,7 +7,7 @@ use lib.ListN.{length}
 use Rattle.limits.specs.Checks.{firstOf}
 use Rattle.edits.specs.Change.{unpacked, place, outside}
 use Rattle.edits.specs.Checks.{remapChecks}
-use Rattle.apply.proofs.Inside.{inside}
+use Rattle.pixels.proofs.Inside.{inside}
 use Rattle.apply.proofs.remap.move_no.Statement.{statement}
 use Rattle.apply.proofs.remap.move_no.Tie as tie
 

@@ -3,8 +3,8 @@ use Prim.Native.Nat.{_-_}
 use borrow.Author.Needs.{needs}
 use lib.ListN.{length}
 use Rattle.edits.specs.Checks.{remapChecks}
-use Rattle.apply.specs.Inside.{bare}
-use Rattle.apply.proofs.Passing.{Passing, passing-none, passing-hit, passing-next, passing-all}
+use Rattle.pixels.specs.Inside.{bare}
+use Rattle.pixels.proofs.Passing.{Passing, passing-none, passing-hit, passing-next, passing-all}
 use Rattle.apply.proofs.remap.remap_no.Statement.{statement}
 use Rattle.apply.proofs.remap.remap_no.Tie as tie
 

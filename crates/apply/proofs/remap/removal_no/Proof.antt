@@ -6,9 +6,9 @@ use Rattle.limits.specs.Checks.{firstOf}
 use Rattle.limits.proofs.First.{first-here}
 use Rattle.edits.specs.Change.{unpacked}
 use Rattle.edits.specs.Checks.{remapChecks, leftFrom}
-use Rattle.apply.specs.Inside.{bare}
-use Rattle.apply.proofs.Inside.{none-past}
-use Rattle.apply.proofs.Passing.{last-hit, last-miss}
+use Rattle.pixels.specs.Inside.{bare}
+use Rattle.pixels.proofs.Inside.{none-past}
+use Rattle.pixels.proofs.Passing.{last-hit, last-miss}
 use Rattle.apply.proofs.Accepted.{remap-on}
 use Rattle.apply.proofs.remap.removal_no.Statement.{statement}
 use Rattle.apply.proofs.remap.removal_no.Tie as tie

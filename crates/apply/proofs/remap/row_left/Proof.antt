@@ -4,7 +4,7 @@ use borrow.Author.Needs.{needs}
 use lib.ListN.{length}
 use Rattle.lists.specs.Lists.{range}
 use Rattle.lists.proofs.Scan.{Flagged}
-use Rattle.apply.specs.Inside.{leftAt}
+use Rattle.pixels.specs.Inside.{leftAt}
 use Rattle.apply.proofs.Left.{left-read, row-step, row-end}
 use Rattle.apply.proofs.remap.row_left.Statement.{statement}
 use Rattle.apply.proofs.remap.row_left.Tie as tie

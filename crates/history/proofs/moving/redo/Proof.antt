@@ -1,6 +1,6 @@
 -- `redo`: 1 to 4, "still", 16, then the record. Assumes nothing.
 use mathlib.Core.Path.{_∙_}
-use Rattle.history.proofs.Answers.{leaves-refused, leaves-still}
+use Rattle.editing.proofs.Answers.{leaves-refused, leaves-still}
 use Rattle.history.proofs.Steps.{redo-refused, redo-still, redo-scratch, redo-over, used-inside, not-last}
 use borrow.Author.Needs.{needs}
 use Rattle.history.proofs.moving.redo.Statement.{statement}

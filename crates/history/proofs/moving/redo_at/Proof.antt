@@ -2,7 +2,7 @@
 use mathlib.Core.Path.{sym, _∙_}
 use borrow.Author.Tests.{not-true, not-false}
 use Rattle.recorded.proofs.RedoneAt.{may-redo}
-use Rattle.history.proofs.Answers.{leaves-refused}
+use Rattle.editing.proofs.Answers.{leaves-refused}
 use Rattle.history.proofs.Forth.{forth-inside, forth-lies, forth-unsound, forth-not, forth-done}
 use native.Mathlib.Omega.{arith}
 use borrow.Author.Needs.{needs}

@@ -1,6 +1,6 @@
 -- `redo_found`: the record that was found, or none. Assumes nothing.
 use mathlib.Core.Path.{sym, _∙_}
-use Rattle.history.proofs.Answers.{leaves-refused}
+use Rattle.editing.proofs.Answers.{leaves-refused}
 use Rattle.history.proofs.Forth.{forth-none}
 use borrow.Author.Needs.{needs}
 use Rattle.history.proofs.moving.redo_found.Statement.{statement}

@@ -1,6 +1,6 @@
 -- `undo`: 1 to 4, "still", then the record. Assumes nothing.
 use mathlib.Core.Path.{_∙_}
-use Rattle.history.proofs.Answers.{leaves-refused, leaves-still}
+use Rattle.editing.proofs.Answers.{leaves-refused, leaves-still}
 use Rattle.history.proofs.Steps.{undo-refused, undo-still, undo-over, offset-inside, not-first}
 use borrow.Author.Needs.{needs}
 use Rattle.history.proofs.moving.undo.Statement.{statement}

@@ -1,7 +1,7 @@
 -- `undo_at`: the handle after the step, then the record; then it is undone. Assumes nothing.
 use mathlib.Core.Path.{sym, _∙_}
 use borrow.Author.Tests.{not-true, not-false}
-use Rattle.history.proofs.Answers.{leaves-refused}
+use Rattle.editing.proofs.Answers.{leaves-refused}
 use Rattle.history.proofs.Back.{back-inside, back-lies, back-unsound, kept-fits, kept-undoable, back-not, back-done}
 use borrow.Author.Needs.{needs}
 use Rattle.history.proofs.moving.undo_at.Statement.{statement}

@@ -9,8 +9,8 @@ use Rattle.sheet.specs.Sheet.{sheetOf}
 use Rattle.edits.specs.Change.{unpacked}
 use Rattle.edits.specs.Checks.{permittedOf}
 use Rattle.ledger.specs.Calls.{refused}
-use Rattle.history.specs.Replay.{replayChecks, replayed, replayOf}
-use Rattle.history.proofs.ReplayChecks.{redoable}
+use Rattle.editing.specs.Replay.{replayChecks, replayed, replayOf}
+use Rattle.editing.proofs.ReplayChecks.{redoable}
 use borrow.Author.Needs.{needs}
 use Rattle.history.proofs.op.replay.Statement.{statement}
 use Rattle.history.proofs.op.replay.Tie as tie

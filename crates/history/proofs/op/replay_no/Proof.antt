@@ -9,7 +9,7 @@ use Rattle.limits.specs.Checks.{firstOf}
 use Rattle.sheet.specs.Sheet.{sheetOf}
 use Rattle.sheet.specs.Checks.{permittedChecks, WellFormed}
 use Rattle.edits.specs.Change.{unpacked}
-use Rattle.history.proofs.ReplayChecks.{given-refused, sheet-refused, too-long, no-space, own-decides}
+use Rattle.editing.proofs.ReplayChecks.{given-refused, sheet-refused, too-long, no-space, own-decides}
 use borrow.Author.Needs.{needs}
 use Rattle.history.proofs.op.replay_no.Statement.{statement}
 use Rattle.history.proofs.op.replay_no.Tie as tie

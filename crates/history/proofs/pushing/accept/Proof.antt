@@ -1,7 +1,7 @@
 -- `accept`: the record written, then the edit done. Assumes nothing.
 use native.Mathlib.Omega.{arith}
 use Rattle.apply.proofs.Redoing.{entry-in}
-use Rattle.history.proofs.Accepting.{not-refused, write-asks, push-asks, few-changes, leaves-pushed}
+use Rattle.editing.proofs.Accepting.{not-refused, write-asks, push-asks, few-changes, leaves-pushed}
 use borrow.Author.Needs.{needs}
 use Rattle.history.proofs.pushing.accept.Statement.{statement}
 use Rattle.history.proofs.pushing.accept.Tie as tie

@@ -1,6 +1,10 @@
 -- `push`: 1 to 4, "still", 21, 16, the edit's own and 14; then the edit is recorded and done. Assumes nothing.
-use mathlib.Core.Path.{sym, _∙_}
-use Rattle.history.proofs.Answers.{leaves-refused, leaves-still, push-refused, push-still, push-checked, push-done}
+use mathlib.Core.Path.{_≡_, sym, _∙_}
+use mathlib.Core.List.{map}
+use lib.ListN.{length-map}
+use Rattle.edits.specs.Change.{unpacked}
+use Rattle.edits.specs.Apply.{noPixels}
+use Rattle.editing.proofs.Answers.{leaves-refused, leaves-still, push-refused, push-still, push-checked, push-done}
 use borrow.Author.Needs.{needs}
 use Rattle.history.proofs.pushing.push.Statement.{statement}
 use Rattle.history.proofs.pushing.push.Tie as tie
@@ -44,8 +48,12 @@ same-length-7 c = search needs
 same-length-8 : tie.Need-same-length-8
 same-length-8 c = search needs
 
+-- the edit is tested at the list's length
+empty : (c : tie.After-is-empty) → let a = c .before .before .before .before .before .before .before .before .before .before .before .before .before .args in c .is-empty .result ≡ noPixels (a .edit) (map unpacked (a .list .now))
+empty c = c .is-empty .ensures _ (length-map (c .before .before .before .before .before .before .before .before .before .before .before .before .before .args .list .now) unpacked)
+
 returns-2 : tie.Need-returns-2
-returns-2 c = (leaves-still _ _ _ _ _ _ _ _ _ (c .still .ensures) ∙ push-still _ _ _ _ (c .before .before .before .before .entry-no .ensures (c .before .before .before .before .before .before .before .before .before .before .before .before .before .before .before .args .edit) (c .before .before .before .before .before .before .before .before .before .before .before .before .before .before .before .args .list .now)) (c .before .before .before .if1 .left) (sym (c .before .before .is-empty .ensures) ∙ c .before .if2 .taken), search needs)
+returns-2 c = (leaves-still _ _ _ _ _ _ _ _ _ (c .still .ensures) ∙ push-still _ _ _ _ (c .before .before .before .before .entry-no .ensures (c .before .before .before .before .before .before .before .before .before .before .before .before .before .before .before .args .edit) (c .before .before .before .before .before .before .before .before .before .before .before .before .before .before .before .args .list .now)) (c .before .before .before .if1 .left) (sym (empty (c .before .before)) ∙ c .before .if2 .taken), search needs)
 
 push-no-requires : tie.Need-push-no-requires
 push-no-requires c κs = (c .before .before .before .before .before .before .before .before .entry-no .ensures (c .before .before .before .before .before .before .before .before .before .before .before .before .before .before .before .before .before .before .before .args .edit) (c .before .before .before .before .before .before .before .before .before .before .before .before .before .before .before .before .before .before .before .args .list .now)) .fine (c .before .before .before .before .before .before .before .if1 .left)
@@ -69,7 +77,7 @@ same-length-13 : tie.Need-same-length-13
 same-length-13 c = search needs
 
 returns-3 : tie.Need-returns-3
-returns-3 c = (leaves-refused _ _ _ _ _ _ _ _ _ _ (c .refused2 .ensures) ∙ push-checked _ _ _ _ (c .before .before .before .before .before .before .before .before .before .before .before .before .before .entry-no .ensures (c .before .before .before .before .before .before .before .before .before .before .before .before .before .before .before .before .before .before .before .before .before .before .before .before .args .edit) (c .before .before .before .before .before .before .before .before .before .before .before .before .before .before .before .before .before .before .before .before .before .before .before .before .args .list .now)) (c .before .before .before .before .before .before .before .before .before .before .before .before .if1 .left) (sym (c .before .before .before .before .before .before .before .before .before .before .before .is-empty .ensures) ∙ c .before .before .before .before .before .before .before .before .before .before .if2 .left) _ (c .before .before .before .before .push-no .ensures) (c .before .if3 .taken), search needs)
+returns-3 c = (leaves-refused _ _ _ _ _ _ _ _ _ _ (c .refused2 .ensures) ∙ push-checked _ _ _ _ (c .before .before .before .before .before .before .before .before .before .before .before .before .before .entry-no .ensures (c .before .before .before .before .before .before .before .before .before .before .before .before .before .before .before .before .before .before .before .before .before .before .before .before .args .edit) (c .before .before .before .before .before .before .before .before .before .before .before .before .before .before .before .before .before .before .before .before .before .before .before .before .args .list .now)) (c .before .before .before .before .before .before .before .before .before .before .before .before .if1 .left) (sym (empty (c .before .before .before .before .before .before .before .before .before .before .before)) ∙ c .before .before .before .before .before .before .before .before .before .before .if2 .left) _ (c .before .before .before .before .push-no .ensures) (c .before .if3 .taken), search needs)
 
 accept-requires : tie.Need-accept-requires
 accept-requires c κs = ((c .before .before .before .before .before .before .before .before .before .before .before .before .before .before .before .before .entry-no .ensures (c .before .before .before .before .before .before .before .before .before .before .before .before .before .before .before .before .before .before .before .before .before .before .before .before .before .before .before .args .edit) (c .before .before .before .before .before .before .before .before .before .before .before .before .before .before .before .before .before .before .before .before .before .before .before .before .before .before .before .args .list .now)) .fine (c .before .before .before .before .before .before .before .before .before .before .before .before .before .before .before .if1 .left), c .before .before .before .before .before .before .before .push-no .ensures .fine (c .before .before .before .before .if3 .left))
@@ -90,7 +98,7 @@ same-length-18 : tie.Need-same-length-18
 same-length-18 c = search needs
 
 returns-4 : tie.Need-returns-4
-returns-4 c = (c .before .before .before .before .before .before .before .accept .ensures (c .before .before .before .before .before .before .before .before .before .before .before .before .before .before .before .before .before .before .before .before .before .before .before .before .before .before .before .before .before .before .before .before .before .before .before .args .limited) (c .before .before .before .before .before .before .before .before .before .before .before .before .before .before .before .before .before .before .before .before .before .before .before .before .before .before .before .before .before .before .before .before .before .before .before .args .permitted .now) ∙ push-done _ _ _ _ (c .before .before .before .before .before .before .before .before .before .before .before .before .before .before .before .before .before .before .before .before .before .before .before .before .entry-no .ensures (c .before .before .before .before .before .before .before .before .before .before .before .before .before .before .before .before .before .before .before .before .before .before .before .before .before .before .before .before .before .before .before .before .before .before .before .args .edit) (c .before .before .before .before .before .before .before .before .before .before .before .before .before .before .before .before .before .before .before .before .before .before .before .before .before .before .before .before .before .before .before .before .before .before .before .args .list .now)) (c .before .before .before .before .before .before .before .before .before .before .before .before .before .before .before .before .before .before .before .before .before .before .before .if1 .left) (sym (c .before .before .before .before .before .before .before .before .before .before .before .before .before .before .before .before .before .before .before .before .before .before .is-empty .ensures) ∙ c .before .before .before .before .before .before .before .before .before .before .before .before .before .before .before .before .before .before .before .before .before .if2 .left) _ (c .before .before .before .before .before .before .before .before .before .before .before .before .before .before .before .push-no .ensures) (c .before .before .before .before .before .before .before .before .before .before .before .before .if3 .left), search needs)
+returns-4 c = (c .before .before .before .before .before .before .before .accept .ensures (c .before .before .before .before .before .before .before .before .before .before .before .before .before .before .before .before .before .before .before .before .before .before .before .before .before .before .before .before .before .before .before .before .before .before .before .args .limited) (c .before .before .before .before .before .before .before .before .before .before .before .before .before .before .before .before .before .before .before .before .before .before .before .before .before .before .before .before .before .before .before .before .before .before .before .args .permitted .now) ∙ push-done _ _ _ _ (c .before .before .before .before .before .before .before .before .before .before .before .before .before .before .before .before .before .before .before .before .before .before .before .before .entry-no .ensures (c .before .before .before .before .before .before .before .before .before .before .before .before .before .before .before .before .before .before .before .before .before .before .before .before .before .before .before .before .before .before .before .before .before .before .before .args .edit) (c .before .before .before .before .before .before .before .before .before .before .before .before .before .before .before .before .before .before .before .before .before .before .before .before .before .before .before .before .before .before .before .before .before .before .before .args .list .now)) (c .before .before .before .before .before .before .before .before .before .before .before .before .before .before .before .before .before .before .before .before .before .before .before .if1 .left) (sym (empty (c .before .before .before .before .before .before .before .before .before .before .before .before .before .before .before .before .before .before .before .before .before .before)) ∙ c .before .before .before .before .before .before .before .before .before .before .before .before .before .before .before .before .before .before .before .before .before .if2 .left) _ (c .before .before .before .before .before .before .before .before .before .before .before .before .before .before .before .push-no .ensures) (c .before .before .before .before .before .before .before .before .before .before .before .before .if3 .left), search needs)
 
 pub push-spec : {M : Type 1} → statement M
 push-spec =

@@ -1,7 +1,7 @@
 -- `push_no`: 21, 16, the edit's own, 14. Assumes nothing.
 use native.Mathlib.Omega.{arith}
 use lib.ListN.{length-map}
-use Rattle.history.proofs.PushChecks.{pushes-long, pushes-scratch, pushes-own, pushes-full, pushes-fine, end-fits}
+use Rattle.editing.proofs.PushChecks.{pushes-long, pushes-scratch, pushes-own, pushes-full, pushes-fine, end-fits}
 use borrow.Author.Needs.{needs}
 use Rattle.history.proofs.pushing.push_no.Statement.{statement}
 use Rattle.history.proofs.pushing.push_no.Tie as tie

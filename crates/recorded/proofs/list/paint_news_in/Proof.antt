@@ -3,7 +3,7 @@ use Prim.Native.Nat.{_-_}
 use borrow.Author.Needs.{needs}
 use lib.ListN.{length}
 use Rattle.edits.specs.Change.{newOf}
-use Rattle.apply.proofs.Painting.{Painting, painting-none}
+use Rattle.pixels.proofs.Painting.{Painting, painting-none}
 use Rattle.recorded.proofs.Numbers.{numbersIn, inside-in, painting-next-in, painting-all-in}
 use Rattle.recorded.proofs.list.paint_news_in.Statement.{statement}
 use Rattle.recorded.proofs.list.paint_news_in.Tie as tie

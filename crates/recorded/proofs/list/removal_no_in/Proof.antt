@@ -4,9 +4,9 @@ use mathlib.Core.List.{flatMap}
 use Rattle.limits.specs.Checks.{firstOf}
 use Rattle.limits.proofs.First.{first-here}
 use Rattle.edits.specs.Checks.{remapChecks, leftFrom}
-use Rattle.apply.specs.Inside.{bare}
-use Rattle.apply.proofs.Inside.{none-past}
-use Rattle.apply.proofs.Passing.{last-hit, last-miss}
+use Rattle.pixels.specs.Inside.{bare}
+use Rattle.pixels.proofs.Inside.{none-past}
+use Rattle.pixels.proofs.Passing.{last-hit, last-miss}
 use Rattle.apply.proofs.Accepted.{remap-on}
 use Rattle.records.specs.Record.{changesIn}
 use borrow.Author.Needs.{needs}

@@ -5,7 +5,7 @@ use mathlib.Core.Bool.{false}
 use native.Mathlib.Omega.{arith}
 use Rattle.lists.specs.Lists.{some}
 use Rattle.edits.specs.Change.{outside}
-use Rattle.apply.proofs.Inside.{none-past}
+use Rattle.pixels.proofs.Inside.{none-past}
 use Rattle.records.specs.Record.{changesIn}
 use Rattle.recorded.specs.UndoTests.{pixelsBack}
 use Rattle.recorded.proofs.undo.can_undo_pixels.Statement.{statement}

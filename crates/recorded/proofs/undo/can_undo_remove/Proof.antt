@@ -12,7 +12,7 @@ use Rattle.lists.specs.Lists.{some}
 use Rattle.sheet.proofs.Totals.{stray-more}
 use Rattle.edits.specs.Change.{outside}
 use Rattle.records.specs.Record.{changesIn}
-use Rattle.apply.proofs.Inside.{none-past}
+use Rattle.pixels.proofs.Inside.{none-past}
 use Rattle.recorded.specs.UndoTests.{removeBack}
 use Rattle.recorded.proofs.undo.can_undo_remove.Statement.{statement}
 use Rattle.recorded.proofs.undo.can_undo_remove.Tie as tie

@@ -3,7 +3,7 @@ use borrow.Author.Needs.{needs}
 use mathlib.Core.Path.{_≡_}
 use native.Mathlib.Omega.{arith}
 use Rattle.sheet.proofs.Totals.{stray-more}
-use Rattle.apply.proofs.Inside.{none-past}
+use Rattle.pixels.proofs.Inside.{none-past}
 use Rattle.recorded.proofs.Rooms.{pixels-room, set-room, remove-room, last-kind}
 use Rattle.recorded.proofs.UndoKinds.{pixels-inside, pixels-leaves, set-entry, set-leaves, add-entry, add-leaves, remove-returns, remove-leaves}
 use Rattle.recorded.proofs.undo.undo_record.Statement.{statement}

@@ -6,7 +6,7 @@ use lib.ListN.{length, length-map}
 use Rattle.edits.specs.Change.{unpacked}
 use mathlib.Core.Path.{_∙_}
 use Rattle.edits.specs.Change.{filledIn}
-use Rattle.apply.proofs.Inside.{inside-at}
+use Rattle.pixels.proofs.Inside.{inside-at}
 use Rattle.records.proofs.Putting.{Putting, putting-none, putting-next, putting-all}
 use Rattle.records.proofs.Filled.{filled-at}
 use Rattle.records.proofs.write.put_filled.Statement.{statement}

@@ -1,6 +1,6 @@
 -- `call`: the frame decides. Assumes nothing.
 use Rattle.session.proofs.Calling.{leaves-marked}
-use Rattle.history.proofs.Answers.{leaves-refused}
+use Rattle.editing.proofs.Answers.{leaves-refused}
 use Rattle.session.specs.Panel.{callOf}
 use Rattle.frames.specs.Reading.{sizeOf}
 use borrow.Author.Needs.{needs}

@@ -1,8 +1,8 @@
 -- `merge`: what `merge_entries` answers decides. Assumes nothing.
 use Rattle.session.proofs.Merging.{merge-made, merge-refused, merge-room}
 use Rattle.sheet.specs.Sheet.{sheetOf}
-use Rattle.history.specs.Calls.{stateOf}
-use Rattle.history.proofs.Answers.{leaves-refused}
+use Rattle.editing.specs.Calls.{stateOf}
+use Rattle.editing.proofs.Answers.{leaves-refused}
 use native.Mathlib.Omega.{arith}
 use mathlib.Core.Path.{_∙_}
 use borrow.Author.Needs.{needs}

@@ -1,39 +1,15 @@
--- `is_empty`: by kinds. Assumes nothing.
+-- `is_empty`: the edit's, at the list's length. Assumes nothing.
 use lib.ListN.{length-map}
-use Rattle.tools.specs.Op.{isEmptyOf}
+use Rattle.edits.specs.Change.{unpacked}
 use borrow.Author.Needs.{needs}
 use Rattle.tools.proofs.op.is_empty.Statement.{statement}
 use Rattle.tools.proofs.op.is_empty.Tie as tie
 
-enum-told : tie.Need-enum-told
-enum-told c = search needs
-
-enum-told-2 : tie.Need-enum-told-2
-enum-told-2 c = search needs
-
-enum-told-3 : tie.Need-enum-told-3
-enum-told-3 c = search needs
-
-enum-told-4 : tie.Need-enum-told-4
-enum-told-4 c = search needs
+is-empty-requires : tie.Need-is-empty-requires
+is-empty-requires c κs = search needs
 
 returns : tie.Need-returns
-unfolding isEmptyOf
-returns c = rw (c .enum-told .given .1, length-map)
-
-returns-2 : tie.Need-returns-2
-unfolding isEmptyOf
-returns-2 c = rw (c .enum-told2 .given .1)
-
-returns-3 : tie.Need-returns-3
-unfolding isEmptyOf
-returns-3 c = rw (c .enum-told3 .given .1)
-
-returns-4 : tie.Need-returns-4
-unfolding isEmptyOf
-returns-4 c = rw (c .enum-told4 .given .1)
+returns c = c .is-empty .ensures _ (length-map (c .before .before .args .list .now) unpacked)
 
 pub is-empty-spec : {M : Type 1} → statement M
-is-empty-spec =
-    tie.close
-    (tie.spec enum-told enum-told-2 enum-told-3 enum-told-4 returns returns-2 returns-3 returns-4)
+is-empty-spec = tie.close (tie.spec is-empty-requires returns)

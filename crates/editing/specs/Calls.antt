@@ -1,0 +1,59 @@
+-- What a call is handed and what it leaves, as the states of demand 3; and what the steps of a call ask of each other. Definitions only. Assumes nothing.
+use mathlib.Core.Path.{_≡_}
+use mathlib.Core.Bool.{false, true}
+use mathlib.Core.List.{List}
+use Prim.Native.Nat.{ℕ, _+_, _≤_}
+use lib.IntN.{ℤ}
+use lib.Ieee.{Float}
+use lib.ListN.{length}
+use Rattle.limits.specs.Limits.{maxChanges, maxJournal}
+use Rattle.limits.specs.Checks.{firstOf}
+use Rattle.limits.specs.declared.Answer.{Answer}
+use Rattle.sheet.specs.Sheet.{Sheet, sheetOf}
+use Rattle.sheet.specs.Checks.{WellFormed}
+use Rattle.edits.specs.declared.Edit.{Edit}
+use Rattle.edits.specs.Change.{Change}
+use Rattle.edits.specs.Checks.{Permitted, ownChecks}
+use Rattle.records.specs.Record.{recordLength}
+use Rattle.ledger.specs.declared.Handle.{Handle}
+use Rattle.ledger.specs.Handle.{sound}
+use Rattle.ledger.specs.Calls.{Outcome}
+use Rattle.ledger.specs.Journal.{State, moveChecks, entryChecks, pushChecks}
+use Rattle.editing.specs.declared.Moved.{Moved}
+use Rattle.editing.specs.Editing.{Given, editing}
+
+-- sheet, journal and handle
+abbrev pub stateOf : Sheet → List ℕ → Handle → State editing
+stateOf s journal handle = record { sheet = s; journal = journal; handle = handle }
+
+-- what push, undo and redo leave: answer, handle and k come back by value, the rest in the lent buffers
+abbrev pub leaves : Moved → ℕ → ℕ → List ℕ → List Float → List ℤ → List ℕ → Outcome (State editing)
+leaves m w h palette lab indices journal =
+    record { answer = m .answer; leaves = stateOf (sheetOf w h (m .k) palette lab indices) journal (m .handle) }
+
+-- ---- a sheet, a journal and a handle that none of 1 to 4 refuses
+pub record Standing (st : State editing) : Type 0 where
+  pub fits : WellFormed (st .sheet)
+  pub permitted : length (st .journal) ≤ maxJournal
+  pub is-sound : sound (length (st .journal)) (st .handle) ≡ true
+
+-- the number of the first of 1 to 4 that applies, and what 0 means: for undo and redo, and for push
+pub record Moves (st : State editing) (n : ℕ) : Type 0 where
+  pub value : n ≡ firstOf (moveChecks editing st)
+  pub fine : n ≡ 0 → Standing st
+
+pub record Enters (st : State editing) (g : Given) (n : ℕ) : Type 0 where
+  pub value : n ≡ firstOf (entryChecks editing st g)
+  pub fine : n ≡ 0 → Standing st
+
+-- ---- a push that no check refuses
+pub record Acceptable (st : State editing) (e : Edit) (cs : List Change) : Type 0 where
+  pub permitted : Permitted
+  pub passes : firstOf (ownChecks false (st .sheet) permitted e cs) ≡ 0
+  pub short : length cs ≤ maxChanges
+  pub room : st .handle .offset + recordLength e (length cs) ≤ length (st .journal)
+
+-- the number of the first check after "still" that applies, and what 0 means
+pub record Pushes (room : ℕ) (st : State editing) (g : Given) (n : ℕ) : Type 0 where
+  pub value : n ≡ firstOf (pushChecks editing room st g)
+  pub fine : n ≡ 0 → Acceptable st (g .edit) (g .changes)

@@ -1,0 +1,4 @@
+pub mod Editing
+pub mod Demand3
+pub mod Calls
+pub mod Replay

@@ -1,0 +1,58 @@
+// Number 10: whether a colour is permitted.
+use limits::Rgb;
+use lists::either;
+use pixels::both;
+ghost use mathlib.Core.Path.{_≡_};
+ghost use Prim.Native.Nat.{_+_, _*_, _≤_};
+ghost use lib.ListN.{length};
+ghost use Rattle.sheet.specs.Document.{rgbAt};
+ghost use Rattle.edits.specs.Checks.{sameRgb, listed, permittedOf, barred};
+
+// Entry i of a list of colours, three bytes each.
+pub fn rgb_at(colours: &[u8], i: usize) -> Rgb
+    requires { ⌜ 3 * i + 3 ≤ length (now colours) ⌝ }
+    ensures { λ r. ⌜ r ≡ rgbAt (now (colours .entry)) i ⌝ }
+{
+    let at = 3 * i;
+    Rgb {
+        r: colours[at],
+        g: colours[at + 1],
+        b: colours[at + 2],
+    }
+}
+
+// Whether entry i is this colour.
+pub fn has_rgb(colours: &[u8], i: usize, c: Rgb) -> bool
+    requires { ⌜ 3 * i + 3 ≤ length (now colours) ⌝ }
+    ensures { λ r. ⌜ r ≡ sameRgb (rgbAt (now (colours .entry)) i) c ⌝ }
+{
+    let at = 3 * i;
+    both(
+        colours[at] == c.r,
+        both(colours[at + 1] == c.g, colours[at + 2] == c.b),
+    )
+}
+
+// Whether a colour is among those of a list, three bytes each.
+pub fn is_listed(colours: &[u8], c: Rgb) -> bool
+    ensures { λ r. ⌜ r ≡ listed (now (colours .entry)) c ⌝ }
+{
+    let n = colours.len() / 3;
+    let mut found = false;
+    let mut i: usize = 0;
+    while i < n {
+        found = either(found, has_rgb(colours, i, c));
+        i += 1;
+    }
+    found
+}
+
+// Number 10 of a colour: there is a list of permitted colours, and it is not on it.
+pub fn check_color(limited: bool, permitted: &[u8], c: Rgb) -> bool
+    ensures { λ r. ⌜ r ≡ barred (permittedOf limited (now (permitted .entry))) c ⌝ }
+{
+    if !limited {
+        return false;
+    }
+    !is_listed(permitted, c)
+}

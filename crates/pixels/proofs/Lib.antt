@@ -1,0 +1,10 @@
+pub mod Complement
+pub mod Filling
+pub mod Inside
+pub mod Passing
+pub mod Targets
+pub mod Mapped
+pub mod Steps
+pub mod Places
+pub mod Painting
+pub mod Unpacking
