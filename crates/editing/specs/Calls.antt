@@ -1,13 +1,13 @@
 -- What a call is handed and what it leaves, as the states of demand 3; and what the steps of a call ask of each other. Definitions only. Assumes nothing.
 use mathlib.Core.Path.{_≡_}
 use mathlib.Core.Bool.{false, true}
-use mathlib.Core.List.{List}
+use mathlib.Core.List.{List, [], _∷_}
 use Prim.Native.Nat.{ℕ, _+_, _≤_}
 use lib.IntN.{ℤ}
 use lib.Ieee.{Float}
 use lib.ListN.{length}
 use Rattle.limits.specs.Limits.{maxChanges, maxJournal}
-use Rattle.limits.specs.Checks.{firstOf}
+use Rattle.limits.specs.Checks.{Check, firstOf}
 use Rattle.limits.specs.declared.Answer.{Answer}
 use Rattle.sheet.specs.Sheet.{Sheet, sheetOf}
 use Rattle.sheet.specs.Checks.{WellFormed}
@@ -18,7 +18,7 @@ use Rattle.records.specs.Record.{recordLength}
 use Rattle.ledger.specs.declared.Handle.{Handle}
 use Rattle.ledger.specs.Handle.{sound}
 use Rattle.ledger.specs.Calls.{Outcome}
-use Rattle.ledger.specs.Journal.{State, moveChecks, entryChecks, pushChecks}
+use Rattle.ledger.specs.Journal.{State, longJournal, unsound, moveChecks, entryChecks, pushChecks}
 use Rattle.editing.specs.declared.Moved.{Moved}
 use Rattle.editing.specs.Editing.{Given, editing}
 
@@ -57,3 +57,11 @@ pub record Acceptable (st : State editing) (e : Edit) (cs : List Change) : Type 
 pub record Pushes (room : ℕ) (st : State editing) (g : Given) (n : ℕ) : Type 0 where
   pub value : n ≡ firstOf (pushChecks editing room st g)
   pub fine : n ≡ 0 → Acceptable st (g .edit) (g .changes)
+
+-- ---- what looks at no sheet: 1 and 4, of a journal of n bytes
+abbrev pub handleChecks : ℕ → Handle → List Check
+handleChecks n h = longJournal n ∷ unsound n h ∷ []
+
+-- ---- `mark_saved`: what it answers and leaves; `markOf` (ledger/specs/Journal.antt) says what these are
+abbrev pub outcomeOf : Answer → Handle → Outcome Handle
+outcomeOf answer handle = record { answer = answer; leaves = handle }

@@ -1,16 +1,31 @@
-// Checks 1 to 4, which push, undo and redo begin with.
+// Checks 1 to 4, which the calls on a history begin with.
 use ledger::Handle;
 use limits::BAD_SHEET;
 use limits::JOURNAL_DAMAGED;
 use limits::MAX_JOURNAL;
 use sheet::check;
 use sheet::permitted_no;
+ghost use mathlib.Core.Path.{_≡_};
 ghost use mathlib.Core.List.{List};
 ghost use Prim.Native.Nat.{ℕ};
+ghost use Rattle.limits.specs.Checks.{firstOf};
 ghost use Rattle.edits.specs.declared.Edit.{Edit};
 ghost use Rattle.sheet.specs.Sheet.{sheetOf};
 ghost use Rattle.editing.specs.Editing.{givenOf};
-ghost use Rattle.editing.specs.Calls.{stateOf, Moves, Enters};
+ghost use Rattle.editing.specs.Calls.{stateOf, handleChecks, Moves, Enters};
+
+// The number of the first of 1 and 4 that applies to a handle in a journal of so many bytes, or 0.
+pub fn handle_no(size: usize, handle: Handle) -> u8
+    ensures { λ r. ⌜ r ≡ firstOf (handleChecks size handle) ⌝ }
+{
+    if MAX_JOURNAL < size {
+        return BAD_SHEET;
+    }
+    if !handle.sound(size) {
+        return JOURNAL_DAMAGED;
+    }
+    0
+}
 
 // The number of the first of 1 to 4 that applies to a sheet, a journal and a handle, or 0.
 pub fn move_no(

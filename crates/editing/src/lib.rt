@@ -10,6 +10,7 @@ use limits::Answer;
 ghost use mathlib.Core.Path.{_≡_};
 ghost use Rattle.limits.specs.declared.Answer.the-variants.{Still, Refused};
 pub use entering::entry_no;
+pub use entering::handle_no;
 pub use entering::move_no;
 pub use measure::record_length;
 

@@ -5,24 +5,16 @@
 //
 // The crate editing's specs/Demand3.antt states what the calls do together, for every list of them: document 01's
 // demand 3.
-mod look;
 mod mark;
 mod moving;
 mod op;
 mod pushing;
 
 pub use editing::Moved;
-use edits::Edit;
 pub use ledger::Handle;
 pub use ledger::NOWHERE;
 use limits::Answer;
-pub use look::applied;
-pub use look::next_redo;
-pub use look::next_undo;
-pub use mark::can_redo;
-pub use mark::can_undo;
 pub use mark::fresh;
-pub use mark::is_dirty;
 pub use mark::mark_saved;
 pub use moving::redo;
 pub use moving::undo;
@@ -33,26 +25,6 @@ pub use pushing::push;
 pub struct Marked {
     pub answer: Answer,
     pub handle: Handle,
-}
-
-// What a question about a history answers.
-pub enum Truth {
-    Is(bool),
-    Refused(u8),
-}
-
-// What a look at a record answers: the edit, where its record starts and how long it is, and where its
-// changes start, 8 bytes each, and how many there are.
-pub enum Next {
-    Record {
-        edit: Edit,
-        start: usize,
-        length: usize,
-        list: usize,
-        count: usize,
-    },
-    Nothing,
-    Refused(u8),
 }
 
 // What `replay` answers, and the palette count after it.

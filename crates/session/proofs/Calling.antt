@@ -15,7 +15,7 @@ use Rattle.ledger.specs.Journal.{markOf, step}
 use Rattle.editing.specs.declared.Moved.{Moved}
 use Rattle.editing.specs.Editing.{editing}
 use Rattle.editing.specs.Calls.{stateOf, leaves}
-use Rattle.history.specs.Looks.{outcomeOf}
+use Rattle.editing.specs.Calls.{outcomeOf}
 use Rattle.frames.specs.Reading.{changesFrom}
 use Rattle.frames.proofs.Changes.{length-changes}
 use Rattle.session.specs.Panel.{room}

@@ -29,7 +29,7 @@ use Rattle.ledger.specs.Calls.{Outcome, refused, guarded}
 use Rattle.ledger.specs.Calls.Call.{push, undo, redo, mark}
 use Rattle.ledger.specs.Journal.{State, opened, step}
 use Rattle.editing.specs.Editing.{Given, givenOf, editing}
-use Rattle.history.specs.Looks.{dirty}
+use Rattle.looks.specs.Looks.{dirty}
 use Rattle.frames.specs.Reading.{frameOf, paletteIn, indicesIn, changesFrom}
 use Rattle.frames.specs.Writing.{lineOf, numberLine}
 use Rattle.frames.specs.declared.Frame.{Frame}

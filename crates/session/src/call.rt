@@ -27,7 +27,7 @@ ghost use Rattle.palette.specs.Colours.{noLab};
 ghost use Rattle.ledger.specs.Journal as ledgers;
 ghost use Rattle.editing.specs.Calls.{stateOf, leaves};
 ghost use Rattle.editing.specs.Editing.{editing};
-ghost use Rattle.history.specs.Looks.{outcomeOf};
+ghost use Rattle.editing.specs.Calls.{outcomeOf};
 ghost use Rattle.frames.specs.Reading.{changesFrom, sizeOf};
 ghost use Rattle.session.specs.Panel.{room, given, mergedOf, callOf};
 

@@ -1,5 +1,5 @@
 -- `is_dirty`: none is saved, or another position. Assumes nothing.
-use Rattle.history.specs.Looks.{isOther}
+use Rattle.looks.specs.Looks.{isOther}
 use Rattle.ledger.specs.Handle.{savedPosition}
 use borrow.Author.Tests.{eq-eqb, ne-eqb}
 use Rattle.session.proofs.step.is_dirty.Statement.{statement}

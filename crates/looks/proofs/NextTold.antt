@@ -17,10 +17,11 @@ use Rattle.records.specs.Found.{kindOf, foundAt, foundBefore}
 use Rattle.recorded.specs.Lies.{editAt}
 use Rattle.ledger.specs.declared.Handle.{Handle}
 use Rattle.ledger.specs.Handle.{steppedBack, steppedForth}
-use Rattle.history.specs.declared.Next.{Next}
-use Rattle.history.specs.declared.Next.the-variants as next
-use Rattle.history.specs.Looks.{handleChecks, shown, stepShown, nextUndoOf, nextRedoOf, readShown, appliedOf}
-use Rattle.history.proofs.NextFound.{listAt, handle-sound, Seen, seen-back, seen-forth}
+use Rattle.looks.specs.declared.Next.{Next}
+use Rattle.looks.specs.declared.Next.the-variants as next
+use Rattle.editing.specs.Calls.{handleChecks}
+use Rattle.looks.specs.Looks.{shown, stepShown, nextUndoOf, nextRedoOf, readShown, appliedOf}
+use Rattle.looks.proofs.NextFound.{listAt, handle-sound, Seen, seen-back, seen-forth}
 
 -- ---- a reading that is shown
 record Told (r : Reading) (from : ℕ → ℕ) (e : Edit) (start n list count : ℕ) : Type 0 where

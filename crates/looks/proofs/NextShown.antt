@@ -14,10 +14,11 @@ use Rattle.records.proofs.Finding.{length-in}
 use Rattle.recorded.specs.Lies.{editAt}
 use Rattle.ledger.specs.declared.Handle.{Handle}
 use Rattle.ledger.specs.Handle.{sound, steppedBack, steppedForth}
-use Rattle.history.specs.declared.Next.{Next}
-use Rattle.history.specs.declared.Next.the-variants as next
-use Rattle.history.specs.Looks.{handleChecks, shown, stepShown, nextUndoOf, nextRedoOf, readShown, appliedOf}
-use Rattle.history.proofs.NextFound.{listAt, Seen, SeenBack, SeenForth}
+use Rattle.looks.specs.declared.Next.{Next}
+use Rattle.looks.specs.declared.Next.the-variants as next
+use Rattle.editing.specs.Calls.{handleChecks}
+use Rattle.looks.specs.Looks.{shown, stepShown, nextUndoOf, nextRedoOf, readShown, appliedOf}
+use Rattle.looks.proofs.NextFound.{listAt, Seen, SeenBack, SeenForth}
 
 -- ---- a record that was found, shown
 abbrev pub recordAt : List ℕ → ℕ → ℕ → ℕ → ℕ → Next

@@ -6,12 +6,12 @@ use lib.ListN.{length}
 use Rattle.limits.specs.Checks.{firstOf}
 use Rattle.ledger.specs.Handle.{sound, steppedBack}
 use Rattle.ledger.proofs.Soundness.{Sound}
-use Rattle.history.specs.Looks.{handleChecks}
-use Rattle.history.proofs.NextFound.{handle-sound, unread-before, SeenBack, seen-back}
-use Rattle.history.proofs.NextShown.{undo-refused, undo-nothing, undo-unread, undo-unsound, undo-shown}
+use Rattle.editing.specs.Calls.{handleChecks}
+use Rattle.looks.proofs.NextFound.{handle-sound, unread-before, SeenBack, seen-back}
+use Rattle.looks.proofs.NextShown.{undo-refused, undo-nothing, undo-unread, undo-unsound, undo-shown}
 use borrow.Author.Needs.{needs}
-use Rattle.history.proofs.look.next_undo.Statement.{statement}
-use Rattle.history.proofs.look.next_undo.Tie as tie
+use Rattle.looks.proofs.shown.next_undo.Statement.{statement}
+use Rattle.looks.proofs.shown.next_undo.Tie as tie
 
 handle-no-requires : tie.Need-handle-no-requires
 handle-no-requires c κs = search needs

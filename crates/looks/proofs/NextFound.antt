@@ -20,7 +20,7 @@ use Rattle.recorded.proofs.Searched.{Searched, searched-forth, searched-back}
 use Rattle.ledger.specs.declared.Handle.{Handle}
 use Rattle.ledger.specs.Journal.{longJournal, unsound}
 use Rattle.ledger.proofs.Soundness.{Sound, sound-facts}
-use Rattle.history.specs.Looks.{handleChecks}
+use Rattle.editing.specs.Calls.{handleChecks}
 
 -- ---- a handle that 1 and 4 do not refuse
 pub handle-sound : (n : ℕ) (h : Handle) → firstOf (handleChecks n h) ≡ 0 → Sound n h

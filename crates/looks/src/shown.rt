@@ -2,7 +2,7 @@
 // the applied ones, oldest first. What is read is the edit and where its changes lie; the changes stay in
 // the journal. proofs/NextTold says that they are the ones that undo and redo read.
 use crate::Next;
-use crate::mark::handle_no;
+use editing::handle_no;
 use edits::Edit;
 use ledger::Handle;
 use limits::JOURNAL_DAMAGED;
@@ -16,8 +16,8 @@ ghost use mathlib.Core.Path.{_≡_};
 ghost use Prim.Native.Nat.{_+_, _-_, _*_, _≤_};
 ghost use lib.ListN.{length};
 ghost use Rattle.recorded.specs.Lies.{editAt, Lies};
-ghost use Rattle.history.specs.declared.Next.the-variants as next;
-ghost use Rattle.history.specs.Looks.{nextUndoOf, nextRedoOf, appliedOf};
+ghost use Rattle.looks.specs.declared.Next.the-variants as next;
+ghost use Rattle.looks.specs.Looks.{nextUndoOf, nextRedoOf, appliedOf};
 
 // The edit of a record that lies in the journal.
 fn edit_at(journal: &[u8], kind: u8, start: usize) -> Edit

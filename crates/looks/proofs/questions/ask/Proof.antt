@@ -1,11 +1,11 @@
 -- `ask`: 1 and 4, then the answer. Assumes nothing.
 use mathlib.Core.Path.{sym, _∙_}
 use Rattle.limits.proofs.First.{refused-first, result-first}
-use Rattle.history.specs.declared.Truth.the-variants as truth
-use Rattle.history.specs.Looks.{asked}
+use Rattle.looks.specs.declared.Truth.the-variants as truth
+use Rattle.looks.specs.Looks.{asked}
 use borrow.Author.Needs.{needs}
-use Rattle.history.proofs.mark.ask.Statement.{statement}
-use Rattle.history.proofs.mark.ask.Tie as tie
+use Rattle.looks.proofs.questions.ask.Statement.{statement}
+use Rattle.looks.proofs.questions.ask.Tie as tie
 
 handle-no-requires : tie.Need-handle-no-requires
 handle-no-requires c κs = search needs

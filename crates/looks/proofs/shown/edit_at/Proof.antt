@@ -5,8 +5,8 @@ use Rattle.records.specs.Record.{byKind}
 use Rattle.recorded.specs.Lies.{editAt}
 use Rattle.recorded.proofs.Rooms.{pixels-room, set-room, add-room, remove-room, last-kind}
 use borrow.Author.Needs.{needs}
-use Rattle.history.proofs.look.edit_at.Statement.{statement}
-use Rattle.history.proofs.look.edit_at.Tie as tie
+use Rattle.looks.proofs.shown.edit_at.Statement.{statement}
+use Rattle.looks.proofs.shown.edit_at.Tie as tie
 
 add-t12 : tie.Need-add-t12
 add-t12 c = search needs

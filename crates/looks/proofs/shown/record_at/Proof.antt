@@ -1,8 +1,8 @@
 -- `record_at`: the edit, and where its changes lie. Assumes nothing.
-use Rattle.history.proofs.NextFound.{lies-bare}
+use Rattle.looks.proofs.NextFound.{lies-bare}
 use borrow.Author.Needs.{needs}
-use Rattle.history.proofs.look.record_at.Statement.{statement}
-use Rattle.history.proofs.look.record_at.Tie as tie
+use Rattle.looks.proofs.shown.record_at.Statement.{statement}
+use Rattle.looks.proofs.shown.record_at.Tie as tie
 
 edit-at-requires : tie.Need-edit-at-requires
 edit-at-requires c κs = lies-bare (c .before .pre .0)

@@ -1,9 +1,9 @@
 -- `is_other`: none is saved, or another position. Assumes nothing.
 use borrow.Author.Tests.{eq-eqb, ne-eqb}
 use Rattle.ledger.specs.Handle.{savedPosition}
-use Rattle.history.specs.Looks.{isOther}
-use Rattle.history.proofs.mark.is_other.Statement.{statement}
-use Rattle.history.proofs.mark.is_other.Tie as tie
+use Rattle.looks.specs.Looks.{isOther}
+use Rattle.looks.proofs.questions.is_other.Statement.{statement}
+use Rattle.looks.proofs.questions.is_other.Tie as tie
 
 returns : tie.Need-returns
 unfolding savedPosition isOther

@@ -2,8 +2,8 @@
 use borrow.Author.Tests.{lt-ltb, le-ltb}
 use Rattle.limits.specs.Checks.{firstOf}
 use borrow.Author.Needs.{needs}
-use Rattle.history.proofs.mark.handle_no.Statement.{statement}
-use Rattle.history.proofs.mark.handle_no.Tie as tie
+use Rattle.editing.proofs.entering.handle_no.Statement.{statement}
+use Rattle.editing.proofs.entering.handle_no.Tie as tie
 
 returns : tie.Need-returns
 unfolding firstOf

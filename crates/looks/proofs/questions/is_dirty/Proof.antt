@@ -1,7 +1,7 @@
 -- `is_dirty`: what `is_other` says. Assumes nothing.
 use borrow.Author.Needs.{needs}
-use Rattle.history.proofs.mark.is_dirty.Statement.{statement}
-use Rattle.history.proofs.mark.is_dirty.Tie as tie
+use Rattle.looks.proofs.questions.is_dirty.Statement.{statement}
+use Rattle.looks.proofs.questions.is_dirty.Tie as tie
 
 is-other-requires : tie.Need-is-other-requires
 is-other-requires c κs = search needs

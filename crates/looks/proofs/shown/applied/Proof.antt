@@ -5,12 +5,12 @@ use native.Mathlib.Omega.{arith}
 use lib.ListN.{length}
 use Rattle.limits.specs.Checks.{firstOf}
 use Rattle.ledger.proofs.Soundness.{Sound}
-use Rattle.history.specs.Looks.{handleChecks}
-use Rattle.history.proofs.NextFound.{handle-sound, unread-at, SeenForth, seen-forth}
-use Rattle.history.proofs.NextShown.{applied-refused, applied-nothing, applied-unread, applied-shown}
+use Rattle.editing.specs.Calls.{handleChecks}
+use Rattle.looks.proofs.NextFound.{handle-sound, unread-at, SeenForth, seen-forth}
+use Rattle.looks.proofs.NextShown.{applied-refused, applied-nothing, applied-unread, applied-shown}
 use borrow.Author.Needs.{needs}
-use Rattle.history.proofs.look.applied.Statement.{statement}
-use Rattle.history.proofs.look.applied.Tie as tie
+use Rattle.looks.proofs.shown.applied.Statement.{statement}
+use Rattle.looks.proofs.shown.applied.Tie as tie
 
 handle-no-requires : tie.Need-handle-no-requires
 handle-no-requires c κs = search needs

@@ -8,26 +8,17 @@ use lib.Dec.{leb, eqb}
 use lib.ListN.{length, take, drop}
 use Rattle.limits.specs.Numbers.{journalDamaged}
 use Rattle.limits.specs.Checks.{Check, _when_, checked}
-use Rattle.limits.specs.declared.Answer.{Answer}
 use Rattle.edits.specs.declared.Edit.{Edit}
 use Rattle.edits.specs.Change.{Change}
 use Rattle.records.specs.Record.{Reading, readForth, readBack}
 use Rattle.ledger.specs.declared.Handle.{Handle}
 use Rattle.ledger.specs.Handle.{savedPosition, steppedBack, steppedForth}
-use Rattle.ledger.specs.Calls.{Outcome}
-use Rattle.ledger.specs.Journal.{longJournal, unsound}
-use Rattle.history.specs.declared.Truth.{Truth}
-use Rattle.history.specs.declared.Truth.the-variants as truth
-use Rattle.history.specs.declared.Next.{Next}
-use Rattle.history.specs.declared.Next.the-variants as next
-
--- 1 and 4, of a journal of n bytes
-abbrev pub handleChecks : ℕ → Handle → List Check
-handleChecks n h = longJournal n ∷ unsound n h ∷ []
-
--- ---- `mark_saved`: what it answers and leaves; `markOf` (ledger/specs/Journal.antt) says what these are
-abbrev pub outcomeOf : Answer → Handle → Outcome Handle
-outcomeOf answer handle = record { answer = answer; leaves = handle }
+use Rattle.ledger.specs.Journal.{unsound}
+use Rattle.editing.specs.Calls.{handleChecks}
+use Rattle.looks.specs.declared.Truth.{Truth}
+use Rattle.looks.specs.declared.Truth.the-variants as truth
+use Rattle.looks.specs.declared.Next.{Next}
+use Rattle.looks.specs.declared.Next.the-variants as next
 
 -- ---- questions
 unfoldable pub asked : ℕ → Handle → Bool → Truth

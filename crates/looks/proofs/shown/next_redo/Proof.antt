@@ -6,12 +6,12 @@ use lib.ListN.{length}
 use Rattle.limits.specs.Checks.{firstOf}
 use Rattle.ledger.specs.Handle.{sound, steppedForth}
 use Rattle.ledger.proofs.Soundness.{Sound}
-use Rattle.history.specs.Looks.{handleChecks}
-use Rattle.history.proofs.NextFound.{handle-sound, unread-at, SeenForth, seen-forth}
-use Rattle.history.proofs.NextShown.{redo-refused, redo-nothing, redo-unread, redo-unsound, redo-shown}
+use Rattle.editing.specs.Calls.{handleChecks}
+use Rattle.looks.proofs.NextFound.{handle-sound, unread-at, SeenForth, seen-forth}
+use Rattle.looks.proofs.NextShown.{redo-refused, redo-nothing, redo-unread, redo-unsound, redo-shown}
 use borrow.Author.Needs.{needs}
-use Rattle.history.proofs.look.next_redo.Statement.{statement}
-use Rattle.history.proofs.look.next_redo.Tie as tie
+use Rattle.looks.proofs.shown.next_redo.Statement.{statement}
+use Rattle.looks.proofs.shown.next_redo.Tie as tie
 
 handle-no-requires : tie.Need-handle-no-requires
 handle-no-requires c κs = search needs

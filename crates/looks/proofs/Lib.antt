@@ -1,0 +1,3 @@
+pub mod NextFound
+pub mod NextShown
+pub mod NextTold
