@@ -1,0 +1,4 @@
+pub mod Tile
+pub mod Cells
+pub mod Extract
+pub mod Reconstruct
