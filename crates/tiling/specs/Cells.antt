@@ -24,6 +24,10 @@ cellCount w h t = h / t * (w / t)
 unfoldable pub cellOf : ℕ → ℕ → List ℤ → ℕ → List ℤ
 cellOf w t indices c = grid t (λ y x. getD indices ((c / (w / t) * t + y) * w + c % (w / t) * t + x) (pos 0))
 
+-- where it begins
+unfoldable pub cornerOf : ℕ → ℕ → ℕ → ℕ
+cornerOf w t c = c / (w / t) * t * w + c % (w / t) * t
+
 unfoldable pub cells : ℕ → ℕ → ℕ → List ℤ → List (List ℤ)
 cells w h t indices = map (cellOf w t indices) (range 0 (cellCount w h t))
 

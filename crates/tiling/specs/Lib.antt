@@ -2,3 +2,5 @@ pub mod Tile
 pub mod Cells
 pub mod Extract
 pub mod Reconstruct
+pub mod Seen
+pub mod Table

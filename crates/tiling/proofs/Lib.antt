@@ -1,0 +1,12 @@
+pub mod Rows
+pub mod Grids
+pub mod Sameness
+pub mod Mixing
+pub mod Lying
+pub mod Flipping
+pub mod Positions
+pub mod Orders
+pub mod Corners
+pub mod Firsts
+pub mod Chains
+pub mod Entering
