@@ -10,3 +10,5 @@ pub mod Corners
 pub mod Firsts
 pub mod Chains
 pub mod Entering
+pub mod Ranks
+pub mod Agreeing

@@ -4,3 +4,4 @@ pub mod Extract
 pub mod Reconstruct
 pub mod Seen
 pub mod Table
+pub mod Ids
