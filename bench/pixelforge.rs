@@ -1,14 +1,17 @@
-//! pixelforge's editor, of which four files are built as they stand: document.rs, op.rs, history.rs and palette.rs.
+//! pixelforge's editor, of which these files are built as they stand: document.rs, op.rs, history.rs, palette.rs,
+//! selection.rs and tools.rs, and tiles.rs beside it.
 //!
-//! What else they name stands here: the types with the fields that the four read, and functions that no timed call
-//! reaches. `bench/run` links the folder of pixelforge's src to target/bench/pixelforge.
+//! What else they name stands here: the types with the fields that they read, and functions that no timed or compared
+//! call reaches. `bench/run` and `compare/run` link the folder of pixelforge's src to target/pixelforge, and name the
+//! build of color.rs that is meant.
 
 #![allow(dead_code)]
 
 extern crate self as png;
 extern crate self as sha2;
 
-pub use color_platform as color;
+pub extern crate color;
+
 use std::fmt;
 
 /// An error of any module: a text.
@@ -22,21 +25,27 @@ impl fmt::Display for Told {
 }
 
 fn out_of_reach() -> ! {
-    unreachable!("no timed call comes here")
+    unreachable!("no call of the driver comes here")
 }
 
-#[path = "../target/bench/pixelforge/editor"]
+#[path = "../target/pixelforge/tiles.rs"]
+pub mod tiles;
+
+#[path = "../target/pixelforge/editor"]
 pub mod editor {
     pub mod document;
     pub mod history;
     pub mod op;
     pub mod palette;
+    pub mod selection;
+    pub mod tools;
 
     pub use crate::Told as EditError;
     pub use document::{Document, Origin, SourceRef};
     pub use history::History;
     pub use log::EditLog;
     pub use op::{Op, PixelChange};
+    pub use selection::Selection;
 
     pub(crate) fn err<T>(told: impl Into<String>) -> Result<T, EditError> {
         Err(EditError(told.into()))
@@ -91,6 +100,10 @@ pub mod config {
         pub alpha_threshold: i64,
         pub palette_name: Option<String>,
         pub palette_size: i64,
+        pub tileset: bool,
+        pub tile_size: i64,
+        pub tile_dedupe_tolerance: f64,
+        pub tileset_columns: i64,
     }
 
     pub enum Value {
@@ -167,6 +180,13 @@ pub mod io {
     }
 
     pub fn indices_to_rgba(_: &[i64], _: &[[u8; 3]]) -> Result<Vec<u8>, Told> {
+        crate::out_of_reach()
+    }
+}
+
+pub mod npsum {
+    /// Of near-duplicate tiles alone, which tolerance 0 never looks for.
+    pub fn pairwise_sum(_: &[f64]) -> f64 {
         crate::out_of_reach()
     }
 }
@@ -269,7 +289,7 @@ pub mod pyjson {
     }
 }
 
-// What the four name of the crates `sha2` and `png`.
+// What document.rs names of the crates `sha2` and `png`.
 
 pub trait Digest {
     fn digest(_: &[u8]) -> Self;

@@ -1,0 +1,27 @@
+//! Compares every exported call with the Rust original; `compare/run` builds and runs it.
+//!
+//! Ours is crates/exports, as `rt staticlib` compiles it. `pixelforge` has the Rust, unchanged, over the stand-ins of
+//! bench/. What is expected of a call is document 01's checks, written here in its order, and where no number marked + applies
+//! the Rust's own answer: values, counts, refusals, and every buffer as it is after the call.
+
+mod calls;
+mod draw;
+mod drawn;
+mod inputs;
+mod sheet;
+mod sheets;
+mod table;
+
+use std::time::Instant;
+
+fn main() {
+    let start = Instant::now();
+    let mut t = table::Table::default();
+    inputs::run(&mut t);
+    let same = t.print();
+    println!();
+    println!("{:.0} seconds.", start.elapsed().as_secs_f64());
+    if !same {
+        std::process::exit(1);
+    }
+}

@@ -1,0 +1,42 @@
+// The calls of `color`.
+use crate::flat::lab_of;
+use crate::flat::rgb_of;
+use crate::flat::tell_lab;
+use color::Found;
+use color::Root;
+
+#[no_mangle]
+pub extern "C" fn call_rgb8_to_lab(rgb: &[u8; 3], out: &mut [f64; 3]) {
+    tell_lab(color::rgb8_to_lab(rgb_of(rgb)), out);
+}
+
+#[no_mangle]
+pub extern "C" fn call_cbrt(t: f64, out: &mut [f64; 3]) -> u8 {
+    match color::cbrt(t) {
+        Root::Value(x) => {
+            out[0] = x;
+            0
+        }
+        Root::Refused(n) => n,
+    }
+}
+
+pub(crate) fn tell_found(f: Found, r: &mut [usize; 5]) -> u8 {
+    match f {
+        Found::Entry(i) => {
+            r[0] = i;
+            0
+        }
+        Found::Refused(n) => n,
+    }
+}
+
+#[no_mangle]
+pub extern "C" fn call_nearest_index(
+    target: &[f64; 3],
+    lab: &[f64],
+    k: usize,
+    r: &mut [usize; 5],
+) -> u8 {
+    tell_found(color::nearest_index(lab_of(target), lab, k), r)
+}
