@@ -27,7 +27,12 @@ fn listed(no: u8, r: &[usize], out: &[u64]) -> Vec<u64> {
 }
 
 /// What is expected of a call whose result is a list: 16 where the buffer or the scratch is too short.
-fn with_list(no: u8, out: usize, short: bool, result: impl FnOnce() -> Vec<PixelChange>) -> Vec<u64> {
+fn with_list(
+    no: u8,
+    out: usize,
+    short: bool,
+    result: impl FnOnce() -> Vec<PixelChange>,
+) -> Vec<u64> {
     if no != 0 {
         return listed(no, &R, &vec![WORD; out]);
     }
@@ -39,7 +44,10 @@ fn with_list(no: u8, out: usize, short: bool, result: impl FnOnce() -> Vec<Pixel
 }
 
 fn pairs(points: &[i32]) -> Vec<(i64, i64)> {
-    points.chunks_exact(2).map(|p| (p[0].into(), p[1].into())).collect()
+    points
+        .chunks_exact(2)
+        .map(|p| (p[0].into(), p[1].into()))
+        .collect()
 }
 
 fn points_number(c: &Case, points: &[i32], a: Area) -> u8 {
@@ -50,7 +58,11 @@ fn points_number(c: &Case, points: &[i32], a: Area) -> u8 {
         (15, points.iter().any(|&z| far(z))),
         (5, a.is_off(s.w, s.h)),
     ]);
-    if no != 0 { no } else { own }
+    if no != 0 {
+        no
+    } else {
+        own
+    }
 }
 
 /// The number of a sheet, then 15 of the points, then 5 of the area.
@@ -59,26 +71,73 @@ fn placed_number(c: &Case, at: &[i32], a: Area) -> u8 {
         (15, at.iter().any(|&z| far(z))),
         (5, a.is_off(c.sheet.w, c.sheet.h)),
     ]);
-    if c.no != 0 { c.no } else { own }
+    if c.no != 0 {
+        c.no
+    } else {
+        own
+    }
 }
 
-pub fn pencil(c: &Case, a: Area, points: &[i32], size: usize, index: i16, scratch: usize, out: usize) -> Pair {
+pub fn pencil(
+    c: &Case,
+    a: Area,
+    points: &[i32],
+    size: usize,
+    index: i16,
+    scratch: usize,
+    out: usize,
+) -> Pair {
     let s = &c.sheet;
-    let expected = with_list(points_number(c, points, a), out, scratch < s.w * s.h, || {
-        tools::pencil(c.doc(), a.chosen().as_ref(), &pairs(points), size, index.into())
-    });
+    let expected = with_list(
+        points_number(c, points, a),
+        out,
+        scratch < s.w * s.h,
+        || {
+            tools::pencil(
+                c.doc(),
+                a.chosen().as_ref(),
+                &pairs(points),
+                size,
+                index.into(),
+            )
+        },
+    );
     let (mut room, mut list, mut r) = (vec![WORD; scratch], vec![WORD; out], R);
-    let no = sheet!(call_pencil, s, a.whole, &a.s, points, size, index, &mut room, &mut list, &mut r);
+    let no = sheet!(
+        call_pencil,
+        s,
+        a.whole,
+        &a.s,
+        points,
+        size,
+        index,
+        &mut room,
+        &mut list,
+        &mut r
+    );
     [expected, listed(no, &r, &list)]
 }
 
 pub fn eraser(c: &Case, a: Area, points: &[i32], size: usize, scratch: usize, out: usize) -> Pair {
     let s = &c.sheet;
-    let expected = with_list(points_number(c, points, a), out, scratch < s.w * s.h, || {
-        tools::eraser(c.doc(), a.chosen().as_ref(), &pairs(points), size)
-    });
+    let expected = with_list(
+        points_number(c, points, a),
+        out,
+        scratch < s.w * s.h,
+        || tools::eraser(c.doc(), a.chosen().as_ref(), &pairs(points), size),
+    );
     let (mut room, mut list, mut r) = (vec![WORD; scratch], vec![WORD; out], R);
-    let no = sheet!(call_eraser, s, a.whole, &a.s, points, size, &mut room, &mut list, &mut r);
+    let no = sheet!(
+        call_eraser,
+        s,
+        a.whole,
+        &a.s,
+        points,
+        size,
+        &mut room,
+        &mut list,
+        &mut r
+    );
     [expected, listed(no, &r, &list)]
 }
 
@@ -86,35 +145,103 @@ fn point(x: i32, y: i32) -> (i64, i64) {
     (x.into(), y.into())
 }
 
-pub fn line(c: &Case, a: Area, at: [i32; 4], size: usize, index: i16, scratch: usize, out: usize) -> Pair {
+pub fn line(
+    c: &Case,
+    a: Area,
+    at: [i32; 4],
+    size: usize,
+    index: i16,
+    scratch: usize,
+    out: usize,
+) -> Pair {
     let s = &c.sheet;
     let [ax, ay, bx, by] = at;
     let expected = with_list(placed_number(c, &at, a), out, scratch < s.w * s.h, || {
-        tools::line(c.doc(), a.chosen().as_ref(), point(ax, ay), point(bx, by), size, index.into())
+        tools::line(
+            c.doc(),
+            a.chosen().as_ref(),
+            point(ax, ay),
+            point(bx, by),
+            size,
+            index.into(),
+        )
     });
     let (mut room, mut list, mut r) = (vec![WORD; scratch], vec![WORD; out], R);
-    let no = sheet!(call_line, s, a.whole, &a.s, ax, ay, bx, by, size, index, &mut room, &mut list, &mut r);
+    let no = sheet!(
+        call_line, s, a.whole, &a.s, ax, ay, bx, by, size, index, &mut room, &mut list, &mut r
+    );
     [expected, listed(no, &r, &list)]
 }
 
-pub fn rectangle(c: &Case, a: Area, at: [i32; 4], filled: bool, index: i16, scratch: usize, out: usize) -> Pair {
+pub fn rectangle(
+    c: &Case,
+    a: Area,
+    at: [i32; 4],
+    filled: bool,
+    index: i16,
+    scratch: usize,
+    out: usize,
+) -> Pair {
     let s = &c.sheet;
     let [ax, ay, bx, by] = at;
     let expected = with_list(placed_number(c, &at, a), out, scratch < s.w * s.h, || {
-        tools::rectangle(c.doc(), a.chosen().as_ref(), point(ax, ay), point(bx, by), filled, index.into())
+        tools::rectangle(
+            c.doc(),
+            a.chosen().as_ref(),
+            point(ax, ay),
+            point(bx, by),
+            filled,
+            index.into(),
+        )
     });
     let (mut room, mut list, mut r) = (vec![WORD; scratch], vec![WORD; out], R);
-    let no = sheet!(call_rectangle, s, a.whole, &a.s, ax, ay, bx, by, filled, index, &mut room, &mut list, &mut r);
+    let no = sheet!(
+        call_rectangle,
+        s,
+        a.whole,
+        &a.s,
+        ax,
+        ay,
+        bx,
+        by,
+        filled,
+        index,
+        &mut room,
+        &mut list,
+        &mut r
+    );
     [expected, listed(no, &r, &list)]
 }
 
-pub fn flood_fill(c: &Case, a: Area, x: i32, y: i32, index: i16, scratch: usize, out: usize) -> Pair {
+pub fn flood_fill(
+    c: &Case,
+    a: Area,
+    x: i32,
+    y: i32,
+    index: i16,
+    scratch: usize,
+    out: usize,
+) -> Pair {
     let s = &c.sheet;
-    let expected = with_list(placed_number(c, &[x, y], a), out, scratch < s.w * s.h, || {
-        tools::flood_fill(c.doc(), a.chosen().as_ref(), point(x, y), index.into())
-    });
+    let expected = with_list(
+        placed_number(c, &[x, y], a),
+        out,
+        scratch < s.w * s.h,
+        || tools::flood_fill(c.doc(), a.chosen().as_ref(), point(x, y), index.into()),
+    );
     let (mut room, mut list, mut r) = (vec![WORD; scratch], vec![WORD; out], R);
-    let no = sheet!(call_flood_fill, s, a.whole, &a.s, x, y, index, &mut room, &mut list, &mut r);
+    let no = sheet!(
+        call_flood_fill,
+        s,
+        a.whole,
+        &a.s,
+        x,
+        y,
+        index,
+        &mut room,
+        &mut list,
+        &mut r
+    );
     [expected, listed(no, &r, &list)]
 }
 
@@ -124,7 +251,16 @@ pub fn replace_color(c: &Case, a: Area, from: i16, to: i16, out: usize) -> Pair 
         tools::replace_color(c.doc(), a.chosen().as_ref(), from.into(), to.into())
     });
     let (mut list, mut r) = (vec![WORD; out], R);
-    let no = sheet!(call_replace_color, s, a.whole, &a.s, from, to, &mut list, &mut r);
+    let no = sheet!(
+        call_replace_color,
+        s,
+        a.whole,
+        &a.s,
+        from,
+        to,
+        &mut list,
+        &mut r
+    );
     [expected, listed(no, &r, &list)]
 }
 
@@ -134,7 +270,17 @@ pub fn fill_global(c: &Case, a: Area, x: i32, y: i32, index: i16, out: usize) ->
         tools::fill_global(c.doc(), a.chosen().as_ref(), point(x, y), index.into())
     });
     let (mut list, mut r) = (vec![WORD; out], R);
-    let no = sheet!(call_fill_global, s, a.whole, &a.s, x, y, index, &mut list, &mut r);
+    let no = sheet!(
+        call_fill_global,
+        s,
+        a.whole,
+        &a.s,
+        x,
+        y,
+        index,
+        &mut list,
+        &mut r
+    );
     [expected, listed(no, &r, &list)]
 }
 
@@ -145,7 +291,12 @@ fn shifted(no: u8, r: &[usize], out: &[u64], s: [u16; 4]) -> Vec<u64> {
     words
 }
 
-fn with_selection(no: u8, out: usize, short: bool, result: impl FnOnce() -> (Vec<PixelChange>, Option<Selection>)) -> Vec<u64> {
+fn with_selection(
+    no: u8,
+    out: usize,
+    short: bool,
+    result: impl FnOnce() -> (Vec<PixelChange>, Option<Selection>),
+) -> Vec<u64> {
     let refused = |no| shifted(no, &R, &vec![WORD; out], S);
     if no != 0 {
         return refused(no);
@@ -156,17 +307,35 @@ fn with_selection(no: u8, out: usize, short: bool, result: impl FnOnce() -> (Vec
         return refused(16);
     }
     let told = if moved.is_some() { 0 } else { 255 };
-    shifted(0, &numbers(&[list.len(), told]), &over(&list, out, WORD), moved.map_or(S, part))
+    shifted(
+        0,
+        &numbers(&[list.len(), told]),
+        &over(&list, out, WORD),
+        moved.map_or(S, part),
+    )
 }
 
 pub fn move_selection(c: &Case, s: [u16; 4], dx: i32, dy: i32, scratch: usize, out: usize) -> Pair {
     let sheet = &c.sheet;
     let a = Area { whole: false, s };
-    let expected = with_selection(placed_number(c, &[dx, dy], a), out, scratch < sheet.w * sheet.h, || {
-        tools::move_selection(c.doc(), &selection(s), dx.into(), dy.into())
-    });
+    let expected = with_selection(
+        placed_number(c, &[dx, dy], a),
+        out,
+        scratch < sheet.w * sheet.h,
+        || tools::move_selection(c.doc(), &selection(s), dx.into(), dy.into()),
+    );
     let (mut room, mut list, mut moved, mut r) = (vec![WORD; scratch], vec![WORD; out], S, R);
-    let no = sheet!(call_move_selection, sheet, &s, dx, dy, &mut room, &mut list, &mut moved, &mut r);
+    let no = sheet!(
+        call_move_selection,
+        sheet,
+        &s,
+        dx,
+        dy,
+        &mut room,
+        &mut list,
+        &mut moved,
+        &mut r
+    );
     [expected, shifted(no, &r, &list, moved)]
 }
 
@@ -179,7 +348,16 @@ fn clip_of(w: usize, h: usize, clip: &[i16]) -> Clip {
     Clip { w, h, indices }
 }
 
-pub fn paste(c: &Case, w: usize, h: usize, clip: &[i16], x: i32, y: i32, scratch: usize, out: usize) -> Pair {
+pub fn paste(
+    c: &Case,
+    w: usize,
+    h: usize,
+    clip: &[i16],
+    x: i32,
+    y: i32,
+    scratch: usize,
+    out: usize,
+) -> Pair {
     let s = &c.sheet;
     let own = first(&[(15, far(x) || far(y)), (17, bad_clip(w, h, clip))]);
     let no = if c.no != 0 { c.no } else { own };
@@ -187,7 +365,19 @@ pub fn paste(c: &Case, w: usize, h: usize, clip: &[i16], x: i32, y: i32, scratch
         tools::paste(c.doc(), &clip_of(w, h, clip), point(x, y))
     });
     let (mut room, mut list, mut placed, mut r) = (vec![WORD; scratch], vec![WORD; out], S, R);
-    let no = sheet!(call_paste, s, w, h, clip, x, y, &mut room, &mut list, &mut placed, &mut r);
+    let no = sheet!(
+        call_paste,
+        s,
+        w,
+        h,
+        clip,
+        x,
+        y,
+        &mut room,
+        &mut list,
+        &mut placed,
+        &mut r
+    );
     [expected, shifted(no, &r, &list, placed)]
 }
 
@@ -213,7 +403,9 @@ fn with_clip(no: u8, out: usize, result: impl FnOnce() -> Clip) -> Vec<u64> {
 
 pub fn copy(c: &Case, a: Area, out: usize) -> Pair {
     let s = &c.sheet;
-    let expected = with_clip(placed_number(c, &[], a), out, || tools::copy(c.doc(), a.chosen().as_ref()));
+    let expected = with_clip(placed_number(c, &[], a), out, || {
+        tools::copy(c.doc(), a.chosen().as_ref())
+    });
     let (mut list, mut r) = (vec![INDEX; out], R);
     let no = sheet!(call_copy, s, a.whole, &a.s, &mut list, &mut r);
     [expected, clipped(no, &r, &list)]
@@ -223,8 +415,16 @@ pub fn snap_rgba(c: &Case, rgba: &[u8], w: usize, h: usize, out: usize) -> Pair 
     let s = &c.sheet;
     // 19 has no +: inside the limits it is the Rust's None
     let wide = w > 1024 || h > 1024;
-    let no = if c.no != 0 { c.no } else { first(&[(17, wide)]) };
-    let clip = if no == 0 { tools::snap_rgba(c.doc(), rgba, w, h) } else { None };
+    let no = if c.no != 0 {
+        c.no
+    } else {
+        first(&[(17, wide)])
+    };
+    let clip = if no == 0 {
+        tools::snap_rgba(c.doc(), rgba, w, h)
+    } else {
+        None
+    };
     let no = if no == 0 && clip.is_none() { 19 } else { no };
     let expected = with_clip(no, out, || clip.unwrap());
     let (mut list, mut r) = (vec![INDEX; out], R);
@@ -253,7 +453,11 @@ pub fn with_bytes(no: u8, out: usize, result: impl FnOnce() -> Vec<u8>) -> Vec<u
 
 pub fn clip_rgba(c: &Case, w: usize, h: usize, clip: &[i16], out: usize) -> Pair {
     let s = &c.sheet;
-    let no = if c.no != 0 { c.no } else { first(&[(17, bad_clip(w, h, clip))]) };
+    let no = if c.no != 0 {
+        c.no
+    } else {
+        first(&[(17, bad_clip(w, h, clip))])
+    };
     let expected = with_bytes(no, out, || tools::clip_rgba(c.doc(), &clip_of(w, h, clip)));
     let (mut list, mut r) = (vec![BYTE; out], R);
     let no = sheet!(call_clip_rgba, s, w, h, clip, &mut list, &mut r);
@@ -262,8 +466,16 @@ pub fn clip_rgba(c: &Case, w: usize, h: usize, clip: &[i16], out: usize) -> Pair
 
 pub fn eyedropper(c: &Case, x: i32, y: i32) -> Pair {
     let s = &c.sheet;
-    let no = if c.no != 0 { c.no } else { first(&[(15, far(x) || far(y))]) };
-    let found = if no == 0 { tools::eyedropper(c.doc(), point(x, y)) } else { None };
+    let no = if c.no != 0 {
+        c.no
+    } else {
+        first(&[(15, far(x) || far(y))])
+    };
+    let found = if no == 0 {
+        tools::eyedropper(c.doc(), point(x, y))
+    } else {
+        None
+    };
     let mut got = [INDEX];
     let told = sheet!(call_eyedropper, s, x, y, &mut got);
     [looked(no, found), vec![told.into(), got[0] as u16 as u64]]

@@ -5,9 +5,12 @@
 //! the Rust's own answer: values, counts, refusals, and every buffer as it is after the call.
 
 mod calls;
+mod damage;
 mod draw;
 mod drawn;
+mod histories;
 mod inputs;
+mod journal;
 mod sheet;
 mod sheets;
 mod table;
@@ -18,10 +21,13 @@ fn main() {
     let start = Instant::now();
     let mut t = table::Table::default();
     inputs::run(&mut t);
+    histories::run(&mut t);
     let same = t.print();
     println!();
+    let sound = damage::run();
+    println!();
     println!("{:.0} seconds.", start.elapsed().as_secs_f64());
-    if !same {
+    if !(same && sound) {
         std::process::exit(1);
     }
 }

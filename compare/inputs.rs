@@ -30,12 +30,35 @@ pub fn run(t: &mut Table) {
 fn colours(t: &mut Table) {
     let mut draw = Draw::new(2);
     for i in 0..60_000 {
-        let rgb = if i < 4096 { [i >> 8, i >> 4 & 15, i & 15].map(|c| c as u8 * 17) } else { draw.rgb() };
+        let rgb = if i < 4096 {
+            [i >> 8, i >> 4 & 15, i & 15].map(|c| c as u8 * 17)
+        } else {
+            draw.rgb()
+        };
         tell!(t, "rgb8_to_lab", sheets::rgb8_to_lab(rgb), "{rgb:?}");
     }
-    let edges = [0.0, -0.0, -1.0, 0.0078125, 2.0, f64::NAN, f64::INFINITY, f64::NEG_INFINITY, 1.0, 0.5, 0.125, 1e-310, 1e308];
+    let edges = [
+        0.0,
+        -0.0,
+        -1.0,
+        0.0078125,
+        2.0,
+        f64::NAN,
+        f64::INFINITY,
+        f64::NEG_INFINITY,
+        1.0,
+        0.5,
+        0.125,
+        1e-310,
+        1e308,
+    ];
     for i in 0..50_000 {
-        let near = f64::from_bits(draw.from(&edges[2..]).to_bits().wrapping_add(draw.below(7) as u64).wrapping_sub(3));
+        let near = f64::from_bits(
+            draw.from(&edges[2..])
+                .to_bits()
+                .wrapping_add(draw.below(7) as u64)
+                .wrapping_sub(3),
+        );
         let x = match i % 8 {
             0 => draw.from(&edges),
             1 => near,
@@ -54,7 +77,13 @@ fn colours(t: &mut Table) {
             let at = 3 * draw.below(s.k.min(255));
             target.copy_from_slice(&s.lab[at..at + 3]);
         }
-        tell!(t, "nearest_index", sheets::nearest_index(target, &s.lab, s.k), "{target:?} in {}", s.about());
+        tell!(
+            t,
+            "nearest_index",
+            sheets::nearest_index(target, &s.lab, s.k),
+            "{target:?} in {}",
+            s.about()
+        );
     }
 }
 
@@ -68,7 +97,12 @@ fn selections(t: &mut Table) {
     for n in 0..9 * 625 {
         let (w, h) = (n / 625 / 3, n / 625 % 3);
         let at = [n / 125 % 5, n / 25 % 5, n / 5 % 5, n % 5].map(|z| z as i32 - 1);
-        tell!(t, "from_corners", sheets::from_corners(at, w, h), "{at:?} {w} {h}");
+        tell!(
+            t,
+            "from_corners",
+            sheets::from_corners(at, w, h),
+            "{at:?} {w} {h}"
+        );
     }
     // every selection of 0 to 2 in each number, on every size to 2 x 2
     for n in 0..9 * 81 {
@@ -76,18 +110,48 @@ fn selections(t: &mut Table) {
         let s = [n / 27 % 3, n / 9 % 3, n / 3 % 3, n % 3].map(|z| z as u16);
         for m in 0..25 {
             let (x, y) = (m / 5 - 1, m % 5 - 1);
-            tell!(t, "translated", sheets::translated(s, x, y, w, h), "{s:?} {x} {y} {w} {h}");
-            tell!(t, "contains_i", sheets::contains_i(s, x, y), "{s:?} {x} {y}");
+            tell!(
+                t,
+                "translated",
+                sheets::translated(s, x, y, w, h),
+                "{s:?} {x} {y} {w} {h}"
+            );
+            tell!(
+                t,
+                "contains_i",
+                sheets::contains_i(s, x, y),
+                "{s:?} {x} {y}"
+            );
             if x >= 0 && y >= 0 {
-                tell!(t, "contains", sheets::contains(s, x as usize, y as usize), "{s:?} {x} {y}");
+                tell!(
+                    t,
+                    "contains",
+                    sheets::contains(s, x as usize, y as usize),
+                    "{s:?} {x} {y}"
+                );
             }
         }
         for margin in 0..4 {
-            tell!(t, "grown", sheets::grown(s, margin, w, h), "{s:?} {margin} {w} {h}");
-            tell!(t, "positions", sheets::positions(s, 2 * margin + w), "{s:?} {margin}");
+            tell!(
+                t,
+                "grown",
+                sheets::grown(s, margin, w, h),
+                "{s:?} {margin} {w} {h}"
+            );
+            tell!(
+                t,
+                "positions",
+                sheets::positions(s, 2 * margin + w),
+                "{s:?} {margin}"
+            );
         }
         for whole in [false, true] {
-            tell!(t, "region", sheets::region(Area { whole, s }, w, h), "{s:?} {whole} {w} {h}");
+            tell!(
+                t,
+                "region",
+                sheets::region(Area { whole, s }, w, h),
+                "{s:?} {whole} {w} {h}"
+            );
         }
     }
     for _ in 0..20_000 {
@@ -96,14 +160,42 @@ fn selections(t: &mut Table) {
         let s = any_part(w, h, &mut draw);
         let at = [w, h, w, h].map(|side| draw.coordinate(side));
         let margin = draw.from(&[0, 1, 2, 17, 1023, 1024, 65_535, 65_536, 65_537, usize::MAX]);
-        let (x, y) = (draw.below(70_000), draw.from(&[0, 1, 1024, 65_535, 65_536, 131_070, usize::MAX]));
+        let (x, y) = (
+            draw.below(70_000),
+            draw.from(&[0, 1, 1024, 65_535, 65_536, 131_070, usize::MAX]),
+        );
         let whole = draw.once_in(4);
-        tell!(t, "from_corners", sheets::from_corners(at, w, h), "{at:?} {w} {h}");
-        tell!(t, "translated", sheets::translated(s, at[0], at[1], w, h), "{s:?} {at:?} {w} {h}");
-        tell!(t, "grown", sheets::grown(s, margin, w, h), "{s:?} {margin} {w} {h}");
+        tell!(
+            t,
+            "from_corners",
+            sheets::from_corners(at, w, h),
+            "{at:?} {w} {h}"
+        );
+        tell!(
+            t,
+            "translated",
+            sheets::translated(s, at[0], at[1], w, h),
+            "{s:?} {at:?} {w} {h}"
+        );
+        tell!(
+            t,
+            "grown",
+            sheets::grown(s, margin, w, h),
+            "{s:?} {margin} {w} {h}"
+        );
         tell!(t, "contains", sheets::contains(s, x, y), "{s:?} {x} {y}");
-        tell!(t, "contains_i", sheets::contains_i(s, at[0], at[1]), "{s:?} {at:?}");
-        tell!(t, "region", sheets::region(Area { whole, s }, w, h), "{s:?} {whole} {w} {h}");
+        tell!(
+            t,
+            "contains_i",
+            sheets::contains_i(s, at[0], at[1]),
+            "{s:?} {at:?}"
+        );
+        tell!(
+            t,
+            "region",
+            sheets::region(Area { whole, s }, w, h),
+            "{s:?} {whole} {w} {h}"
+        );
         if draw.once_in(2) {
             let s = [s[0], s[1], s[2] % 40, s[3] % 40];
             let places = 2 * usize::from(s[2]) * usize::from(s[3]);
@@ -111,7 +203,11 @@ fn selections(t: &mut Table) {
             tell!(t, "positions", sheets::positions(s, room), "{s:?} {room}");
         }
     }
-    let far = [[65_535, 65_535, 3, 2], [65_535, 0, 65_535, 65_535], [0, 0, 1024, 1024]];
+    let far = [
+        [65_535, 65_535, 3, 2],
+        [65_535, 0, 65_535, 65_535],
+        [0, 0, 1024, 1024],
+    ];
     for s in far {
         tell!(t, "positions", sheets::positions(s, 2_097_152), "{s:?}");
     }
@@ -122,7 +218,13 @@ pub fn any_list(n: usize, draw: &mut Draw) -> Vec<u64> {
     let side = draw.from(&[1, 2, 3, 300]);
     let values: [i64; 6] = [-1, 0, 1, 2, -32_768, 32_767];
     let change = |draw: &mut Draw| {
-        let place = |draw: &mut Draw| if draw.once_in(40) { 65_535 } else { draw.below(side) };
+        let place = |draw: &mut Draw| {
+            if draw.once_in(40) {
+                65_535
+            } else {
+                draw.below(side)
+            }
+        };
         pixelforge::editor::PixelChange {
             x: place(draw),
             y: place(draw),
@@ -136,7 +238,11 @@ pub fn any_list(n: usize, draw: &mut Draw) -> Vec<u64> {
 pub fn any_edit(k: usize, draw: &mut Draw) -> Flat {
     let mut bytes = draw.next().to_le_bytes();
     bytes[0] = 1 + draw.below(4) as u8;
-    let index = if draw.once_in(20) { draw.from(&[255, 256, usize::MAX]) } else { draw.below(k + 2) };
+    let index = if draw.once_in(20) {
+        draw.from(&[255, 256, usize::MAX])
+    } else {
+        draw.below(k + 2)
+    };
     let lab = [draw.number(), draw.number(), draw.number()];
     Flat { bytes, index, lab }
 }
@@ -160,15 +266,34 @@ fn lists(t: &mut Table) {
         tell!(t, "bresenham", sheets::bresenham(at, out), "{at:?} {out}");
     }
     for i in 0..20_000 {
-        let n = if i % 100 == 0 { draw.below(3000) } else { draw.below(12) };
+        let n = if i % 100 == 0 {
+            draw.below(3000)
+        } else {
+            draw.below(12)
+        };
         let list = any_list(n, &mut draw);
         let normal = normalize(changes_of(&list)).len();
         let (scratch, out) = (draw.room(n), draw.room(normal));
         let tool = draw.next() as u8;
-        tell!(t, "normalize", sheets::normalize(&list, scratch, out), "{list:x?} {scratch} {out}");
-        tell!(t, "pixels", sheets::pixels(tool, &list, scratch, out), "{list:x?} {scratch} {out}");
+        tell!(
+            t,
+            "normalize",
+            sheets::normalize(&list, scratch, out),
+            "{list:x?} {scratch} {out}"
+        );
+        tell!(
+            t,
+            "pixels",
+            sheets::pixels(tool, &list, scratch, out),
+            "{list:x?} {scratch} {out}"
+        );
         let e = any_edit(3, &mut draw);
-        tell!(t, "is_empty", sheets::is_empty(&e, &list[..n.min(draw.below(2))]), "{e:?}");
+        tell!(
+            t,
+            "is_empty",
+            sheets::is_empty(&e, &list[..n.min(draw.below(2))]),
+            "{e:?}"
+        );
         tell!(t, "kind", sheets::kind(&e), "{e:?}");
         // a stroke whose front is in normal form, and an event
         let front = list_of(&normalize(changes_of(&list)));
@@ -176,10 +301,19 @@ fn lists(t: &mut Table) {
         let event = any_list(more, &mut draw);
         let mut buffer = front.clone();
         buffer.resize(front.len() + draw.room(event.len()), WORD);
-        let count = if draw.once_in(20) { buffer.len() + draw.below(3) } else { front.len() };
+        let count = if draw.once_in(20) {
+            buffer.len() + draw.below(3)
+        } else {
+            front.len()
+        };
         let scratch = draw.room(count + event.len());
         if count == front.len() || count > buffer.len() {
-            tell!(t, "extend", sheets::extend(&buffer, count, &event, scratch), "{buffer:x?} {count} {event:x?} {scratch}");
+            tell!(
+                t,
+                "extend",
+                sheets::extend(&buffer, count, &event, scratch),
+                "{buffer:x?} {count} {event:x?} {scratch}"
+            );
         }
         tell!(t, "Stroke", sheets::stroke(tool, &list), "{tool} {list:x?}");
     }
@@ -192,8 +326,18 @@ fn lists(t: &mut Table) {
             };
             let list: Vec<u64> = (0..=n).map(change).collect();
             for out in 0..3 {
-                tell!(t, "normalize", sheets::normalize(&list, 3, out), "{list:x?} {out}");
-                tell!(t, "pixels", sheets::pixels(9, &list, 3, out), "{list:x?} {out}");
+                tell!(
+                    t,
+                    "normalize",
+                    sheets::normalize(&list, 3, out),
+                    "{list:x?} {out}"
+                );
+                tell!(
+                    t,
+                    "pixels",
+                    sheets::pixels(9, &list, 3, out),
+                    "{list:x?} {out}"
+                );
             }
         }
     }
@@ -206,7 +350,10 @@ fn areas() -> Vec<Area> {
         s: [n / 27 % 3, n / 9 % 3, n / 3 % 3, n % 3],
     };
     let mut areas: Vec<Area> = (0..81).map(part).collect();
-    areas.push(Area { whole: true, s: [0; 4] });
+    areas.push(Area {
+        whole: true,
+        s: [0; 4],
+    });
     areas
 }
 
@@ -217,43 +364,119 @@ fn tiny_sheets(t: &mut Table) {
         let n = c.sheet.w * c.sheet.h;
         looks(t, c, &mut draw);
         for (x, y) in (0..25).map(|i| (i / 5 - 1, i % 5 - 1)) {
-            tell!(t, "get_at", sheets::get_at(c, x, y), "{} {x} {y}", c.sheet.about());
-            tell!(t, "eyedropper", drawn::eyedropper(c, x, y), "{} {x} {y}", c.sheet.about());
+            tell!(
+                t,
+                "get_at",
+                sheets::get_at(c, x, y),
+                "{} {x} {y}",
+                c.sheet.about()
+            );
+            tell!(
+                t,
+                "eyedropper",
+                drawn::eyedropper(c, x, y),
+                "{} {x} {y}",
+                c.sheet.about()
+            );
         }
         for out in 0..4 {
-            tell!(t, "counts", sheets::counts(c, out), "{} {out}", c.sheet.about());
+            tell!(
+                t,
+                "counts",
+                sheets::counts(c, out),
+                "{} {out}",
+                c.sheet.about()
+            );
         }
         // all the sheet, every point and index
-        let whole = Area { whole: true, s: [0; 4] };
+        let whole = Area {
+            whole: true,
+            s: [0; 4],
+        };
         for (x, y) in (0..16).map(|i| (i / 4 - 1, i % 4 - 1)) {
             for index in -1..2 {
                 for size in 0..4 {
-                    tell!(t, "pencil", drawn::pencil(c, whole, &[x, y], size, index, n, n), "{} {x} {y} {size} {index}", c.sheet.about());
+                    tell!(
+                        t,
+                        "pencil",
+                        drawn::pencil(c, whole, &[x, y], size, index, n, n),
+                        "{} {x} {y} {size} {index}",
+                        c.sheet.about()
+                    );
                 }
-                tell!(t, "flood_fill", drawn::flood_fill(c, whole, x, y, index, n, n), "{} {x} {y} {index}", c.sheet.about());
-                tell!(t, "fill_global", drawn::fill_global(c, whole, x, y, index, n), "{} {x} {y} {index}", c.sheet.about());
+                tell!(
+                    t,
+                    "flood_fill",
+                    drawn::flood_fill(c, whole, x, y, index, n, n),
+                    "{} {x} {y} {index}",
+                    c.sheet.about()
+                );
+                tell!(
+                    t,
+                    "fill_global",
+                    drawn::fill_global(c, whole, x, y, index, n),
+                    "{} {x} {y} {index}",
+                    c.sheet.about()
+                );
             }
             for size in 0..4 {
-                tell!(t, "eraser", drawn::eraser(c, whole, &[x, y, y, x], size, n, n), "{} {x} {y} {size}", c.sheet.about());
+                tell!(
+                    t,
+                    "eraser",
+                    drawn::eraser(c, whole, &[x, y, y, x], size, n, n),
+                    "{} {x} {y} {size}",
+                    c.sheet.about()
+                );
             }
             for (bx, by) in (0..16).map(|i| (i / 4 - 1, i % 4 - 1)) {
                 let at = [x, y, bx, by];
-                let (size, index, filled) = (draw.below(4), draw.below(3) as i16 - 1, draw.once_in(2));
-                tell!(t, "line", drawn::line(c, whole, at, size, index, n, n), "{} {at:?} {size} {index}", c.sheet.about());
-                tell!(t, "rectangle", drawn::rectangle(c, whole, at, filled, index, n, n), "{} {at:?} {filled} {index}", c.sheet.about());
+                let (size, index, filled) =
+                    (draw.below(4), draw.below(3) as i16 - 1, draw.once_in(2));
+                tell!(
+                    t,
+                    "line",
+                    drawn::line(c, whole, at, size, index, n, n),
+                    "{} {at:?} {size} {index}",
+                    c.sheet.about()
+                );
+                tell!(
+                    t,
+                    "rectangle",
+                    drawn::rectangle(c, whole, at, filled, index, n, n),
+                    "{} {at:?} {filled} {index}",
+                    c.sheet.about()
+                );
             }
         }
         // every selection
         for a in areas() {
             with_area(t, c, a, &mut draw);
             for (dx, dy) in (0..9).map(|i| (i / 3 - 1, i % 3 - 1)) {
-                tell!(t, "move_selection", drawn::move_selection(c, a.s, dx, dy, n, n), "{} {a:?} {dx} {dy}", c.sheet.about());
+                tell!(
+                    t,
+                    "move_selection",
+                    drawn::move_selection(c, a.s, dx, dy, n, n),
+                    "{} {a:?} {dx} {dy}",
+                    c.sheet.about()
+                );
             }
             for (from, to) in (0..9).map(|i| (i / 3 - 1, i % 3 - 1)) {
-                tell!(t, "replace_color", drawn::replace_color(c, a, from, to, n), "{} {a:?} {from} {to}", c.sheet.about());
+                tell!(
+                    t,
+                    "replace_color",
+                    drawn::replace_color(c, a, from, to, n),
+                    "{} {a:?} {from} {to}",
+                    c.sheet.about()
+                );
             }
             for out in [n, n.saturating_sub(1), n + 2] {
-                tell!(t, "copy", drawn::copy(c, a, out), "{} {a:?} {out}", c.sheet.about());
+                tell!(
+                    t,
+                    "copy",
+                    drawn::copy(c, a, out),
+                    "{} {a:?} {out}",
+                    c.sheet.about()
+                );
             }
         }
         // every clip of up to 2 x 1 with indices -1 and 0
@@ -261,22 +484,56 @@ fn tiny_sheets(t: &mut Table) {
             for m in 0..8 {
                 let clip = [(m & 1) as i16 - 1, (m >> 1 & 1) as i16 - 1];
                 let w = 1 + (m >> 2);
-                tell!(t, "paste", drawn::paste(c, w, 1, &clip[..w], x, y, n, n), "{} {clip:?} {x} {y}", c.sheet.about());
+                tell!(
+                    t,
+                    "paste",
+                    drawn::paste(c, w, 1, &clip[..w], x, y, n, n),
+                    "{} {clip:?} {x} {y}",
+                    c.sheet.about()
+                );
             }
         }
         for (a, b) in (0..16).map(|i| (i / 4, i % 4)) {
-            tell!(t, "merge_entries", sheets::merge_entries(c, a, b, n), "{} {a} {b}", c.sheet.about());
-            tell!(t, "remove_entry", sheets::remove_entry(c, a, b), "{} {a} {b}", c.sheet.about());
-            tell!(t, "nearest_other", sheets::nearest_other(c, a), "{} {a}", c.sheet.about());
+            tell!(
+                t,
+                "merge_entries",
+                sheets::merge_entries(c, a, b, n),
+                "{} {a} {b}",
+                c.sheet.about()
+            );
+            tell!(
+                t,
+                "remove_entry",
+                sheets::remove_entry(c, a, b),
+                "{} {a} {b}",
+                c.sheet.about()
+            );
+            tell!(
+                t,
+                "nearest_other",
+                sheets::nearest_other(c, a),
+                "{} {a}",
+                c.sheet.about()
+            );
         }
         for _ in 0..20 {
             others(t, c, &mut draw);
         }
     }
     for c in cases.iter().filter(|c| c.sheet.w * c.sheet.h > 0) {
-        for d in cases.iter().filter(|d| d.sheet.w == c.sheet.w && d.sheet.h == c.sheet.h) {
+        for d in cases
+            .iter()
+            .filter(|d| d.sheet.w == c.sheet.w && d.sheet.h == c.sheet.h)
+        {
             let out = c.sheet.indices.len();
-            tell!(t, "diff_mask", sheets::diff_mask(c, &d.sheet, out), "{} over {}", c.sheet.about(), d.sheet.about());
+            tell!(
+                t,
+                "diff_mask",
+                sheets::diff_mask(c, &d.sheet, out),
+                "{} over {}",
+                c.sheet.about(),
+                d.sheet.about()
+            );
         }
     }
     for c in tiny_stray().into_iter().map(Case::new) {
@@ -289,7 +546,11 @@ fn tiny_sheets(t: &mut Table) {
 
 /// That the calls of a group leave the sheet that is lent to be read.
 fn kept(before: &Sheet, after: &Sheet) {
-    assert!(std::hint::black_box(before).same(std::hint::black_box(after)), "written to: {}", after.about());
+    assert!(
+        std::hint::black_box(before).same(std::hint::black_box(after)),
+        "written to: {}",
+        after.about()
+    );
 }
 
 /// The calls that take a sheet alone.
@@ -326,53 +587,135 @@ fn with_area(t: &mut Table, c: &Case, a: Area, draw: &mut Draw) {
     let count = 2 * draw.below(5) + usize::from(draw.once_in(30));
     let near = draw.once_in(2);
     let points: Vec<i32> = (0..count)
-        .map(|i| if near { draw.within(-1, 4) as i32 } else { draw.coordinate(if i % 2 == 0 { s.w } else { s.h }) })
+        .map(|i| {
+            if near {
+                draw.within(-1, 4) as i32
+            } else {
+                draw.coordinate(if i % 2 == 0 { s.w } else { s.h })
+            }
+        })
         .collect();
     // room for what is changed in a first run with much room, or beside it
     let room = |draw: &mut Draw, pair: &drawn::Pair| {
         let count = pair[0][1] as usize;
-        if pair[0][0] == 0 { draw.room(count) } else { draw.below(4) }
+        if pair[0][0] == 0 {
+            draw.room(count)
+        } else {
+            draw.below(4)
+        }
     };
     let scratch = draw.room(n);
 
     let pair = drawn::pencil(c, a, &points, size, index, n, n);
     let out = room(draw, &pair);
-    tell!(t, "pencil", pair, "{} {a:?} {points:?} {size} {index}", about(s));
-    tell!(t, "pencil", drawn::pencil(c, a, &points, size, index, scratch, out), "{} {a:?} {points:?} {size} {index} {scratch} {out}", about(s));
+    tell!(
+        t,
+        "pencil",
+        pair,
+        "{} {a:?} {points:?} {size} {index}",
+        about(s)
+    );
+    tell!(
+        t,
+        "pencil",
+        drawn::pencil(c, a, &points, size, index, scratch, out),
+        "{} {a:?} {points:?} {size} {index} {scratch} {out}",
+        about(s)
+    );
     let pair = drawn::eraser(c, a, &points, size, n, n);
     let out = room(draw, &pair);
     tell!(t, "eraser", pair, "{} {a:?} {points:?} {size}", about(s));
-    tell!(t, "eraser", drawn::eraser(c, a, &points, size, scratch, out), "{} {a:?} {points:?} {size} {scratch} {out}", about(s));
+    tell!(
+        t,
+        "eraser",
+        drawn::eraser(c, a, &points, size, scratch, out),
+        "{} {a:?} {points:?} {size} {scratch} {out}",
+        about(s)
+    );
     let pair = drawn::line(c, a, at, size, index, n, n);
     let out = room(draw, &pair);
     tell!(t, "line", pair, "{} {a:?} {at:?} {size} {index}", about(s));
-    tell!(t, "line", drawn::line(c, a, at, size, index, scratch, out), "{} {a:?} {at:?} {size} {index} {scratch} {out}", about(s));
+    tell!(
+        t,
+        "line",
+        drawn::line(c, a, at, size, index, scratch, out),
+        "{} {a:?} {at:?} {size} {index} {scratch} {out}",
+        about(s)
+    );
     let filled = draw.once_in(2);
     let pair = drawn::rectangle(c, a, at, filled, index, n, n);
     let out = room(draw, &pair);
-    tell!(t, "rectangle", pair, "{} {a:?} {at:?} {filled} {index}", about(s));
-    tell!(t, "rectangle", drawn::rectangle(c, a, at, filled, index, scratch, out), "{} {a:?} {at:?} {filled} {index} {scratch} {out}", about(s));
+    tell!(
+        t,
+        "rectangle",
+        pair,
+        "{} {a:?} {at:?} {filled} {index}",
+        about(s)
+    );
+    tell!(
+        t,
+        "rectangle",
+        drawn::rectangle(c, a, at, filled, index, scratch, out),
+        "{} {a:?} {at:?} {filled} {index} {scratch} {out}",
+        about(s)
+    );
     let (x, y) = (draw.coordinate(s.w), draw.coordinate(s.h));
     let pair = drawn::flood_fill(c, a, x, y, index, n, n);
     let out = room(draw, &pair);
     tell!(t, "flood_fill", pair, "{} {a:?} {x} {y} {index}", about(s));
-    tell!(t, "flood_fill", drawn::flood_fill(c, a, x, y, index, scratch, out), "{} {a:?} {x} {y} {index} {scratch} {out}", about(s));
+    tell!(
+        t,
+        "flood_fill",
+        drawn::flood_fill(c, a, x, y, index, scratch, out),
+        "{} {a:?} {x} {y} {index} {scratch} {out}",
+        about(s)
+    );
     let pair = drawn::fill_global(c, a, x, y, index, n);
     let out = room(draw, &pair);
     tell!(t, "fill_global", pair, "{} {a:?} {x} {y} {index}", about(s));
-    tell!(t, "fill_global", drawn::fill_global(c, a, x, y, index, out), "{} {a:?} {x} {y} {index} {out}", about(s));
+    tell!(
+        t,
+        "fill_global",
+        drawn::fill_global(c, a, x, y, index, out),
+        "{} {a:?} {x} {y} {index} {out}",
+        about(s)
+    );
     let from = any_index(s.k, draw);
     let pair = drawn::replace_color(c, a, from, index, n);
     let out = room(draw, &pair);
-    tell!(t, "replace_color", pair, "{} {a:?} {from} {index}", about(s));
-    tell!(t, "replace_color", drawn::replace_color(c, a, from, index, out), "{} {a:?} {from} {index} {out}", about(s));
+    tell!(
+        t,
+        "replace_color",
+        pair,
+        "{} {a:?} {from} {index}",
+        about(s)
+    );
+    tell!(
+        t,
+        "replace_color",
+        drawn::replace_color(c, a, from, index, out),
+        "{} {a:?} {from} {index} {out}",
+        about(s)
+    );
     let out = draw.room(usize::from(a.s[2] % 2000) * usize::from(a.s[3] % 2000));
-    tell!(t, "copy", drawn::copy(c, a, out), "{} {a:?} {out}", about(s));
+    tell!(
+        t,
+        "copy",
+        drawn::copy(c, a, out),
+        "{} {a:?} {out}",
+        about(s)
+    );
     let (dx, dy) = (draw.coordinate(2), draw.coordinate(2));
     let pair = drawn::move_selection(c, a.s, dx, dy, n, n);
     let out = room(draw, &pair);
     tell!(t, "move_selection", pair, "{} {a:?} {dx} {dy}", about(s));
-    tell!(t, "move_selection", drawn::move_selection(c, a.s, dx, dy, scratch, out), "{} {a:?} {dx} {dy} {scratch} {out}", about(s));
+    tell!(
+        t,
+        "move_selection",
+        drawn::move_selection(c, a.s, dx, dy, scratch, out),
+        "{} {a:?} {dx} {dy} {scratch} {out}",
+        about(s)
+    );
     kept(&before, s);
 }
 
@@ -390,7 +733,10 @@ fn any_permitted(s: &Sheet, draw: &mut Draw) -> Permitted {
     if draw.once_in(25) {
         list.push(0);
     }
-    Permitted { limited: !draw.once_in(4), list }
+    Permitted {
+        limited: !draw.once_in(4),
+        list,
+    }
 }
 
 fn any_colour(s: &Sheet, p: &Permitted, draw: &mut Draw) -> [u8; 3] {
@@ -408,25 +754,72 @@ fn others(t: &mut Table, c: &Case, draw: &mut Draw) {
     let before = s.clone();
     let n = s.w * s.h;
     let (x, y) = (draw.coordinate(s.w), draw.coordinate(s.h));
-    tell!(t, "get_at", sheets::get_at(c, x, y), "{} {x} {y}", s.about());
-    tell!(t, "eyedropper", drawn::eyedropper(c, x, y), "{} {x} {y}", s.about());
+    tell!(
+        t,
+        "get_at",
+        sheets::get_at(c, x, y),
+        "{} {x} {y}",
+        s.about()
+    );
+    tell!(
+        t,
+        "eyedropper",
+        drawn::eyedropper(c, x, y),
+        "{} {x} {y}",
+        s.about()
+    );
 
     // clips, some of a wrong length
-    let (cw, ch) = (draw.from(&[0, 1, 2, 3, 5, 8]), draw.from(&[0, 1, 2, 3, 5, 8]));
-    let (cw, ch) = if draw.once_in(40) { (draw.from(&[1023, 1024, 1025]), draw.below(2)) } else { (cw, ch) };
-    let many = if draw.once_in(15) { draw.room(cw * ch) } else { cw * ch };
+    let (cw, ch) = (
+        draw.from(&[0, 1, 2, 3, 5, 8]),
+        draw.from(&[0, 1, 2, 3, 5, 8]),
+    );
+    let (cw, ch) = if draw.once_in(40) {
+        (draw.from(&[1023, 1024, 1025]), draw.below(2))
+    } else {
+        (cw, ch)
+    };
+    let many = if draw.once_in(15) {
+        draw.room(cw * ch)
+    } else {
+        cw * ch
+    };
     let clip: Vec<i16> = (0..many).map(|_| any_index(s.k, draw)).collect();
     let out = draw.room(4 * many);
-    tell!(t, "clip_rgba", drawn::clip_rgba(c, cw, ch, &clip, out), "{} {cw} {ch} {} {out}", s.about(), clip.len());
+    tell!(
+        t,
+        "clip_rgba",
+        drawn::clip_rgba(c, cw, ch, &clip, out),
+        "{} {cw} {ch} {} {out}",
+        s.about(),
+        clip.len()
+    );
     let pair = drawn::paste(c, cw, ch, &clip, x, y, n, n);
-    let out = if pair[0][0] == 0 { draw.room(pair[0][1] as usize) } else { 3 };
+    let out = if pair[0][0] == 0 {
+        draw.room(pair[0][1] as usize)
+    } else {
+        3
+    };
     let scratch = draw.room(n);
     tell!(t, "paste", pair, "{} {cw} {ch} {clip:?} {x} {y}", s.about());
-    tell!(t, "paste", drawn::paste(c, cw, ch, &clip, x, y, scratch, out), "{} {cw} {ch} {clip:?} {x} {y} {scratch} {out}", s.about());
-    let pixels = if draw.once_in(10) { draw.room(cw * ch) } else { cw * ch };
+    tell!(
+        t,
+        "paste",
+        drawn::paste(c, cw, ch, &clip, x, y, scratch, out),
+        "{} {cw} {ch} {clip:?} {x} {y} {scratch} {out}",
+        s.about()
+    );
+    let pixels = if draw.once_in(10) {
+        draw.room(cw * ch)
+    } else {
+        cw * ch
+    };
     let mut rgba: Vec<u8> = Vec::new();
     for _ in 0..pixels {
-        let p = Permitted { limited: true, list: Vec::new() };
+        let p = Permitted {
+            limited: true,
+            list: Vec::new(),
+        };
         rgba.extend(any_colour(s, &p, draw));
         rgba.push(draw.from(&[0, 127, 128, 255]));
     }
@@ -434,38 +827,110 @@ fn others(t: &mut Table, c: &Case, draw: &mut Draw) {
         rgba.pop();
     }
     let out = draw.room(cw.min(s.w) * ch.min(s.h));
-    tell!(t, "snap_rgba", drawn::snap_rgba(c, &rgba, cw, ch, out), "{} {cw} {ch} {} {out}", s.about(), rgba.len());
+    tell!(
+        t,
+        "snap_rgba",
+        drawn::snap_rgba(c, &rgba, cw, ch, out),
+        "{} {cw} {ch} {} {out}",
+        s.about(),
+        rgba.len()
+    );
 
     // a baseline: the sheet with some pixels, another palette, another size, damaged
-    let mut base = if draw.once_in(8) { any(draw) } else { s.clone() };
+    let mut base = if draw.once_in(8) {
+        any(draw)
+    } else {
+        s.clone()
+    };
     if draw.once_in(2) && s.k <= 255 && s.palette.len() == STORAGE {
         let other = good(s.w.min(1024), s.h.min(1024), s.k, draw);
-        base.palette = if draw.once_in(2) { other.palette } else { base.palette };
-        base.indices = if draw.once_in(2) { other.indices } else { base.indices };
+        base.palette = if draw.once_in(2) {
+            other.palette
+        } else {
+            base.palette
+        };
+        base.indices = if draw.once_in(2) {
+            other.indices
+        } else {
+            base.indices
+        };
     }
     if draw.once_in(15) && !base.indices.is_empty() {
         let at = draw.below(base.indices.len());
         base.indices[at] = draw.from(&[-2, base.k as i16, 300]);
     }
     let out = draw.room(n);
-    tell!(t, "diff_mask", sheets::diff_mask(c, &base, out), "{} over {} {out}", s.about(), base.about());
+    tell!(
+        t,
+        "diff_mask",
+        sheets::diff_mask(c, &base, out),
+        "{} over {} {out}",
+        s.about(),
+        base.about()
+    );
 
     let p = any_permitted(s, draw);
     let rgb = any_colour(s, &p, draw);
-    let index = if draw.once_in(12) { draw.from(&[255, 256, usize::MAX]) } else { draw.below(s.k + 2) };
+    let index = if draw.once_in(12) {
+        draw.from(&[255, 256, usize::MAX])
+    } else {
+        draw.below(s.k + 2)
+    };
     let out = draw.room(p.list.len() / 3);
-    tell!(t, "fixed_choices", sheets::fixed_choices(c, &p, out), "{} {} {out}", s.about(), p.list.len());
-    tell!(t, "set_color", sheets::set_color(c, &p, index, rgb), "{} {p:?} {index} {rgb:?}", s.about());
-    tell!(t, "add_color", sheets::add_color(c, &p, rgb), "{} {p:?} {rgb:?}", s.about());
+    tell!(
+        t,
+        "fixed_choices",
+        sheets::fixed_choices(c, &p, out),
+        "{} {} {out}",
+        s.about(),
+        p.list.len()
+    );
+    tell!(
+        t,
+        "set_color",
+        sheets::set_color(c, &p, index, rgb),
+        "{} {p:?} {index} {rgb:?}",
+        s.about()
+    );
+    tell!(
+        t,
+        "add_color",
+        sheets::add_color(c, &p, rgb),
+        "{} {p:?} {rgb:?}",
+        s.about()
+    );
     if c.no == 0 {
-        tell!(t, "check_color", sheets::check_color(&p, rgb, c), "{p:?} {rgb:?}");
+        tell!(
+            t,
+            "check_color",
+            sheets::check_color(&p, rgb, c),
+            "{p:?} {rgb:?}"
+        );
     }
-    tell!(t, "nearest_other", sheets::nearest_other(c, index), "{} {index}", s.about());
+    tell!(
+        t,
+        "nearest_other",
+        sheets::nearest_other(c, index),
+        "{} {index}",
+        s.about()
+    );
     let of = s.indices.iter().filter(|&&i| i as usize == index).count();
     let out = draw.room(of);
-    tell!(t, "remove_entry", sheets::remove_entry(c, index, out), "{} {index} {out}", s.about());
+    tell!(
+        t,
+        "remove_entry",
+        sheets::remove_entry(c, index, out),
+        "{} {index} {out}",
+        s.about()
+    );
     let into = draw.below(s.k + 2);
-    tell!(t, "merge_entries", sheets::merge_entries(c, index, into, out), "{} {index} {into} {out}", s.about());
+    tell!(
+        t,
+        "merge_entries",
+        sheets::merge_entries(c, index, into, out),
+        "{} {index} {into} {out}",
+        s.about()
+    );
     kept(&before, s);
 }
 
@@ -483,7 +948,13 @@ fn some_sheets(t: &mut Table) {
 /// Sheets with both sides at the limit, or past it.
 fn large_sheets(t: &mut Table) {
     let mut draw = Draw::new(7);
-    let sizes = [(1024, 1024), (1023, 1024), (1024, 1025), (1025, 1024), (1024, 1023)];
+    let sizes = [
+        (1024, 1024),
+        (1023, 1024),
+        (1024, 1025),
+        (1025, 1024),
+        (1024, 1023),
+    ];
     for (i, (w, h)) in sizes.into_iter().enumerate() {
         let k = [255, 254, 3, 256, 1][i];
         let c = Case::new(good(w, h, k, &mut draw));
@@ -495,8 +966,25 @@ fn large_sheets(t: &mut Table) {
         }
         let whole = [0, 0, w.min(1024) as u16, h.min(1024) as u16];
         let n = w * h;
-        tell!(t, "move_selection", drawn::move_selection(&c, whole, 1, 0, n, n), "{w} {h}");
-        tell!(t, "copy", drawn::copy(&c, Area { whole: true, s: [0; 4] }, n), "{w} {h}");
+        tell!(
+            t,
+            "move_selection",
+            drawn::move_selection(&c, whole, 1, 0, n, n),
+            "{w} {h}"
+        );
+        tell!(
+            t,
+            "copy",
+            drawn::copy(
+                &c,
+                Area {
+                    whole: true,
+                    s: [0; 4]
+                },
+                n
+            ),
+            "{w} {h}"
+        );
     }
 }
 
@@ -504,20 +992,53 @@ fn large_sheets(t: &mut Table) {
 fn long_lists(t: &mut Table) {
     let mut draw = Draw::new(8);
     let c = Case::new(good(9, 7, 3, &mut draw));
-    let all = Area { whole: true, s: [0; 4] };
+    let all = Area {
+        whole: true,
+        s: [0; 4],
+    };
     for n in [MAX_CHANGES, MAX_CHANGES + 1] {
         let points: Vec<i32> = (0..2 * n).map(|_| draw.within(-2, 9) as i32).collect();
-        tell!(t, "pencil", drawn::pencil(&c, all, &points, 1, 1, 63, 63), "{n} points");
-        tell!(t, "eraser", drawn::eraser(&c, all, &points, 2, 63, 63), "{n} points");
+        tell!(
+            t,
+            "pencil",
+            drawn::pencil(&c, all, &points, 1, 1, 63, 63),
+            "{n} points"
+        );
+        tell!(
+            t,
+            "eraser",
+            drawn::eraser(&c, all, &points, 2, 63, 63),
+            "{n} points"
+        );
         let list = any_list(n, &mut draw);
-        tell!(t, "normalize", sheets::normalize(&list, n, n), "{n} changes");
+        tell!(
+            t,
+            "normalize",
+            sheets::normalize(&list, n, n),
+            "{n} changes"
+        );
         tell!(t, "pixels", sheets::pixels(7, &list, n, n), "{n} changes");
         let front = list_of(&normalize(changes_of(&list[..1000])));
         let mut buffer = front.clone();
         buffer.resize(n, WORD);
-        tell!(t, "extend", sheets::extend(&buffer, front.len(), &list, n + front.len()), "{n} changes");
-        tell!(t, "extend", sheets::extend(&buffer, n, &[], 0), "a stroke of {n}");
+        tell!(
+            t,
+            "extend",
+            sheets::extend(&buffer, front.len(), &list, n + front.len()),
+            "{n} changes"
+        );
+        tell!(
+            t,
+            "extend",
+            sheets::extend(&buffer, n, &[], 0),
+            "a stroke of {n}"
+        );
     }
     let far = [-65_537, 0];
-    tell!(t, "pencil", drawn::pencil(&c, all, &vec![far[0]; 2 * MAX_CHANGES + 2], 1, 1, 63, 63), "21 before 15");
+    tell!(
+        t,
+        "pencil",
+        drawn::pencil(&c, all, &vec![far[0]; 2 * MAX_CHANGES + 2], 1, 1, 63, 63),
+        "21 before 15"
+    );
 }

@@ -22,7 +22,10 @@ pub const DOUBLES: [f64; 3] = [REAL; 3];
 
 /// The first number whose test applies, or 0.
 pub fn first(checks: &[(u8, bool)]) -> u8 {
-    checks.iter().find(|(_, applies)| *applies).map_or(0, |(no, _)| *no)
+    checks
+        .iter()
+        .find(|(_, applies)| *applies)
+        .map_or(0, |(no, _)| *no)
 }
 
 #[derive(Clone)]
@@ -48,7 +51,9 @@ impl Sheet {
 
     /// Number 2.
     pub fn is_stray(&self) -> bool {
-        self.indices.iter().any(|&i| i < -1 || i64::from(i) >= self.k as i64)
+        self.indices
+            .iter()
+            .any(|&i| i < -1 || i64::from(i) >= self.k as i64)
     }
 
     /// Number 3.
@@ -87,7 +92,11 @@ impl Sheet {
     pub fn same(&self, other: &Sheet) -> bool {
         self.palette == other.palette
             && self.indices == other.indices
-            && self.lab.iter().map(|x| x.to_bits()).eq(other.lab.iter().map(|x| x.to_bits()))
+            && self
+                .lab
+                .iter()
+                .map(|x| x.to_bits())
+                .eq(other.lab.iter().map(|x| x.to_bits()))
     }
 
     /// All that is lent, as words.
@@ -100,7 +109,10 @@ impl Sheet {
     pub fn about(&self) -> String {
         let few: Vec<i16> = self.indices.iter().copied().take(16).collect();
         let lens = (self.palette.len(), self.lab.len(), self.indices.len());
-        format!("{} x {}, k {}, lengths {lens:?}, indices {few:?}", self.w, self.h, self.k)
+        format!(
+            "{} x {}, k {}, lengths {lens:?}, indices {few:?}",
+            self.w, self.h, self.k
+        )
     }
 }
 
@@ -126,7 +138,12 @@ impl Case {
         let no = sheet.number(false);
         // inside the domain 2 is the Rust's own refusal
         let doc = if no == 1 { None } else { sheet.document(None) };
-        assert_eq!(doc.is_none(), no == 1 || no == 2, "the Rust's with_lab: {}", sheet.about());
+        assert_eq!(
+            doc.is_none(),
+            no == 1 || no == 2,
+            "the Rust's with_lab: {}",
+            sheet.about()
+        );
         Case {
             sheet,
             no,
@@ -374,7 +391,14 @@ fn sheets_of(past: usize) -> Vec<Sheet> {
             let (palette, lab) = storage(k, &mut draw);
             let index = |p: usize| (n / values.pow(p as u32) % values) as i16 - 1 - past as i16;
             let indices = (0..w * h).map(index).collect();
-            sheets.push(Sheet { w, h, k, palette, lab, indices });
+            sheets.push(Sheet {
+                w,
+                h,
+                k,
+                palette,
+                lab,
+                indices,
+            });
         }
     }
     sheets
@@ -384,9 +408,18 @@ fn sheets_of(past: usize) -> Vec<Sheet> {
 pub fn good(w: usize, h: usize, k: usize, draw: &mut Draw) -> Sheet {
     let (palette, lab) = storage(k, draw);
     // few different indices, so that areas of one index are met
-    let some: Vec<i16> = (0..1 + draw.below(4)).map(|_| draw.below(k.min(255) + 1) as i16 - 1).collect();
+    let some: Vec<i16> = (0..1 + draw.below(4))
+        .map(|_| draw.below(k.min(255) + 1) as i16 - 1)
+        .collect();
     let indices = (0..w * h).map(|_| draw.from(&some)).collect();
-    Sheet { w, h, k, palette, lab, indices }
+    Sheet {
+        w,
+        h,
+        k,
+        palette,
+        lab,
+        indices,
+    }
 }
 
 pub fn small(draw: &mut Draw) -> Sheet {
@@ -452,7 +485,10 @@ pub fn any(draw: &mut Draw) -> Sheet {
 
 pub fn any_area(s: &Sheet, draw: &mut Draw) -> Area {
     let whole = draw.once_in(3);
-    Area { whole, s: any_part(s.w, s.h, draw) }
+    Area {
+        whole,
+        s: any_part(s.w, s.h, draw),
+    }
 }
 
 /// A selection, mostly inside and touching the edges.

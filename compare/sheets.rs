@@ -42,8 +42,16 @@ pub fn new_sheet(c: &Case) -> Pair {
 
 pub fn get_at(c: &Case, x: i32, y: i32) -> Pair {
     let s = &c.sheet;
-    let no = if c.no != 0 { c.no } else { first(&[(15, far(x) || far(y))]) };
-    let found = if no == 0 { c.doc().get_at(x.into(), y.into()) } else { None };
+    let no = if c.no != 0 {
+        c.no
+    } else {
+        first(&[(15, far(x) || far(y))])
+    };
+    let found = if no == 0 {
+        c.doc().get_at(x.into(), y.into())
+    } else {
+        None
+    };
     let mut got = [INDEX];
     let told = sheet!(call_get_at, s, x, y, &mut got);
     [looked(no, found), vec![told.into(), got[0] as u16 as u64]]
@@ -79,7 +87,10 @@ pub fn diff_mask(c: &Case, base: &Sheet, out: usize) -> Pair {
         || base.k > 255
         || base.palette.len() != STORAGE
         || base.indices.len() != base.w * base.h;
-    let mut no = first(&[(c.no, c.no != 0), (1, bad || (base.w, base.h) != (s.w, s.h))]);
+    let mut no = first(&[
+        (c.no, c.no != 0),
+        (1, bad || (base.w, base.h) != (s.w, s.h)),
+    ]);
     let mut doc = None;
     if no == 0 {
         // the baseline's 2 is `with_lab`'s refusal of it
@@ -91,9 +102,25 @@ pub fn diff_mask(c: &Case, base: &Sheet, out: usize) -> Pair {
             ..c.doc().clone()
         });
     }
-    let expected = with_bytes(no, out, || doc.unwrap().diff_mask().iter().map(|&d| u8::from(d)).collect());
+    let expected = with_bytes(no, out, || {
+        doc.unwrap()
+            .diff_mask()
+            .iter()
+            .map(|&d| u8::from(d))
+            .collect()
+    });
     let (mut mask, mut r) = (vec![BYTE; out], R);
-    let no = sheet!(call_diff_mask, s, base.w, base.h, base.k, &base.palette, &base.indices, &mut mask, &mut r);
+    let no = sheet!(
+        call_diff_mask,
+        s,
+        base.w,
+        base.h,
+        base.k,
+        &base.palette,
+        &base.indices,
+        &mut mask,
+        &mut r
+    );
     [expected, marked(no, &r, &mask)]
 }
 
@@ -143,7 +170,13 @@ pub fn nearest_index(target: [f64; 3], lab: &[f64], k: usize) -> Pair {
 // selection.rs
 
 fn chosen(no: u8, s: Option<Selection>) -> Vec<u64> {
-    let told = if no != 0 { no } else if s.is_some() { 0 } else { 255 };
+    let told = if no != 0 {
+        no
+    } else if s.is_some() {
+        0
+    } else {
+        255
+    };
     let mut words = vec![told.into()];
     // a part's numbers have 16 bits in ours; that they fit is looked at here
     match s.filter(|_| no == 0) {
@@ -166,13 +199,20 @@ fn wide(w: usize, h: usize) -> bool {
 pub fn all(w: usize, h: usize) -> Pair {
     let mut out = S;
     let no = call_all(w, h, &mut out);
-    [chosen(first(&[(1, wide(w, h))]), Some(Selection::all(w, h))), told_part(no, out)]
+    [
+        chosen(first(&[(1, wide(w, h))]), Some(Selection::all(w, h))),
+        told_part(no, out),
+    ]
 }
 
 pub fn from_corners(at: [i32; 4], w: usize, h: usize) -> Pair {
     let no = first(&[(1, wide(w, h)), (15, at.iter().any(|&z| far(z)))]);
     let [ax, ay, bx, by] = at.map(i64::from);
-    let s = if no == 0 { Selection::from_corners((ax, ay), (bx, by), w, h) } else { None };
+    let s = if no == 0 {
+        Selection::from_corners((ax, ay), (bx, by), w, h)
+    } else {
+        None
+    };
     let mut out = S;
     let told = call_from_corners(at[0], at[1], at[2], at[3], w, h, &mut out);
     [chosen(no, s), told_part(told, out)]
@@ -180,7 +220,10 @@ pub fn from_corners(at: [i32; 4], w: usize, h: usize) -> Pair {
 
 pub fn contains(s: [u16; 4], x: usize, y: usize) -> Pair {
     let expected = selection(s).contains(x, y);
-    [vec![0, expected.into()], vec![0, call_contains(&s, x, y).into()]]
+    [
+        vec![0, expected.into()],
+        vec![0, call_contains(&s, x, y).into()],
+    ]
 }
 
 /// 1 inside, as ours has it; the word after the number tells it apart from a refusal.
@@ -197,16 +240,32 @@ pub fn contains_i(s: [u16; 4], x: i32, y: i32) -> Pair {
 }
 
 pub fn translated(s: [u16; 4], dx: i32, dy: i32, w: usize, h: usize) -> Pair {
-    let no = first(&[(1, wide(w, h)), (15, far(dx) || far(dy)), (5, !inside(s, w, h))]);
-    let moved = if no == 0 { selection(s).translated(dx.into(), dy.into(), w, h) } else { None };
+    let no = first(&[
+        (1, wide(w, h)),
+        (15, far(dx) || far(dy)),
+        (5, !inside(s, w, h)),
+    ]);
+    let moved = if no == 0 {
+        selection(s).translated(dx.into(), dy.into(), w, h)
+    } else {
+        None
+    };
     let mut out = S;
     let told = call_translated(&s, dx, dy, w, h, &mut out);
     [chosen(no, moved), told_part(told, out)]
 }
 
 pub fn grown(s: [u16; 4], margin: usize, w: usize, h: usize) -> Pair {
-    let no = first(&[(1, wide(w, h)), (15, margin > 65_536), (5, !inside(s, w, h))]);
-    let more = if no == 0 { Some(selection(s).grown(margin, w, h)) } else { None };
+    let no = first(&[
+        (1, wide(w, h)),
+        (15, margin > 65_536),
+        (5, !inside(s, w, h)),
+    ]);
+    let more = if no == 0 {
+        Some(selection(s).grown(margin, w, h))
+    } else {
+        None
+    };
     let mut out = S;
     let told = call_grown(&s, margin, w, h, &mut out);
     [chosen(no, more), told_part(told, out)]
@@ -235,7 +294,12 @@ pub fn positions(s: [u16; 4], out: usize) -> Pair {
     let expected = if usize::from(s[2]) * usize::from(s[3]) > out / 2 {
         pointed(16, &R, &vec![HALF; out])
     } else {
-        with_points(0, out, || selection(s).positions().flat_map(|(x, y)| [x as i32, y as i32]).collect())
+        with_points(0, out, || {
+            selection(s)
+                .positions()
+                .flat_map(|(x, y)| [x as i32, y as i32])
+                .collect()
+        })
     };
     let (mut list, mut r) = (vec![HALF; out], R);
     let no = call_positions(&s, &mut list, &mut r);
@@ -246,7 +310,10 @@ pub fn region(a: Area, w: usize, h: usize) -> Pair {
     let no = first(&[(1, wide(w, h)), (5, a.is_off(w, h))]);
     let mut out = S;
     let told = call_region(a.whole, &a.s, w, h, &mut out);
-    [chosen(no, Some(rust_region(a.chosen().as_ref(), w, h))), told_part(told, out)]
+    [
+        chosen(no, Some(rust_region(a.chosen().as_ref(), w, h))),
+        told_part(told, out),
+    ]
 }
 
 // tools.rs and op.rs on lists
@@ -255,7 +322,10 @@ pub fn bresenham(at: [i32; 4], out: usize) -> Pair {
     let [ax, ay, bx, by] = at.map(i64::from);
     let no = first(&[(15, at.iter().any(|&z| far(z)))]);
     let expected = with_points(no, out, || {
-        tools::bresenham((ax, ay), (bx, by)).iter().flat_map(|&(x, y)| [x as i32, y as i32]).collect()
+        tools::bresenham((ax, ay), (bx, by))
+            .iter()
+            .flat_map(|&(x, y)| [x as i32, y as i32])
+            .collect()
     });
     let (mut list, mut r) = (vec![HALF; out], R);
     let no = call_bresenham(at[0], at[1], at[2], at[3], &mut list, &mut r);
@@ -271,8 +341,16 @@ fn listed(no: u8, r: &[usize], out: &[u64]) -> Vec<u64> {
 
 pub fn normalize(list: &[u64], scratch: usize, out: usize) -> Pair {
     let no = first(&[(21, list.len() > MAX_CHANGES), (16, scratch < list.len())]);
-    let normal = if no == 0 { list_of(&rust_normalize(changes_of(list))) } else { Vec::new() };
-    let no = if no == 0 && normal.len() > out { 16 } else { no };
+    let normal = if no == 0 {
+        list_of(&rust_normalize(changes_of(list)))
+    } else {
+        Vec::new()
+    };
+    let no = if no == 0 && normal.len() > out {
+        16
+    } else {
+        no
+    };
     let expected = if no == 0 {
         listed(0, &numbers(&[normal.len()]), &over(&normal, out, WORD))
     } else {
@@ -309,21 +387,30 @@ fn with_edit(no: u8, out: usize, counted: bool, op: impl FnOnce() -> Op) -> Vec<
 
 pub fn pixels(tool: u8, list: &[u64], scratch: usize, out: usize) -> Pair {
     let no = first(&[(21, list.len() > MAX_CHANGES), (16, scratch < list.len())]);
-    let expected = with_edit(no, out, true, || Op::pixels(&tool.to_string(), changes_of(list)));
-    let (mut room, mut to, mut b, mut f, mut r) = (vec![WORD; scratch], vec![WORD; out], BYTES, DOUBLES, R);
+    let expected = with_edit(no, out, true, || {
+        Op::pixels(&tool.to_string(), changes_of(list))
+    });
+    let (mut room, mut to, mut b, mut f, mut r) =
+        (vec![WORD; scratch], vec![WORD; out], BYTES, DOUBLES, R);
     let no = call_pixels(tool, list, &mut room, &mut to, &mut b, &mut f, &mut r);
     [expected, made(no, b, f, r, &to)]
 }
 
 pub fn is_empty(e: &Flat, list: &[u64]) -> Pair {
     let expected = e.op(list).is_empty();
-    [vec![0, expected.into()], vec![0, call_is_empty(&e.bytes, e.index, &e.lab, list).into()]]
+    [
+        vec![0, expected.into()],
+        vec![0, call_is_empty(&e.bytes, e.index, &e.lab, list).into()],
+    ]
 }
 
 pub fn kind(e: &Flat) -> Pair {
     let names = ["pixels", "palette_set", "palette_add", "palette_remove"];
     let expected = names.iter().position(|n| *n == e.op(&[]).kind()).unwrap() as u64 + 1;
-    [vec![0, expected], vec![0, call_kind(&e.bytes, e.index, &e.lab).into()]]
+    [
+        vec![0, expected],
+        vec![0, call_kind(&e.bytes, e.index, &e.lab).into()],
+    ]
 }
 
 /// A stroke that stands in the first `count` places of a buffer. The Rust's stroke is brought there by extending a new
@@ -400,10 +487,16 @@ pub fn check_color(p: &Permitted, rgb: [u8; 3], c: &Case) -> Pair {
     let no = if p.is_bad() {
         1
     } else {
-        let doc = Document { fixed: p.fixed(), ..c.doc().clone() };
+        let doc = Document {
+            fixed: p.fixed(),
+            ..c.doc().clone()
+        };
         doc.check_color(rgb).err().map_or(0, |e| refusal(&e.0))
     };
-    [vec![no.into()], vec![call_check_color(p.limited, &p.list, &rgb).into()]]
+    [
+        vec![no.into()],
+        vec![call_check_color(p.limited, &p.list, &rgb).into()],
+    ]
 }
 
 pub fn fixed_choices(c: &Case, p: &Permitted, out: usize) -> Pair {
@@ -424,7 +517,11 @@ pub fn fixed_choices(c: &Case, p: &Permitted, out: usize) -> Pair {
 }
 
 /// An edit of the Rust's, or its refusal.
-fn op_or_number(no: u8, op: impl FnOnce() -> Result<Op, EditError>, refused: impl FnOnce(&EditError) -> u8) -> (u8, Option<Op>) {
+fn op_or_number(
+    no: u8,
+    op: impl FnOnce() -> Result<Op, EditError>,
+    refused: impl FnOnce(&EditError) -> u8,
+) -> (u8, Option<Op>) {
     if no != 0 {
         return (no, None);
     }
@@ -437,26 +534,57 @@ fn op_or_number(no: u8, op: impl FnOnce() -> Result<Op, EditError>, refused: imp
 pub fn set_color(c: &Case, p: &Permitted, index: usize, rgb: [u8; 3]) -> Pair {
     let s = &c.sheet;
     let (no, doc) = with_permitted(c, p);
-    let (no, op) = op_or_number(no, || rust_palette::set_color(doc.as_ref().unwrap(), index, rgb), |e| refusal(&e.0));
+    let (no, op) = op_or_number(
+        no,
+        || rust_palette::set_color(doc.as_ref().unwrap(), index, rgb),
+        |e| refusal(&e.0),
+    );
     let expected = with_edit(no, 0, false, || op.unwrap());
     let (mut b, mut f, mut r) = (BYTES, DOUBLES, R);
-    let no = sheet!(call_set_color, s, p.limited, &p.list, index, &rgb, &mut b, &mut f, &mut r);
+    let no = sheet!(
+        call_set_color,
+        s,
+        p.limited,
+        &p.list,
+        index,
+        &rgb,
+        &mut b,
+        &mut f,
+        &mut r
+    );
     [expected, made(no, b, f, r, &[])]
 }
 
 pub fn add_color(c: &Case, p: &Permitted, rgb: [u8; 3]) -> Pair {
     let s = &c.sheet;
     let (no, doc) = with_permitted(c, p);
-    let (no, op) = op_or_number(no, || rust_palette::add_color(doc.as_ref().unwrap(), rgb), |e| refusal(&e.0));
+    let (no, op) = op_or_number(
+        no,
+        || rust_palette::add_color(doc.as_ref().unwrap(), rgb),
+        |e| refusal(&e.0),
+    );
     let expected = with_edit(no, 0, false, || op.unwrap());
     let (mut b, mut f, mut r) = (BYTES, DOUBLES, R);
-    let no = sheet!(call_add_color, s, p.limited, &p.list, &rgb, &mut b, &mut f, &mut r);
+    let no = sheet!(
+        call_add_color,
+        s,
+        p.limited,
+        &p.list,
+        &rgb,
+        &mut b,
+        &mut f,
+        &mut r
+    );
     [expected, made(no, b, f, r, &[])]
 }
 
 /// The Rust says of a removal only that it cannot be: 7 where there is no such entry, else 9.
 fn none_other(c: &Case, index: usize) -> u8 {
-    if index >= c.sheet.k { 7 } else { 9 }
+    if index >= c.sheet.k {
+        7
+    } else {
+        9
+    }
 }
 
 pub fn nearest_other(c: &Case, index: usize) -> Pair {
@@ -479,18 +607,43 @@ pub fn nearest_other(c: &Case, index: usize) -> Pair {
 
 pub fn remove_entry(c: &Case, index: usize, out: usize) -> Pair {
     let s = &c.sheet;
-    let (no, op) = op_or_number(c.no, || rust_palette::remove_entry(c.doc(), index), |_| none_other(c, index));
+    let (no, op) = op_or_number(
+        c.no,
+        || rust_palette::remove_entry(c.doc(), index),
+        |_| none_other(c, index),
+    );
     let expected = with_edit(no, out, true, || op.unwrap());
     let (mut list, mut b, mut f, mut r) = (vec![WORD; out], BYTES, DOUBLES, R);
-    let no = sheet!(call_remove_entry, s, index, &mut list, &mut b, &mut f, &mut r);
+    let no = sheet!(
+        call_remove_entry,
+        s,
+        index,
+        &mut list,
+        &mut b,
+        &mut f,
+        &mut r
+    );
     [expected, made(no, b, f, r, &list)]
 }
 
 pub fn merge_entries(c: &Case, from: usize, into: usize, out: usize) -> Pair {
     let s = &c.sheet;
-    let (no, op) = op_or_number(c.no, || rust_palette::merge_entries(c.doc(), from, into), |e| refusal(&e.0));
+    let (no, op) = op_or_number(
+        c.no,
+        || rust_palette::merge_entries(c.doc(), from, into),
+        |e| refusal(&e.0),
+    );
     let expected = with_edit(no, out, true, || op.unwrap());
     let (mut list, mut b, mut f, mut r) = (vec![WORD; out], BYTES, DOUBLES, R);
-    let no = sheet!(call_merge_entries, s, from, into, &mut list, &mut b, &mut f, &mut r);
+    let no = sheet!(
+        call_merge_entries,
+        s,
+        from,
+        into,
+        &mut list,
+        &mut b,
+        &mut f,
+        &mut r
+    );
     [expected, made(no, b, f, r, &list)]
 }

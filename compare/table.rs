@@ -29,7 +29,13 @@ impl Table {
 
     /// Counts a call. Its answer is a list of words: document 01's number (0 an answer, 255 "still", nothing or
     /// outside), then whatever it answers and leaves.
-    pub fn tell(&mut self, name: &'static str, expected: &[u64], ours: &[u64], what: impl FnOnce() -> String) {
+    pub fn tell(
+        &mut self,
+        name: &'static str,
+        expected: &[u64],
+        ours: &[u64],
+        what: impl FnOnce() -> String,
+    ) {
         let row = self.row(name);
         row.compared += 1;
         if expected[0] != 0 && expected[0] != 255 {
@@ -40,9 +46,17 @@ impl Table {
             if row.differing <= SHOWN {
                 let at = expected.iter().zip(ours).position(|(a, b)| a != b);
                 println!("{name}: {}", what());
-                println!("  expected number {}, ours {}; first other word {at:?} of {}", expected[0], ours[0], expected.len());
+                println!(
+                    "  expected number {}, ours {}; first other word {at:?} of {}",
+                    expected[0],
+                    ours[0],
+                    expected.len()
+                );
                 if let Some(at) = at {
-                    println!("  expected {:x?}", &expected[at..expected.len().min(at + 6)]);
+                    println!(
+                        "  expected {:x?}",
+                        &expected[at..expected.len().min(at + 6)]
+                    );
                     println!("  ours     {:x?}", &ours[at..ours.len().min(at + 6)]);
                 }
             }
@@ -55,8 +69,17 @@ impl Table {
         println!("|---|---|---|---|");
         let (mut compared, mut refused, mut differing) = (0, 0, 0);
         for (name, row) in &self.rows {
-            let by: Vec<String> = row.refused.iter().map(|(no, n)| format!("{no}: {n}")).collect();
-            println!("| `{name}` | {} | {} | {} |", row.compared, by.join(", "), row.differing);
+            let by: Vec<String> = row
+                .refused
+                .iter()
+                .map(|(no, n)| format!("{no}: {n}"))
+                .collect();
+            println!(
+                "| `{name}` | {} | {} | {} |",
+                row.compared,
+                by.join(", "),
+                row.differing
+            );
             compared += row.compared;
             refused += row.refused.values().sum::<u64>();
             differing += row.differing;

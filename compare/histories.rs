@@ -1,0 +1,1057 @@
+//! Histories: push, undo, redo, mark and what is asked of a history, beside history.rs and op.rs, and beside document 01's
+//! ledger of whole pictures. Small journals, short scratch and damaged sheets are among them.
+
+use crate::calls::*;
+use crate::draw::Draw;
+use crate::drawn::Pair;
+use crate::inputs::{any_edit, tell};
+use crate::journal::{self, Handle, State, MAX_JOURNAL, NOWHERE};
+use crate::sheet::*;
+use crate::sheets::Permitted;
+use crate::table::Table;
+use pixelforge::editor::palette as rust_palette;
+use pixelforge::editor::{Document, History, Op, PixelChange};
+
+// Ours, over a state.
+
+pub fn our_push(st: &mut State, p: &Permitted, e: &Flat, list: &[u64], scratch: usize) -> u8 {
+    let mut n = st.numbers();
+    let (s, mut room) = (&mut st.sheet, vec![BYTE; scratch]);
+    let no = call_push(
+        s.w,
+        s.h,
+        &mut s.palette,
+        &mut s.lab,
+        &mut s.indices,
+        p.limited,
+        &p.list,
+        &e.bytes,
+        e.index,
+        &e.lab,
+        list,
+        &mut st.journal,
+        &mut room,
+        &mut n,
+    );
+    take(st, n);
+    no
+}
+
+pub fn our_undo(st: &mut State) -> u8 {
+    let mut n = st.numbers();
+    let s = &mut st.sheet;
+    let no = call_undo(
+        s.w,
+        s.h,
+        &mut s.palette,
+        &mut s.lab,
+        &mut s.indices,
+        &st.journal,
+        &mut n,
+    );
+    take(st, n);
+    no
+}
+
+pub fn our_redo(st: &mut State, scratch: usize) -> u8 {
+    let mut n = st.numbers();
+    let (s, mut room) = (&mut st.sheet, vec![BYTE; scratch]);
+    let no = call_redo(
+        s.w,
+        s.h,
+        &mut s.palette,
+        &mut s.lab,
+        &mut s.indices,
+        &st.journal,
+        &mut room,
+        &mut n,
+    );
+    take(st, n);
+    no
+}
+
+fn take(st: &mut State, n: [usize; 6]) {
+    st.sheet.k = n[0];
+    st.handle = Handle::of([n[1], n[2], n[3], n[4], n[5]]);
+}
+
+fn told(no: u8, st: &State) -> Vec<u64> {
+    let mut words = vec![no.into()];
+    words.extend(st.words());
+    words
+}
+
+// What is asked of a history, from its journal and its handle.
+
+fn handle_number(st: &State) -> u8 {
+    let long = st.journal.len() > MAX_JOURNAL;
+    first(&[(1, long), (4, !st.handle.sound(st.journal.len()))])
+}
+
+pub fn mark_saved(st: &State) -> Pair {
+    let no = handle_number(st);
+    let saved = if no == 0 {
+        st.handle.position
+    } else {
+        st.handle.saved
+    };
+    let mut expected = vec![no.into()];
+    sizes(&mut expected, &Handle { saved, ..st.handle }.numbers());
+    let mut n = st.numbers();
+    let mut ours = vec![call_mark_saved(&st.journal, &mut n).into()];
+    sizes(&mut ours, &n[1..]);
+    [expected, ours]
+}
+
+fn truth(no: u8, r: &[usize]) -> Vec<u64> {
+    let mut words = vec![no.into()];
+    sizes(&mut words, r);
+    words
+}
+
+type Ask = fn(&[u8], &[usize; 6], &mut [usize; 5]) -> u8;
+
+fn asked(st: &State, yes: bool, ask: Ask) -> Pair {
+    let no = handle_number(st);
+    let expected = if no == 0 {
+        truth(0, &numbers(&[yes.into()]))
+    } else {
+        truth(no, &R)
+    };
+    let mut r = R;
+    let told = ask(&st.journal, &st.numbers(), &mut r);
+    [expected, truth(told, &r)]
+}
+
+pub fn is_dirty(st: &State) -> Pair {
+    let h = st.handle;
+    asked(
+        st,
+        h.saved == NOWHERE || h.saved != h.position,
+        |j, n, r| call_is_dirty(j, n, r),
+    )
+}
+
+pub fn can_undo(st: &State) -> Pair {
+    asked(st, st.handle.position > 0, |j, n, r| call_can_undo(j, n, r))
+}
+
+pub fn can_redo(st: &State) -> Pair {
+    asked(st, st.handle.position < st.handle.count, |j, n, r| {
+        call_can_redo(j, n, r)
+    })
+}
+
+/// The words of a record that is shown. A LAB that is no number is shown as one NaN.
+fn next(no: u8, b: [u8; 8], f: [f64; 3], r: [usize; 5]) -> Vec<u64> {
+    let mut words = truth(no, &r);
+    bytes(&mut words, &b);
+    doubles(
+        &mut words,
+        &f.map(|x| if x.is_nan() { f64::NAN } else { x }),
+    );
+    words
+}
+
+fn record_shown(r: &journal::Read) -> Vec<u64> {
+    let (b, f, mut n, list) = flat_of(&r.op);
+    assert_eq!(list.len(), r.count);
+    n[1..].copy_from_slice(&[r.start, r.length, r.list, r.count]);
+    next(0, b, f, n)
+}
+
+/// Nothing, or a sound record after whose step the handle is sound, or 4.
+fn shown_or(st: &State, none: bool, read: impl FnOnce() -> Option<journal::Read>) -> Vec<u64> {
+    let no = handle_number(st);
+    if no != 0 || none {
+        return next(if no == 0 { 255 } else { no }, BYTES, DOUBLES, R);
+    }
+    read().map_or(next(4, BYTES, DOUBLES, R), |r| record_shown(&r))
+}
+
+pub fn next_undo(st: &State) -> Pair {
+    let h = st.handle;
+    let expected = shown_or(st, h.position == 0, || {
+        journal::read_back(&st.journal, h.offset)
+            .filter(|r| journal::back(h, r).sound(st.journal.len()))
+    });
+    let (mut b, mut f, mut r) = (BYTES, DOUBLES, R);
+    let no = call_next_undo(&st.journal, &st.numbers(), &mut b, &mut f, &mut r);
+    [expected, next(no, b, f, r)]
+}
+
+pub fn next_redo(st: &State) -> Pair {
+    let h = st.handle;
+    let expected = shown_or(st, h.position == h.count, || {
+        journal::read_forth(&st.journal, h.offset, h.end)
+            .filter(|r| journal::forth(h, r).sound(st.journal.len()))
+    });
+    let (mut b, mut f, mut r) = (BYTES, DOUBLES, R);
+    let no = call_next_redo(&st.journal, &st.numbers(), &mut b, &mut f, &mut r);
+    [expected, next(no, b, f, r)]
+}
+
+pub fn applied(st: &State, offset: usize) -> Pair {
+    let h = st.handle;
+    let expected = shown_or(st, h.offset <= offset, || {
+        journal::read_forth(&st.journal, offset, h.offset)
+    });
+    let (mut b, mut f, mut r) = (BYTES, DOUBLES, R);
+    let no = call_applied(&st.journal, &st.numbers(), offset, &mut b, &mut f, &mut r);
+    [expected, next(no, b, f, r)]
+}
+
+// An edit on a sheet, by the Rust.
+
+/// The number of the sheet with a list of colours; then 4 of the handle.
+fn push_entry(st: &State, p: &Permitted) -> u8 {
+    match st
+        .sheet
+        .number(p.is_bad() || st.journal.len() > MAX_JOURNAL)
+    {
+        0 => first(&[(4, !st.handle.sound(st.journal.len()))]),
+        no => no,
+    }
+}
+
+/// What is expected of a push onto a history whose Rust twin is given: the number, what is left, and the twin after it.
+pub fn push(
+    st: &State,
+    twin: (&History, &Document),
+    p: &Permitted,
+    e: &Flat,
+    list: &[u64],
+    scratch: usize,
+) -> (u8, State, Option<(History, Document)>) {
+    let kept = |no: u8| (no, st.clone(), None);
+    let no = push_entry(st, p);
+    if no != 0 {
+        return kept(no);
+    }
+    let op = e.op(list);
+    if op.is_empty() {
+        let (mut history, mut doc) = (twin.0.clone(), twin.1.clone());
+        assert_eq!(history.push(&mut doc, op), Ok(false));
+        return kept(255);
+    }
+    let no = first(&[
+        (21, list.len() > MAX_CHANGES),
+        (16, scratch < st.sheet.w * st.sheet.h),
+    ]);
+    if no != 0 {
+        return kept(no);
+    }
+    let (mut history, mut doc) = (twin.0.clone(), twin.1.clone());
+    doc.fixed = p.fixed();
+    match history.push(&mut doc, op) {
+        Err(told) => return kept(refusal(&told.0)),
+        Ok(pushed) => assert!(pushed),
+    }
+    let record = journal::record(history.next_undo().unwrap());
+    let h = st.handle;
+    let end = h.offset + record.len();
+    if end > st.journal.len() {
+        return kept(14);
+    }
+    let mut after = st.clone();
+    after.sheet = journal::shown(&doc, &st.sheet).expect("what a push makes is well-formed");
+    after.journal[h.offset..end].copy_from_slice(&record);
+    after.handle = Handle {
+        offset: end,
+        end,
+        position: h.position + 1,
+        count: h.position + 1,
+        saved: if h.saved != NOWHERE && h.saved > h.position {
+            NOWHERE
+        } else {
+            h.saved
+        },
+    };
+    (0, after, Some((history, doc)))
+}
+
+/// `replay` of an edit on a sheet.
+pub fn replay(s: &Sheet, p: &Permitted, e: &Flat, list: &[u64], scratch: usize) -> Pair {
+    let mut no = s.number(p.is_bad());
+    let mut after = s.clone();
+    if no == 0 {
+        no = first(&[(21, list.len() > MAX_CHANGES), (16, scratch < s.w * s.h)]);
+    }
+    if no == 0 {
+        let mut doc = journal::document(s);
+        doc.fixed = p.fixed();
+        match doc.replay(&e.op(list)) {
+            Ok(()) => after = journal::shown(&doc, s).expect("what a replay makes is well-formed"),
+            Err(told) => no = refusal(&told.0),
+        }
+    }
+    let words = |no: u8, s: &Sheet| {
+        let mut words = vec![no.into(), s.k as u64];
+        s.words(&mut words);
+        words
+    };
+    let expected = words(no, &after);
+    let (mut s, mut room) = (s.clone(), vec![BYTE; scratch]);
+    let mut n = [s.k, 9, 9, 9, 9, 9];
+    let no = call_replay(
+        s.w,
+        s.h,
+        &mut s.palette,
+        &mut s.lab,
+        &mut s.indices,
+        p.limited,
+        &p.list,
+        &e.bytes,
+        e.index,
+        &e.lab,
+        list,
+        &mut room,
+        &mut n,
+    );
+    s.k = n[0];
+    [expected, words(no, &s)]
+}
+
+// Document 01's ledger.
+
+#[derive(Clone, PartialEq)]
+struct Picture {
+    indices: Vec<i16>,
+    palette: Vec<[u8; 3]>,
+    lab: Vec<[u64; 3]>,
+}
+
+struct Ledger {
+    w: usize,
+    h: usize,
+    pictures: Vec<Picture>,
+    standing: usize,
+    saved: Option<usize>,
+}
+
+fn picture(s: &Sheet) -> Picture {
+    let triple = |c: &[f64]| [c[0].to_bits(), c[1].to_bits(), c[2].to_bits()];
+    Picture {
+        indices: s.indices.clone(),
+        palette: s.colours(),
+        lab: s.lab[..3 * s.k].chunks_exact(3).map(triple).collect(),
+    }
+}
+
+fn lab_bits(rgb: [u8; 3]) -> [u64; 3] {
+    let lab = pixelforge::color::rgb8_to_lab(&rgb);
+    [lab[0].to_bits(), lab[1].to_bits(), lab[2].to_bits()]
+}
+
+impl Ledger {
+    /// Fed the opening sheet.
+    fn open(s: &Sheet) -> Ledger {
+        Ledger {
+            w: s.w,
+            h: s.h,
+            pictures: vec![picture(s)],
+            standing: 0,
+            saved: Some(0),
+        }
+    }
+
+    fn place(&self, c: &PixelChange) -> Option<usize> {
+        (c.x < self.w && c.y < self.h).then(|| c.y * self.w + c.x)
+    }
+
+    /// The number of the first of a push's own checks that applies to the standing picture, or 0.
+    fn own_number(&self, p: &Permitted, op: &Op) -> u8 {
+        let now = &self.pictures[self.standing];
+        let k = now.palette.len();
+        let permitted = |rgb: &[u8; 3]| p.fixed().is_none_or(|list| list.contains(rgb));
+        match op {
+            Op::Pixels { changes, .. } => {
+                let wrong = |c: &PixelChange| {
+                    first(&[
+                        (5, self.place(c).is_none()),
+                        (6, c.new < -1 || c.new >= k as i64),
+                    ])
+                };
+                changes.iter().map(wrong).find(|no| *no != 0).unwrap_or(0)
+            }
+            Op::PaletteSet { index, new, .. } => first(&[(7, *index >= k), (10, !permitted(new))]),
+            Op::PaletteAdd { rgb } => first(&[(8, k == 255), (10, !permitted(rgb))]),
+            Op::PaletteRemove { index, remap, .. } => {
+                let no = first(&[(7, *index >= k), (9, k < 2)]);
+                if no != 0 {
+                    return no;
+                }
+                let entry = *index as i64;
+                let mut left = now.indices.clone();
+                for c in remap {
+                    let Some(at) = self.place(c) else { return 5 };
+                    let target = (0..k as i64).contains(&c.new) && c.new != entry;
+                    if i64::from(now.indices[at]) != entry || c.old != entry || !target {
+                        return 12;
+                    }
+                    left[at] = -1;
+                }
+                first(&[(13, left.iter().any(|&i| i64::from(i) == entry))])
+            }
+        }
+    }
+
+    /// The picture that an accepted edit makes.
+    fn made(&self, op: &Op) -> Picture {
+        let mut p = self.pictures[self.standing].clone();
+        let paint = |p: &mut Picture, list: &[PixelChange]| {
+            list.iter()
+                .for_each(|c| p.indices[c.y * self.w + c.x] = c.new as i16)
+        };
+        match op {
+            Op::Pixels { changes, .. } => paint(&mut p, changes),
+            Op::PaletteSet { index, new, .. } => {
+                (p.palette[*index], p.lab[*index]) = (*new, lab_bits(*new))
+            }
+            Op::PaletteAdd { rgb } => {
+                p.palette.push(*rgb);
+                p.lab.push(lab_bits(*rgb));
+            }
+            Op::PaletteRemove { index, remap, .. } => {
+                paint(&mut p, remap);
+                p.indices
+                    .iter_mut()
+                    .filter(|i| i64::from(**i) > *index as i64)
+                    .for_each(|i| *i -= 1);
+                p.palette.remove(*index);
+                p.lab.remove(*index);
+            }
+        }
+        p
+    }
+
+    fn push(&mut self, p: &Permitted, op: &Op) -> u8 {
+        let list = match op {
+            Op::Pixels { changes, .. } => changes.len(),
+            Op::PaletteRemove { remap, .. } => remap.len(),
+            _ => 0,
+        };
+        let no = first(&[(1, p.is_bad()), (21, list > MAX_CHANGES)]);
+        if no != 0 {
+            return no;
+        }
+        let no = self.own_number(p, op);
+        if no != 0 {
+            return no;
+        }
+        if op.is_empty() {
+            return 255;
+        }
+        let made = self.made(op);
+        self.pictures.truncate(self.standing + 1);
+        self.saved = self.saved.filter(|s| *s <= self.standing);
+        self.pictures.push(made);
+        self.standing += 1;
+        0
+    }
+
+    fn undo(&mut self) -> u8 {
+        if self.standing == 0 {
+            return 255;
+        }
+        self.standing -= 1;
+        0
+    }
+
+    fn redo(&mut self) -> u8 {
+        if self.standing + 1 == self.pictures.len() {
+            return 255;
+        }
+        self.standing += 1;
+        0
+    }
+
+    /// That a state shows the standing picture at the ledger's positions.
+    fn agrees(&self, st: &State) -> bool {
+        let saved = if st.handle.saved == NOWHERE {
+            None
+        } else {
+            Some(st.handle.saved)
+        };
+        picture(&st.sheet) == self.pictures[self.standing]
+            && st.handle.position == self.standing
+            && saved == self.saved
+    }
+}
+
+// Sessions.
+
+/// A list of changes that a push may take: mostly inside, news mostly of the palette.
+fn any_changes(s: &Sheet, n: usize, draw: &mut Draw) -> Vec<u64> {
+    let bad = draw.once_in(5);
+    let change = |draw: &mut Draw| {
+        let wrong = if bad && draw.once_in(3) {
+            1 + draw.below(3)
+        } else {
+            0
+        };
+        PixelChange {
+            x: if wrong == 1 {
+                draw.from(&[s.w, s.w + 1, 65_535])
+            } else {
+                draw.below(s.w.max(1))
+            },
+            y: if wrong == 2 {
+                draw.from(&[s.h, 65_535])
+            } else {
+                draw.below(s.h.max(1))
+            },
+            old: draw.within(-1, 3),
+            new: if wrong == 3 {
+                draw.from(&[-2, s.k as i64, 32_767, -32_768])
+            } else {
+                draw.below(s.k + 1) as i64 - 1
+            },
+        }
+    };
+    (0..n).map(|_| packed(&change(draw))).collect()
+}
+
+/// A removal: mostly a whole remap, which is sometimes damaged.
+fn any_removal(doc: &Document, draw: &mut Draw) -> (usize, Vec<u64>) {
+    let k = doc.palette.len();
+    let (index, into) = (draw.below(k + 1), draw.below(k + 1));
+    let made = if draw.once_in(2) {
+        rust_palette::remove_entry(doc, index)
+    } else {
+        rust_palette::merge_entries(doc, index, into)
+    };
+    let mut list = match made {
+        Ok(op) => flat_of(&op).3,
+        Err(_) => Vec::new(),
+    };
+    if draw.once_in(4) && !list.is_empty() {
+        let at = draw.below(list.len());
+        match draw.below(6) {
+            0 => {
+                list.remove(at);
+            }
+            1 => list[at] ^= 1 << 32,
+            2 => {
+                list[at] = list[at] & 0xffff_ffff_ffff
+                    | (draw.from(&[k as u64, index as u64, 0xffff, 0]) << 48)
+            }
+            3 => list[at] |= 0xffff,
+            // a place named twice, with another target
+            4 => list.push(list[at] & 0xffff_ffff_ffff | (draw.below(k) as u64) << 48),
+            _ => list[at] ^= 1,
+        }
+    }
+    (index, list)
+}
+
+pub fn any_push(s: &Sheet, doc: &Document, draw: &mut Draw) -> (Flat, Vec<u64>) {
+    let mut e = any_edit(s.k, draw);
+    let n = draw.from(&[0, 1, 1, 2, 3, 5, 9]);
+    let list = match e.bytes[0] {
+        4 => {
+            let (index, list) = any_removal(doc, draw);
+            e.index = index;
+            list
+        }
+        _ => any_changes(s, n, draw),
+    };
+    (e, list)
+}
+
+pub fn any_permitted(s: &Sheet, draw: &mut Draw) -> Permitted {
+    let n = draw.below(4);
+    let mut list: Vec<u8> = (0..n).flat_map(|_| draw.rgb()).collect();
+    if s.k > 0 && s.palette.len() == STORAGE && draw.once_in(2) {
+        list.extend_from_slice(&s.palette[..3]);
+    }
+    if draw.once_in(60) {
+        list.push(1);
+    }
+    if draw.once_in(200) {
+        list.resize(3 * 4097, 7);
+    }
+    Permitted {
+        limited: draw.once_in(3),
+        list,
+    }
+}
+
+/// Everything that is asked of a history.
+fn questions(t: &mut Table, st: &State, history: &History, draw: &mut Draw) {
+    let about = || format!("{:?} in {}", st.handle, st.journal.len());
+    let pairs = [
+        ("is_dirty", is_dirty(st)),
+        ("can_undo", can_undo(st)),
+        ("can_redo", can_redo(st)),
+        ("next_undo", next_undo(st)),
+        ("next_redo", next_redo(st)),
+    ];
+    // the Rust's own answers
+    let yes = |pair: &Pair| pair[0][1] == 1;
+    assert_eq!(yes(&pairs[0].1), history.is_dirty());
+    assert_eq!(yes(&pairs[1].1), history.can_undo());
+    assert_eq!(yes(&pairs[2].1), history.can_redo());
+    for (pair, op) in [
+        (&pairs[3].1, history.next_undo()),
+        (&pairs[4].1, history.next_redo()),
+    ] {
+        match op {
+            None => assert_eq!(pair[0][0], 255),
+            Some(op) => {
+                let at = pair[0][2] as usize;
+                let record = journal::record(op);
+                assert!(
+                    st.journal[at..at + record.len()] == record[..],
+                    "not the Rust's record"
+                );
+            }
+        }
+    }
+    for (name, [expected, ours]) in pairs {
+        t.tell(name, &expected, &ours, about);
+    }
+    if draw.once_in(4) {
+        let mut at = 0;
+        for op in history.applied() {
+            let [expected, ours] = applied(st, at);
+            let record = journal::record(op);
+            assert!(
+                st.journal[at..at + record.len()] == record[..],
+                "not the Rust's applied record"
+            );
+            t.tell("applied", &expected, &ours, about);
+            at += record.len();
+        }
+        assert_eq!(at, st.handle.offset);
+        let past = at + draw.below(9);
+        tell!(t, "applied", applied(st, past), "{} at {past}", about());
+        let within = draw.below(at + 1);
+        tell!(t, "applied", applied(st, within), "{} at {within}", about());
+    }
+}
+
+fn opening(draw: &mut Draw) -> Sheet {
+    match draw.below(12) {
+        0 => good(
+            draw.below(4),
+            draw.below(4),
+            draw.from(&[253, 254, 255]),
+            draw,
+        ),
+        1 => good(draw.below(20), draw.below(20), draw.below(9), draw),
+        _ => good(draw.below(5), draw.below(5), draw.below(5), draw),
+    }
+}
+
+/// One history, call by call.
+fn session(t: &mut Table, draw: &mut Draw) {
+    let sheet = opening(draw);
+    let room = draw.from(&[0, 7, 8, 9, 17, 18, 36, 60, 120, 300, 300, 700, 700, 2000]);
+    let mut st = State {
+        journal: (0..room).map(|_| draw.next() as u8).collect(),
+        handle: Handle::FRESH,
+        sheet,
+    };
+    let mut fresh = [st.sheet.k, 1, 1, 1, 1, 1];
+    call_fresh(&mut fresh);
+    let expected = [st.sheet.k, 0, 0, 0, 0, 0].map(|n| n as u64);
+    t.tell(
+        "fresh",
+        &[&[0], &expected[..]].concat(),
+        &[&[0], &fresh.map(|n| n as u64)[..]].concat(),
+        String::new,
+    );
+    let mut ledger = Ledger::open(&st.sheet);
+    let mut history = History::new();
+    let mut doc = journal::document(&st.sheet);
+    let calls = 4 + draw.below(30);
+    let undoing = draw.from(&[2, 3, 6]);
+    for _ in 0..calls {
+        let scratch = st.sheet.w * st.sheet.h + draw.from(&[0, 0, 0, 0, 1, 9]);
+        let scratch = if draw.once_in(25) {
+            scratch.saturating_sub(1 + draw.below(3))
+        } else {
+            scratch
+        };
+        let before = st.clone();
+        let about = |what: &str| {
+            format!(
+                "{what} on {} with {:?} in {}",
+                before.sheet.about(),
+                before.handle,
+                before.journal.len()
+            )
+        };
+        match draw.below(10) {
+            0..=5 if !draw.once_in(undoing) => {
+                let p = any_permitted(&st.sheet, draw);
+                let (e, list) = any_push(&st.sheet, &doc, draw);
+                let (no, after, twin) = push(&st, (&history, &doc), &p, &e, &list, scratch);
+                let ours = our_push(&mut st, &p, &e, &list, scratch);
+                t.tell("push", &told(no, &after), &told(ours, &st), || {
+                    about(&format!("{e:?} {list:x?} {p:?} {scratch}"))
+                });
+                if no != 14 && no != 16 {
+                    assert_eq!(
+                        ledger.push(&p, &e.op(&list)),
+                        no,
+                        "the ledger's answer: {}",
+                        about(&format!("{e:?} {list:x?}"))
+                    );
+                }
+                if let Some((h, d)) = twin {
+                    (history, doc) = (h, d);
+                }
+                if no == 0 && draw.once_in(3) {
+                    // the edit with the olds that the sheet had, replayed on it, and on what it made
+                    let op = history.next_undo().unwrap();
+                    let (mut b, _, _, mut list) = flat_of(op);
+                    if draw.once_in(4) {
+                        b[2] ^= 1;
+                    }
+                    if draw.once_in(4) && !list.is_empty() {
+                        let at = draw.below(list.len());
+                        list[at] ^= 1 << 32;
+                    }
+                    let e = Flat { bytes: b, ..e };
+                    tell!(
+                        t,
+                        "replay",
+                        replay(&before.sheet, &p, &e, &list, scratch),
+                        "{}",
+                        about(&format!("{e:?} {list:x?} {p:?}"))
+                    );
+                    tell!(
+                        t,
+                        "replay",
+                        replay(&st.sheet, &p, &e, &list, scratch),
+                        "{}",
+                        about(&format!("{e:?} {list:x?} {p:?} after"))
+                    );
+                }
+            }
+            0..=2 | 6 | 7 => {
+                let (no, after) = journal::undo(&st);
+                let ours = our_undo(&mut st);
+                t.tell("undo", &told(no, &after), &told(ours, &st), || {
+                    about("undo")
+                });
+                let stepped = history.undo(&mut doc);
+                assert_eq!(no, if stepped { 0 } else { 255 }, "the Rust's undo");
+                assert_eq!(ledger.undo(), no, "the ledger's undo");
+            }
+            3 | 4 | 8 => {
+                let (no, after) = journal::redo(&st, scratch);
+                let ours = our_redo(&mut st, scratch);
+                t.tell("redo", &told(no, &after), &told(ours, &st), || {
+                    about("redo")
+                });
+                if no != 16 {
+                    let stepped = history.redo(&mut doc);
+                    assert_eq!(no, if stepped { 0 } else { 255 }, "the Rust's redo");
+                    assert_eq!(ledger.redo(), no, "the ledger's redo");
+                }
+            }
+            _ => {
+                let [expected, ours] = mark_saved(&st);
+                t.tell("mark_saved", &expected, &ours, || about("mark"));
+                st.handle.saved = ours[5] as usize;
+                history.mark_saved();
+                ledger.saved = Some(ledger.standing);
+            }
+        }
+        assert!(ledger.agrees(&st), "the ledger: {}", about("after a call"));
+        let twin = journal::shown(&doc, &st.sheet).expect("well-formed");
+        assert!(
+            twin.k == st.sheet.k && twin.same(&st.sheet),
+            "the Rust's document: {}",
+            about("after a call")
+        );
+        questions(t, &st, &history, draw);
+    }
+}
+
+/// Pushes, replays, undos and redos on sheets and handles that are wrong from the start.
+fn wrong(t: &mut Table, draw: &mut Draw) {
+    let sheet = any(draw);
+    let journal = vec![3, 1, 2, 3, 8, 0, 0, 0, 3, 4, 5, 6, 8, 0, 0, 0, 0, 0, 0, 0];
+    let handles = [
+        [0, 0, 0, 0, 0],
+        [8, 8, 1, 1, 0],
+        [8, 16, 1, 2, NOWHERE],
+        [0, 16, 0, 2, 2],
+        [16, 16, 2, 2, 1],
+        [8, 8, 1, 1, 2],
+        [9, 8, 1, 1, 0],
+        [0, 8, 1, 1, 0],
+        [16, 16, 3, 3, 0],
+        [8, 24, 1, 2, 0],
+    ];
+    let st = State {
+        sheet,
+        journal,
+        handle: Handle::of(draw.from(&handles)),
+    };
+    let n = st.sheet.w * st.sheet.h;
+    let scratch = draw.room(n);
+    let about = || {
+        format!(
+            "{} with {:?}, scratch {scratch}",
+            st.sheet.about(),
+            st.handle
+        )
+    };
+    let mut after = st.clone();
+    let (no, expected) = journal::undo(&st);
+    let ours = our_undo(&mut after);
+    t.tell("undo", &told(no, &expected), &told(ours, &after), about);
+    let mut after = st.clone();
+    let (no, expected) = journal::redo(&st, scratch);
+    let ours = our_redo(&mut after, scratch);
+    t.tell("redo", &told(no, &expected), &told(ours, &after), about);
+    for (name, [expected, ours]) in [
+        ("is_dirty", is_dirty(&st)),
+        ("can_undo", can_undo(&st)),
+        ("can_redo", can_redo(&st)),
+        ("next_undo", next_undo(&st)),
+        ("next_redo", next_redo(&st)),
+        ("mark_saved", mark_saved(&st)),
+    ] {
+        t.tell(name, &expected, &ours, about);
+    }
+    let at = draw.below(20);
+    tell!(t, "applied", applied(&st, at), "{} at {at}", about());
+    let p = any_permitted(&st.sheet, draw);
+    let e = any_edit(st.sheet.k, draw);
+    let count = draw.below(3);
+    let list = any_changes(&st.sheet, count, draw);
+    tell!(
+        t,
+        "replay",
+        replay(&st.sheet, &p, &e, &list, scratch),
+        "{} {e:?} {list:x?} {p:?}",
+        about()
+    );
+    // the Rust's history starts anew; only its answer and its document are looked at
+    let number = push_entry(&st, &p);
+    let doc = if number == 0 {
+        journal::document(&st.sheet)
+    } else {
+        journal::document(&good(1, 1, 1, draw))
+    };
+    let (no, expected, _) = push(&st, (&History::new(), &doc), &p, &e, &list, scratch);
+    let mut after = st.clone();
+    let ours = our_push(&mut after, &p, &e, &list, scratch);
+    t.tell("push", &told(no, &expected), &told(ours, &after), || {
+        format!("{} {e:?} {list:x?} {p:?}", about())
+    });
+}
+
+/// The limits: 1,048,576 changes and one more, pushed and replayed; a journal of one byte too many.
+fn limits(t: &mut Table, draw: &mut Draw) {
+    let sheet = good(3, 2, 2, draw);
+    let e = Flat {
+        bytes: [1, 5, 0, 0, 0, 0, 0, 0],
+        index: 0,
+        lab: [0.0; 3],
+    };
+    let p = Permitted {
+        limited: false,
+        list: Vec::new(),
+    };
+    for n in [MAX_CHANGES, MAX_CHANGES + 1] {
+        let list: Vec<u64> = (0..n)
+            .map(|i| (i % 3) as u64 + ((i % 2) as u64) * (1 << 48))
+            .collect();
+        for room in [10 + 8 * n, 9 + 8 * n] {
+            let st = State {
+                sheet: sheet.clone(),
+                journal: vec![0; room],
+                handle: Handle::FRESH,
+            };
+            let doc = journal::document(&sheet);
+            let (no, expected, _) = push(&st, (&History::new(), &doc), &p, &e, &list, 6);
+            let mut after = st.clone();
+            let ours = our_push(&mut after, &p, &e, &list, 6);
+            t.tell("push", &told(no, &expected), &told(ours, &after), || {
+                format!("{n} changes in {room} bytes")
+            });
+            if no == 0 {
+                let mut st = after;
+                let (no, expected) = journal::undo(&st);
+                let ours = our_undo(&mut st);
+                t.tell("undo", &told(no, &expected), &told(ours, &st), || {
+                    format!("{n} changes")
+                });
+                let (no, expected) = journal::redo(&st, 6);
+                let ours = our_redo(&mut st, 6);
+                t.tell("redo", &told(no, &expected), &told(ours, &st), || {
+                    format!("{n} changes")
+                });
+            }
+        }
+        let set = Flat {
+            bytes: [
+                2,
+                0,
+                sheet.palette[0],
+                sheet.palette[1],
+                sheet.palette[2],
+                1,
+                2,
+                3,
+            ],
+            ..e
+        };
+        tell!(
+            t,
+            "replay",
+            replay(&sheet, &p, &set, &list, 6),
+            "set beside {n} changes"
+        );
+        tell!(
+            t,
+            "replay",
+            replay(&sheet, &p, &e, &list, 5),
+            "{n} changes, short scratch"
+        );
+    }
+    // records of more changes than a push takes: undo has no such limit, redo has
+    let n = MAX_CHANGES + 1;
+    let op = Op::Pixels {
+        tool: "1".into(),
+        changes: vec![
+            PixelChange {
+                x: 1,
+                y: 1,
+                old: 0,
+                new: 1
+            };
+            n
+        ],
+    };
+    let journal = journal::record(&op);
+    for (offset, position) in [(journal.len(), 1), (0, 0)] {
+        let handle = Handle {
+            offset,
+            end: journal.len(),
+            position,
+            count: 1,
+            saved: 0,
+        };
+        let mut st = State {
+            sheet: sheet.clone(),
+            journal: journal.clone(),
+            handle,
+        };
+        let (no, expected) = if position == 1 {
+            journal::undo(&st)
+        } else {
+            journal::redo(&st, 6)
+        };
+        let name = if position == 1 { "undo" } else { "redo" };
+        let ours = if position == 1 {
+            our_undo(&mut st)
+        } else {
+            our_redo(&mut st, 6)
+        };
+        t.tell(name, &told(no, &expected), &told(ours, &st), || {
+            format!("a record of {n} changes")
+        });
+    }
+    // untouched pages take no memory
+    for (length, expected) in [(MAX_JOURNAL, 0), (MAX_JOURNAL + 1, 1)] {
+        let mut journal = vec![0u8; length];
+        let mut s = sheet.clone();
+        let (mut n, mut r, mut room) = ([s.k, 0, 0, 0, 0, 0], R, [0; 6]);
+        let add = [3, 0, 0, 0, 0, 9, 9, 9];
+        let ours = [
+            (
+                "push",
+                call_push(
+                    3,
+                    2,
+                    &mut s.palette,
+                    &mut s.lab,
+                    &mut s.indices,
+                    false,
+                    &[],
+                    &add,
+                    0,
+                    &[0.0; 3],
+                    &[],
+                    &mut journal,
+                    &mut room,
+                    &mut n,
+                ),
+            ),
+            (
+                "undo",
+                call_undo(
+                    3,
+                    2,
+                    &mut s.palette,
+                    &mut s.lab,
+                    &mut s.indices,
+                    &journal,
+                    &mut n,
+                ),
+            ),
+            (
+                "redo",
+                call_redo(
+                    3,
+                    2,
+                    &mut s.palette,
+                    &mut s.lab,
+                    &mut s.indices,
+                    &journal,
+                    &mut room,
+                    &mut n,
+                ),
+            ),
+            ("mark_saved", call_mark_saved(&journal, &mut n)),
+            ("is_dirty", call_is_dirty(&journal, &n, &mut r)),
+            ("can_undo", call_can_undo(&journal, &n, &mut r)),
+            ("can_redo", call_can_redo(&journal, &n, &mut r)),
+        ];
+        for (name, no) in ours {
+            t.tell(name, &[expected], &[no.into()], || {
+                format!("a journal of {length} bytes")
+            });
+        }
+        let (mut b, mut f) = (BYTES, DOUBLES);
+        let looks = [
+            (
+                "next_undo",
+                call_next_undo(&journal, &n, &mut b, &mut f, &mut r),
+            ),
+            (
+                "next_redo",
+                call_next_redo(&journal, &n, &mut b, &mut f, &mut r),
+            ),
+            (
+                "applied",
+                call_applied(&journal, &n, 0, &mut b, &mut f, &mut r),
+            ),
+        ];
+        for ((name, no), within) in looks.into_iter().zip([0, 255, 0]) {
+            let expected = if expected == 0 { within } else { 1 };
+            t.tell(name, &[expected], &[no.into()], || {
+                format!("a journal of {length} bytes")
+            });
+        }
+    }
+}
+
+pub fn run(t: &mut Table) {
+    let mut draw = Draw::new(9);
+    for _ in 0..9_000 {
+        session(t, &mut draw);
+    }
+    for _ in 0..20_000 {
+        wrong(t, &mut draw);
+    }
+    limits(t, &mut draw);
+}

@@ -1,0 +1,359 @@
+//! Document 01's journal, read from its text: the handle and when it is sound, the four forms of a record, and when a
+//! record is sound to undo or redo. What a sound step does to the sheet is the Rust's `revert` and `apply`.
+
+use crate::sheet::*;
+use pixelforge::config::Config;
+use pixelforge::editor::{Document, Op, Origin};
+use pixelforge::pyjson::Json;
+
+/// A saved position that is none.
+pub const NOWHERE: usize = usize::MAX;
+
+#[derive(Clone, Copy, Debug, PartialEq, Eq)]
+pub struct Handle {
+    pub offset: usize,
+    pub end: usize,
+    pub position: usize,
+    pub count: usize,
+    pub saved: usize,
+}
+
+impl Handle {
+    pub const FRESH: Handle = Handle {
+        offset: 0,
+        end: 0,
+        position: 0,
+        count: 0,
+        saved: 0,
+    };
+
+    /// Sound in a journal of so many bytes.
+    pub fn sound(&self, length: usize) -> bool {
+        let wide = |n: usize| n as u128;
+        self.offset <= self.end
+            && self.end <= length
+            && self.position <= self.count
+            && (self.saved == NOWHERE || self.saved <= self.count)
+            && 8 * wide(self.position) <= wide(self.offset)
+            && 8 * wide(self.count - self.position) <= wide(self.end - self.offset)
+            && (self.offset == 0) == (self.position == 0)
+            && (self.offset == self.end) == (self.position == self.count)
+    }
+
+    pub fn numbers(&self) -> [usize; 5] {
+        [self.offset, self.end, self.position, self.count, self.saved]
+    }
+
+    pub fn of(n: [usize; 5]) -> Handle {
+        let [offset, end, position, count, saved] = n;
+        Handle {
+            offset,
+            end,
+            position,
+            count,
+            saved,
+        }
+    }
+}
+
+/// What the history's calls are lent.
+#[derive(Clone)]
+pub struct State {
+    pub sheet: Sheet,
+    pub journal: Vec<u8>,
+    pub handle: Handle,
+}
+
+pub const MAX_JOURNAL: usize = 2_147_483_647;
+
+impl State {
+    pub fn same(&self, other: &State) -> bool {
+        self.sheet.k == other.sheet.k
+            && self.handle == other.handle
+            && self.journal == other.journal
+            && self.sheet.same(&other.sheet)
+    }
+
+    /// The palette count and the handle as ours is lent them.
+    pub fn numbers(&self) -> [usize; 6] {
+        let h = self.handle;
+        [self.sheet.k, h.offset, h.end, h.position, h.count, h.saved]
+    }
+
+    pub fn words(&self) -> Vec<u64> {
+        let mut words = Vec::new();
+        sizes(&mut words, &self.numbers());
+        self.sheet.words(&mut words);
+        bytes(&mut words, &self.journal);
+        words
+    }
+}
+
+/// An edit's record.
+pub fn record(op: &Op) -> Vec<u8> {
+    let mut to = Vec::new();
+    let changes = |to: &mut Vec<u8>, list: &[u64]| {
+        to.extend((list.len() as u32).to_le_bytes());
+        list.iter().for_each(|n| to.extend(n.to_le_bytes()));
+    };
+    let lab = |to: &mut Vec<u8>, lab: &[f64; 3]| {
+        lab.iter()
+            .for_each(|x| to.extend(x.to_bits().to_le_bytes()))
+    };
+    match op {
+        Op::Pixels {
+            tool,
+            changes: list,
+        } => {
+            to.extend([1, tool.parse().unwrap()]);
+            changes(&mut to, &list_of(list));
+        }
+        Op::PaletteSet {
+            index,
+            old,
+            new,
+            old_lab,
+        } => {
+            to.extend([2, *index as u8]);
+            to.extend(old);
+            to.extend(new);
+            lab(&mut to, old_lab);
+        }
+        Op::PaletteAdd { rgb } => {
+            to.push(3);
+            to.extend(rgb);
+        }
+        Op::PaletteRemove {
+            index,
+            rgb,
+            lab: old,
+            remap,
+        } => {
+            to.extend([4, *index as u8]);
+            to.extend(rgb);
+            lab(&mut to, old);
+            changes(&mut to, &list_of(remap));
+        }
+    }
+    let length = to.len() as u32 + 4;
+    to.extend(length.to_le_bytes());
+    to
+}
+
+/// A record that was read: where it starts, its length, its edit, how many changes, and where they start.
+pub struct Read {
+    pub start: usize,
+    pub length: usize,
+    pub op: Op,
+    pub count: usize,
+    pub list: usize,
+}
+
+fn four(b: &[u8], at: usize) -> Option<usize> {
+    let four = b.get(at..at.checked_add(4)?)?;
+    Some(u32::from_le_bytes(four.try_into().unwrap()) as usize)
+}
+
+/// The record at the front of some bytes, which start at `start` in the journal. Kind, count and length agree, or none.
+fn read(b: &[u8], start: usize) -> Option<Read> {
+    let (count_at, fixed) = match *b.first()? {
+        1 => (Some(2), 10),
+        2 => (None, 36),
+        3 => (None, 8),
+        4 => (Some(29), 37),
+        _ => return None,
+    };
+    let count = count_at.map_or(Some(0), |at| four(b, at))?;
+    if b[0] == 1 && count == 0 {
+        return None;
+    }
+    let length = fixed + 8 * count;
+    if length > b.len() || four(b, length - 4)? != length {
+        return None;
+    }
+    let rgb = |at: usize| [b[at], b[at + 1], b[at + 2]];
+    let lab = |at: usize| {
+        [0, 8, 16].map(|i| {
+            f64::from_bits(u64::from_le_bytes(
+                b[at + i..at + i + 8].try_into().unwrap(),
+            ))
+        })
+    };
+    let list_at = length - 4 - 8 * count;
+    let list: Vec<u64> = b[list_at..length - 4]
+        .chunks_exact(8)
+        .map(|c| u64::from_le_bytes(c.try_into().unwrap()))
+        .collect();
+    let op = match b[0] {
+        1 => Op::Pixels {
+            tool: b[1].to_string(),
+            changes: changes_of(&list),
+        },
+        2 => Op::PaletteSet {
+            index: b[1].into(),
+            old: rgb(2),
+            new: rgb(5),
+            old_lab: lab(8),
+        },
+        3 => Op::PaletteAdd { rgb: rgb(1) },
+        _ => Op::PaletteRemove {
+            index: b[1].into(),
+            rgb: rgb(2),
+            lab: lab(5),
+            remap: changes_of(&list),
+        },
+    };
+    Some(Read {
+        start,
+        length,
+        op,
+        count,
+        list: start + list_at,
+    })
+}
+
+/// The record that ends at an offset.
+pub fn read_back(journal: &[u8], offset: usize) -> Option<Read> {
+    let length = four(journal, offset.checked_sub(4)?)?;
+    let start = offset.checked_sub(length)?;
+    read(&journal[start..offset], start).filter(|r| r.length == length)
+}
+
+/// The record that starts at an offset, inside the bytes before an end.
+pub fn read_forth(journal: &[u8], offset: usize, end: usize) -> Option<Read> {
+    read(&journal[offset..end], offset)
+}
+
+/// The handle one record back, or forth.
+pub fn back(h: Handle, r: &Read) -> Handle {
+    Handle {
+        offset: h.offset - r.length,
+        position: h.position - 1,
+        ..h
+    }
+}
+
+pub fn forth(h: Handle, r: &Read) -> Handle {
+    Handle {
+        offset: h.offset + r.length,
+        position: h.position + 1,
+        ..h
+    }
+}
+
+/// The Rust's document of a well-formed sheet, its LAB as it is.
+pub fn document(s: &Sheet) -> Document {
+    Document {
+        baseline: s.image(),
+        baseline_palette: Vec::new(),
+        indices: s.image(),
+        palette_lab: s.lab[..3 * s.k].to_vec(),
+        palette: s.colours(),
+        fixed: None,
+        origin: Origin::new(Config::default(), String::new(), Json::Null),
+    }
+}
+
+/// The sheet that shows a document: "a call leaves storage past the larger of k before and after; a removal or undone add
+/// leaves the last old entry's storage". None where it is not well-formed.
+pub fn shown(doc: &Document, before: &Sheet) -> Option<Sheet> {
+    let k = doc.palette.len();
+    let stray = |&i: &i64| i < -1 || i >= k as i64;
+    if k > 255
+        || doc.indices.indices.iter().any(stray)
+        || doc.palette_lab.iter().any(|x| !x.is_finite())
+    {
+        return None;
+    }
+    let mut s = before.clone();
+    s.k = k;
+    s.palette[..3 * k].copy_from_slice(&doc.palette.concat());
+    s.lab[..3 * k].copy_from_slice(&doc.palette_lab);
+    s.indices = doc.indices.indices.iter().map(|&i| i as i16).collect();
+    Some(s)
+}
+
+/// `can_revert` of document.rs, which is private there: the shape alone.
+fn can_revert(doc: &Document, op: &Op) -> bool {
+    let k = doc.palette.len();
+    let inside = |c: &pixelforge::editor::PixelChange| c.x < doc.width() && c.y < doc.height();
+    match op {
+        Op::Pixels { changes, .. } => changes.iter().all(inside),
+        Op::PaletteSet { index, .. } => *index < k,
+        Op::PaletteAdd { .. } => k > 0,
+        Op::PaletteRemove { index, remap, .. } => *index <= k && remap.iter().all(inside),
+    }
+}
+
+/// 1 to 4, as undo and redo have them.
+fn entry_number(st: &State) -> u8 {
+    match st.sheet.number(st.journal.len() > MAX_JOURNAL) {
+        0 => first(&[(4, !st.handle.sound(st.journal.len()))]),
+        no => no,
+    }
+}
+
+/// What document 01 has undo answer, and what it leaves.
+pub fn undo(st: &State) -> (u8, State) {
+    let kept = |no: u8| (no, st.clone());
+    let no = entry_number(st);
+    if no != 0 {
+        return kept(no);
+    }
+    if st.handle.position == 0 {
+        return kept(255);
+    }
+    let Some(r) = read_back(&st.journal, st.handle.offset) else {
+        return kept(4);
+    };
+    let handle = back(st.handle, &r);
+    let mut doc = document(&st.sheet);
+    if !handle.sound(st.journal.len()) || !can_revert(&doc, &r.op) {
+        return kept(4);
+    }
+    doc.revert(&r.op);
+    let Some(sheet) = shown(&doc, &st.sheet) else {
+        return kept(4);
+    };
+    (
+        0,
+        State {
+            sheet,
+            journal: st.journal.clone(),
+            handle,
+        },
+    )
+}
+
+/// What document 01 has redo answer with so much scratch, and what it leaves. The Rust's `apply` makes push's checks; 10 is
+/// left out, since the document has no list of colours.
+pub fn redo(st: &State, scratch: usize) -> (u8, State) {
+    let kept = |no: u8| (no, st.clone());
+    let no = entry_number(st);
+    if no != 0 {
+        return kept(no);
+    }
+    if st.handle.position == st.handle.count {
+        return kept(255);
+    }
+    if scratch < st.sheet.w * st.sheet.h {
+        return kept(16);
+    }
+    let Some(mut r) = read_forth(&st.journal, st.handle.offset, st.handle.end) else {
+        return kept(4);
+    };
+    let handle = forth(st.handle, &r);
+    let mut doc = document(&st.sheet);
+    if !handle.sound(st.journal.len()) || r.count > MAX_CHANGES || doc.apply(&mut r.op).is_err() {
+        return kept(4);
+    }
+    let sheet = shown(&doc, &st.sheet).expect("what push's checks accept is well-formed");
+    (
+        0,
+        State {
+            sheet,
+            journal: st.journal.clone(),
+            handle,
+        },
+    )
+}
