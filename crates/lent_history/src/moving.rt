@@ -1,0 +1,59 @@
+// `undo`, `redo` and `mark_saved` with the handle lent.
+use ledger::Handle;
+use limits::Answer;
+ghost use mathlib.Core.Path.{_≡_};
+ghost use lib.ListN.{length};
+ghost use Rattle.sheet.specs.Sheet.{sheetOf};
+ghost use Rattle.ledger.specs.Journal.{undoOf, redoOf, markOf};
+ghost use Rattle.history.specs.Editing.{editing};
+ghost use Rattle.history.specs.Calls.{stateOf};
+ghost use Rattle.history.specs.Looks.{outcomeOf};
+ghost use Rattle.lent_history.specs.Lent.{left};
+
+// `history::undo`, with palette count and handle lent.
+pub fn undo(
+    w: usize,
+    h: usize,
+    k: &mut usize,
+    palette: &mut [u8],
+    lab: &mut [f64],
+    indices: &mut [i16],
+    journal: &[u8],
+    handle: &mut Handle,
+) -> Answer
+    ensures { λ r. ⌜ left r w h (now (k .exit)) (now (palette .exit)) (now (lab .exit)) (now (indices .exit)) (now (journal .entry)) (now (handle .exit)) ≡ undoOf editing (stateOf (sheetOf w h (now (k .entry)) (now (palette .entry)) (now (lab .entry)) (now (indices .entry))) (now (journal .entry)) (now (handle .entry))) ⌝ }
+{
+    let s = history::undo(w, h, *k, palette, lab, indices, journal, *handle);
+    *k = s.k;
+    *handle = s.handle;
+    s.answer
+}
+
+// `history::redo`, with palette count and handle lent.
+pub fn redo(
+    w: usize,
+    h: usize,
+    k: &mut usize,
+    palette: &mut [u8],
+    lab: &mut [f64],
+    indices: &mut [i16],
+    journal: &[u8],
+    handle: &mut Handle,
+    scratch: &mut [u8],
+) -> Answer
+    ensures { λ r. ⌜ (left r w h (now (k .exit)) (now (palette .exit)) (now (lab .exit)) (now (indices .exit)) (now (journal .entry)) (now (handle .exit)) ≡ redoOf editing (length (now (scratch .entry))) (stateOf (sheetOf w h (now (k .entry)) (now (palette .entry)) (now (lab .entry)) (now (indices .entry))) (now (journal .entry)) (now (handle .entry)))) × (length (now (scratch .exit)) ≡ length (now (scratch .entry))) ⌝ }
+{
+    let s = history::redo(w, h, *k, palette, lab, indices, journal, *handle, scratch);
+    *k = s.k;
+    *handle = s.handle;
+    s.answer
+}
+
+// `history::mark_saved`, with the handle lent.
+pub fn mark_saved(journal: &[u8], handle: &mut Handle) -> Answer
+    ensures { λ r. ⌜ outcomeOf r (now (handle .exit)) ≡ markOf (length (now (journal .entry))) (now (handle .entry)) ⌝ }
+{
+    let s = history::mark_saved(journal, *handle);
+    *handle = s.handle;
+    s.answer
+}
