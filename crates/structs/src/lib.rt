@@ -1,12 +1,17 @@
 // A change as makers hold it: a struct of four fields. The calls over lent slices of them stand in the crates
-// above; here is what they do with one.
-use pixels::change_of;
-use pixels::column;
-use pixels::new_of;
-use pixels::old_of;
-use pixels::row;
+// above; here is what they do with one, and with a slice.
+mod slices;
+
+use apply::change_of;
+use apply::column;
+use apply::new_of;
+use apply::old_of;
+use apply::row;
 ghost use mathlib.Core.Path.{_≡_};
 ghost use Rattle.structs.specs.Struct.{packedOf, structOf};
+pub use slices::lesser;
+pub use slices::pack;
+pub use slices::unpack;
 
 // "a list of changes, each with x, y, old and new".
 pub struct Change {

@@ -1,0 +1,48 @@
+// Lists of change structs packed into numbers, as the core takes them, and filled from numbers.
+use crate::Change;
+use crate::packed;
+use crate::unpacked;
+ghost use mathlib.Core.Path.{_≡_};
+ghost use mathlib.Core.List.{map};
+ghost use Prim.Native.Nat.{_≤_};
+ghost use lib.ListN.{length, take};
+ghost use Rattle.lists.specs.Lists.{over};
+ghost use Rattle.structs.specs.Struct.{packedOf, least};
+
+// The lesser of two numbers.
+pub fn lesser(a: usize, b: usize) -> usize
+    ensures { λ r. ⌜ r ≡ least a b ⌝ }
+{
+    if a < b {
+        return a;
+    }
+    b
+}
+
+// The first n changes of a list, packed, over the front of flat, which keeps its bits past them.
+pub fn pack(list: &[Change], n: usize, flat: &mut [u64])
+    requires { ⌜ (n ≤ length (now list)) × (n ≤ length (now flat)) ⌝ }
+    ensures { λ _. ⌜ now (flat .exit) ≡ over (take n (map packedOf (now (list .entry)))) (now (flat .entry)) ⌝ }
+{
+    let mut i: usize = 0;
+    while i < n {
+        let c = list[i];
+        let v = packed(c);
+        flat[i] = v;
+        i += 1;
+    }
+}
+
+// The first n numbers, as structs, over the front of out, which keeps its bits past them.
+pub fn unpack(flat: &[u64], n: usize, out: &mut [Change])
+    requires { ⌜ (n ≤ length (now flat)) × (n ≤ length (now out)) ⌝ }
+    ensures { λ _. ⌜ map packedOf (now (out .exit)) ≡ over (take n (now (flat .entry))) (map packedOf (now (out .entry))) ⌝ }
+{
+    let mut i: usize = 0;
+    while i < n {
+        let v = flat[i];
+        let c = unpacked(v);
+        out[i] = c;
+        i += 1;
+    }
+}
