@@ -15,4 +15,5 @@ pub mod Examples
 pub mod Copying
 pub mod Fronts
 pub mod Handing
+pub mod InScratch
 pub mod Rows

@@ -2,11 +2,12 @@
 use limits::Counted;
 use limits::NO_SPACE;
 ghost use mathlib.Core.Path.{_≡_};
-ghost use Prim.Native.Nat.{_≤_};
+ghost use mathlib.Core.List.{List};
+ghost use Prim.Native.Nat.{ℕ, _≤_};
 ghost use lib.ListN.{length, take};
 ghost use Rattle.limits.specs.Answer.{filled};
 ghost use Rattle.lists.specs.Lists.{over};
-ghost use Rattle.changes.specs.Listed.{handed};
+ghost use Rattle.changes.specs.Listed.{handed, countOf, InScratch};
 
 // The first n of the scratch over the front of out, which keeps its bits past them.
 pub fn copy_out(scratch: &[u64], n: usize, out: &mut [u64])
@@ -21,15 +22,23 @@ pub fn copy_out(scratch: &[u64], n: usize, out: &mut [u64])
     }
 }
 
-// The end of every call that returns changes: the first n of the scratch over the front of out, or 16 where out
-// has fewer places, and then nothing is written.
-pub fn hand_out(scratch: &[u64], n: usize, out: &mut [u64]) -> Counted
-    requires { ⌜ n ≤ length (now scratch) ⌝ }
-    ensures { λ r. ⌜ filled r (now (out .exit)) ≡ handed (take n (now (scratch .entry))) (now (out .entry)) ⌝ }
+// The end of every call that leaves n changes at the front of scratch: how many they are, or 16 where the buffer
+// that they are meant for has fewer places.
+pub fn counted(n: usize, room: usize) -> Counted
+    ensures { λ r. ⌜ ((s : List ℕ) → n ≤ length s → InScratch (countOf r) room s (filled r) (handed (take n s))) ⌝ }
 {
-    if out.len() < n {
+    if room < n {
         return Counted::Refused(NO_SPACE);
     }
-    copy_out(scratch, n, out);
     Counted::Count(n)
+}
+
+// How many changes such a call left, none where it was refused.
+pub fn count_of(answer: Counted) -> usize
+    ensures { λ r. ⌜ r ≡ countOf answer ⌝ }
+{
+    match answer {
+        Counted::Count(n) => n,
+        Counted::Refused(_) => 0,
+    }
 }

@@ -10,6 +10,7 @@ pub use between::differences;
 pub use between::lay;
 pub use between::paint;
 pub use copy::copy_out;
-pub use copy::hand_out;
+pub use copy::count_of;
+pub use copy::counted;
 pub use normal::normalize_in;
 pub use normal::normalize_joined;

@@ -1,6 +1,6 @@
 -- What `normalize` and `pixels` answer, by what their tests find. Assumes nothing.
 use Prim.Native.Nat.{ℕ, _≤_, _<_}
-use mathlib.Core.Path.{_≡_}
+use mathlib.Core.Path.{_≡_, refl, ap}
 use mathlib.Core.List.{List, map}
 use native.Mathlib.Omega.{arith}
 use borrow.Author.Tests.{lt-ltb, le-ltb}
@@ -10,13 +10,13 @@ use Rattle.limits.specs.Checks.{firstOf}
 use Rattle.limits.specs.Answer.{filled}
 use Rattle.limits.specs.declared.Counted.{Counted}
 use Rattle.limits.specs.declared.Counted.the-variants.{Count, Refused}
-use Rattle.edits.specs.declared.Edit.the-variants.{Pixels}
 use Rattle.edits.specs.Change.{unpacked}
 use Rattle.changes.specs.Normal.{normalizeOf, normalPacked, Front}
-use Rattle.changes.specs.Listed.{handed}
+use Rattle.changes.specs.Listed.{handed, countOf, InScratch}
 use Rattle.changes.proofs.Handing.{listed-refused, listed-done}
-use Rattle.tools.specs.declared.Made.the-variants as made-of
-use Rattle.tools.specs.Op.{normalizeChecks, normalizeCall, made, pixelsOf, pixelsCall}
+use Rattle.changes.proofs.InScratch.{scratch-then}
+use Rattle.tools.specs.declared.Made.{Made}
+use Rattle.tools.specs.Op.{normalizeChecks, normalizeCall, made, madeCount, pixelsOf, pixelsCall}
 
 module _ (room : ℕ) (list out : List ℕ) where
   pub normalize-long : maxChanges < length list → filled (Refused 21) out ≡ normalizeCall room list out
@@ -38,12 +38,14 @@ module _ (room : ℕ) (list out : List ℕ) where
         listed-done (normalizeChecks (length list) room) (normalizeOf (map unpacked list)) out
         (rw (le-ltb maxChanges (length list) h, le-ltb room (length list) k)) f d
 
-  -- the same list, counted for an edit of pixels
-  module _ (tool : ℕ) {m : List ℕ} {n : ℕ} where
-    pub pixels-made : {a : Counted} → a ≡ Count n → filled a m ≡ normalizeCall room list out → made (made-of.Op (Pixels tool) n) m ≡ pixelsCall tool room list out
-    unfolding pixelsCall pixelsOf
-    pixels-made e d = rw (← d, e)
+-- ---- the same list, for an edit of pixels
+count-kept : (tool : ℕ) (a : Counted) → madeCount (pixelsOf tool a) ≡ countOf a
+unfolding pixelsOf
+count-kept tool (Count n) = refl
+count-kept tool (Refused n) = refl
 
-    pub pixels-refused : {a : Counted} → a ≡ Refused n → filled a m ≡ normalizeCall room list out → made (made-of.Refused n) m ≡ pixelsCall tool room list out
-    unfolding pixelsCall pixelsOf
-    pixels-refused e d = rw (← d, e)
+module _ (tool room : ℕ) (list : List ℕ) (places : ℕ) where
+  pub pixels-in : {a : Counted} {r : Made} {s : List ℕ} → InScratch (countOf a) places s (filled a) (normalizeCall room list) → r ≡ pixelsOf tool a
+      → InScratch (madeCount r) places s (made r) (pixelsCall tool room list)
+  unfolding pixelsCall
+  pixels-in {a} c e = rw (e, count-kept tool a) (scratch-then c (λ out after h d. ap (λ f. made (pixelsOf tool (f .answer)) (f .buffer)) d))

@@ -34,6 +34,11 @@ pub record MadeList : Type 0 where
 abbrev pub made : Made → List ℕ → MadeList
 made answer out = record { answer = answer; out = out }
 
+-- how many changes its list has, none where it is a refusal
+abbrev pub madeCount : Made → ℕ
+madeCount (made-of.Op edit n) = n
+madeCount (made-of.Refused n) = 0
+
 -- an edit of pixels, whose list was counted
 unfoldable pub pixelsOf : ℕ → Counted → Made
 pixelsOf tool (counted.Count n) = made-of.Op (Pixels tool) n

@@ -9,8 +9,11 @@ mod strokes;
 use edits::Edit;
 pub use op::is_empty;
 pub use op::kind;
+pub use op::made_count;
 pub use op::normalize;
+pub use op::normalize_in;
 pub use op::pixels;
+pub use op::pixels_in;
 pub use strokes::extend;
 
 // What a call answers that makes an edit with a list of changes: the edit, and how many they are.

@@ -1,7 +1,8 @@
 // `normalize` and what else op.rs asks of an edit and its list.
 use crate::Made;
-use changes::hand_out;
-use changes::normalize_in;
+use changes::copy_out;
+use changes::count_of;
+use changes::counted;
 use edits::Edit;
 use limits::Counted;
 use limits::LIST_TOO_LONG;
@@ -14,12 +15,13 @@ ghost use Rattle.limits.specs.Answer.{filled};
 ghost use Rattle.edits.specs.Change.{unpacked};
 ghost use Rattle.edits.specs.Apply.{noPixels};
 ghost use Rattle.records.specs.Found.{kindOf};
-ghost use Rattle.tools.specs.Op.{normalizeCall, made, pixelsCall};
+ghost use Rattle.changes.specs.Listed.{countOf, InScratch};
+ghost use Rattle.tools.specs.Op.{normalizeCall, made, madeCount, pixelsOf, pixelsCall};
 
-// The normal form of a list, at the front of out: in order by y, then x, with the first old and the last new of
-// each place, and without what changes nothing.
-pub fn normalize(list: &[u64], scratch: &mut [u64], out: &mut [u64]) -> Counted
-    ensures { λ r. ⌜ filled r (now (out .exit)) ≡ normalizeCall (length (now (scratch .entry))) (now (list .entry)) (now (out .entry)) ⌝ }
+// The normal form of a list, left at the front of the scratch for a buffer of `room` places: in order by y, then
+// x, with the first old and the last new of each place, and without what changes nothing.
+pub fn normalize_in(list: &[u64], scratch: &mut [u64], room: usize) -> Counted
+    ensures { λ r. ⌜ InScratch (countOf r) room (now (scratch .exit)) (filled r) (normalizeCall (length (now (scratch .entry))) (now (list .entry))) ⌝ }
     ensures { λ _. ⌜ length (now (scratch .exit)) ≡ length (now (scratch .entry)) ⌝ }
 {
     if MAX_CHANGES < list.len() {
@@ -28,21 +30,59 @@ pub fn normalize(list: &[u64], scratch: &mut [u64], out: &mut [u64]) -> Counted
     if scratch.len() < list.len() {
         return Counted::Refused(NO_SPACE);
     }
-    let n = normalize_in(list, scratch);
-    hand_out(scratch, n, out)
+    let n = changes::normalize_in(list, scratch);
+    counted(n, room)
 }
 
-// `Op::pixels`: an edit of pixels, and its list, normalised, at the front of out.
-pub fn pixels(tool: u8, list: &[u64], scratch: &mut [u64], out: &mut [u64]) -> Made
-    ensures { λ r. ⌜ made r (now (out .exit)) ≡ pixelsCall tool (length (now (scratch .entry))) (now (list .entry)) (now (out .entry)) ⌝ }
+// The same at the front of out.
+pub fn normalize(list: &[u64], scratch: &mut [u64], out: &mut [u64]) -> Counted
+    ensures { λ r. ⌜ filled r (now (out .exit)) ≡ normalizeCall (length (now (scratch .entry))) (now (list .entry)) (now (out .entry)) ⌝ }
     ensures { λ _. ⌜ length (now (scratch .exit)) ≡ length (now (scratch .entry)) ⌝ }
 {
-    match normalize(list, scratch, out) {
+    let r = normalize_in(list, scratch, out.len());
+    copy_out(scratch, count_of(r), out);
+    r
+}
+
+// An edit of pixels, whose list was counted.
+fn pixels_of(tool: u8, counted: Counted) -> Made
+    ensures { λ r. ⌜ r ≡ pixelsOf tool counted ⌝ }
+{
+    match counted {
         Counted::Count(count) => Made::Op {
             edit: Edit::Pixels { tool },
             count,
         },
         Counted::Refused(no) => Made::Refused(no),
+    }
+}
+
+// `Op::pixels`: an edit of pixels, and its list, normalised, left at the front of the scratch for a buffer of
+// `room` places.
+pub fn pixels_in(tool: u8, list: &[u64], scratch: &mut [u64], room: usize) -> Made
+    ensures { λ r. ⌜ InScratch (madeCount r) room (now (scratch .exit)) (made r) (pixelsCall tool (length (now (scratch .entry))) (now (list .entry))) ⌝ }
+    ensures { λ _. ⌜ length (now (scratch .exit)) ≡ length (now (scratch .entry)) ⌝ }
+{
+    pixels_of(tool, normalize_in(list, scratch, room))
+}
+
+// The same at the front of out.
+pub fn pixels(tool: u8, list: &[u64], scratch: &mut [u64], out: &mut [u64]) -> Made
+    ensures { λ r. ⌜ made r (now (out .exit)) ≡ pixelsCall tool (length (now (scratch .entry))) (now (list .entry)) (now (out .entry)) ⌝ }
+    ensures { λ _. ⌜ length (now (scratch .exit)) ≡ length (now (scratch .entry)) ⌝ }
+{
+    let r = pixels_in(tool, list, scratch, out.len());
+    copy_out(scratch, made_count(r), out);
+    r
+}
+
+// How many changes the list of such an edit has, none where it was refused.
+pub fn made_count(answer: Made) -> usize
+    ensures { λ r. ⌜ r ≡ madeCount answer ⌝ }
+{
+    match answer {
+        Made::Op { edit: _, count } => count,
+        Made::Refused(_) => 0,
     }
 }
 

@@ -2,7 +2,9 @@
 // buffer is the normal form of what it was and then the event's list, so that normalising goes on step by step.
 use crate::Made;
 use crate::Stroke;
-use changes::hand_out;
+use changes::copy_out;
+use changes::count_of;
+use changes::counted;
 use changes::normalize_joined;
 use edits::Edit;
 use limits::Counted;
@@ -48,7 +50,9 @@ pub fn extend(stroke: &mut [u64], count: usize, list: &[u64], scratch: &mut [u64
         return Counted::Refused(no);
     }
     let n = normalize_joined(&stroke[..count], list, scratch);
-    hand_out(scratch, n, stroke)
+    let r = counted(n, stroke.len());
+    copy_out(scratch, count_of(r), stroke);
+    r
 }
 
 impl Stroke {

@@ -1,21 +1,18 @@
--- `normalize`: 21 and 16; then the normal form, handed out of the scratch. Assumes nothing.
-use Rattle.changes.proofs.Fronts.{front-within}
-use Rattle.tools.proofs.Normalizing.{normalize-long, normalize-short, normalize-done}
+-- `normalize`: what `normalize_in` left in the scratch, copied out. Assumes nothing.
+use mathlib.Core.Path.{refl}
+use Rattle.changes.proofs.InScratch.{copied}
 use borrow.Author.Needs.{needs}
 use Rattle.tools.proofs.op.normalize.Statement.{statement}
 use Rattle.tools.proofs.op.normalize.Tie as tie
 
-returns : tie.Need-returns
-returns c = (normalize-long _ _ _ (c .if1 .taken), search needs)
-
-returns-2 : tie.Need-returns-2
-returns-2 c = (normalize-short _ _ _ (c .before .if1 .left) (c .if2 .taken), search needs)
-
 normalize-in-requires : tie.Need-normalize-in-requires
 normalize-in-requires c κs = search needs
 
-hand-out-requires : tie.Need-hand-out-requires
-hand-out-requires c κs = front-within (c .before .before .before .before .normalize-in .ensures)
+count-of-requires : tie.Need-count-of-requires
+count-of-requires c κs = search needs
+
+copy-out-requires : tie.Need-copy-out-requires
+copy-out-requires c κs = search needs
 
 same-length : tie.Need-same-length
 same-length c = search needs
@@ -23,17 +20,10 @@ same-length c = search needs
 same-length-2 : tie.Need-same-length-2
 same-length-2 c = search needs
 
-returns-3 : tie.Need-returns-3
-returns-3 c = (normalize-done _ _ _ (c .before .before .before .before .before .before .before .before .before .before .if1 .left) (c .before .before .before .before .before .before .before .before .before .if2 .left) (c .before .before .before .before .before .before .before .normalize-in .ensures) (c .before .before .hand-out .ensures), search needs)
+returns : tie.Need-returns
+returns c = (copied _ (c .before .before .before .before .before .before .before .before .normalize-in .ensures .0) refl (c .before .before .before .before .count-of .ensures) (c .before .before .copy-out .ensures), search needs)
 
 pub normalize-spec : {M : Type 1} → statement M
 normalize-spec =
     tie.close
-    (tie.spec
-    returns
-    returns-2
-    normalize-in-requires
-    hand-out-requires
-    same-length
-    same-length-2
-    returns-3)
+    (tie.spec normalize-in-requires count-of-requires copy-out-requires same-length same-length-2 returns)

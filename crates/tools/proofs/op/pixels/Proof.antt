@@ -1,17 +1,18 @@
--- `pixels`: by what `normalize` answers. Assumes nothing.
-use Rattle.tools.proofs.Normalizing.{pixels-made, pixels-refused}
+-- `pixels`: what `pixels_in` left in the scratch, copied out. Assumes nothing.
+use mathlib.Core.Path.{refl}
+use Rattle.changes.proofs.InScratch.{copied}
 use borrow.Author.Needs.{needs}
 use Rattle.tools.proofs.op.pixels.Statement.{statement}
 use Rattle.tools.proofs.op.pixels.Tie as tie
 
-normalize-requires : tie.Need-normalize-requires
-normalize-requires c κs = search needs
+pixels-in-requires : tie.Need-pixels-in-requires
+pixels-in-requires c κs = search needs
 
-enum-known-count : tie.Need-enum-known-count
-enum-known-count c = search needs
+made-count-requires : tie.Need-made-count-requires
+made-count-requires c κs = search needs
 
-enum-known-no : tie.Need-enum-known-no
-enum-known-no c = search needs
+copy-out-requires : tie.Need-copy-out-requires
+copy-out-requires c κs = search needs
 
 same-length : tie.Need-same-length
 same-length c = search needs
@@ -20,27 +21,9 @@ same-length-2 : tie.Need-same-length-2
 same-length-2 c = search needs
 
 returns : tie.Need-returns
-returns c = (pixels-made _ _ _ _ (c .before .count .given .1) (c .before .before .before .before .before .before .before .normalize .ensures .0), search needs)
-
-same-length-3 : tie.Need-same-length-3
-same-length-3 c = search needs
-
-same-length-4 : tie.Need-same-length-4
-same-length-4 c = search needs
-
-returns-2 : tie.Need-returns-2
-returns-2 c = (pixels-refused _ _ _ _ (c .before .no .given .1) (c .before .before .before .before .before .before .before .normalize .ensures .0), search needs)
+returns c = (copied _ (c .before .before .before .before .before .before .before .before .pixels-in .ensures .0) refl (c .before .before .before .before .made-count .ensures) (c .before .before .copy-out .ensures), search needs)
 
 pub pixels-spec : {M : Type 1} → statement M
 pixels-spec =
     tie.close
-    (tie.spec
-    normalize-requires
-    enum-known-count
-    enum-known-no
-    same-length
-    same-length-2
-    returns
-    same-length-3
-    same-length-4
-    returns-2)
+    (tie.spec pixels-in-requires made-count-requires copy-out-requires same-length same-length-2 returns)

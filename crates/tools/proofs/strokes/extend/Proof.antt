@@ -1,5 +1,7 @@
--- `extend`: 21 and 16; then the joined normal form, handed out of the scratch. Assumes nothing.
-use mathlib.Core.Path.{sym, _∙_}
+-- `extend`: 21 and 16; then the joined normal form, copied out of the scratch. Assumes nothing.
+use mathlib.Core.Path.{refl, sym, _∙_}
+use native.Mathlib.Omega.{arith}
+use Rattle.changes.proofs.InScratch.{copied}
 use lib.Seq.{length-take-le}
 use Rattle.changes.proofs.Fronts.{front-within}
 use Rattle.tools.proofs.Extending.{extend-fine, extend-refused, extend-done, joined-fits}
@@ -22,8 +24,16 @@ slice-aggregate-normalize-joined c = sym (length-take-le _ _ (extend-fine _ _ _ 
 normalize-joined-requires : tie.Need-normalize-joined-requires
 normalize-joined-requires c κs = joined-fits _ _ (c .before .before .before .before .before .before .before .args .list .now) (c .before .before .before .before .before .before .before .args .stroke .now) (sym (c .before .before .before .extend-no .ensures) ∙ c .before .before .if1 .left)
 
-hand-out-requires : tie.Need-hand-out-requires
-hand-out-requires c κs = front-within (c .before .before .before .before .normalize-joined .ensures)
+counted-requires : tie.Need-counted-requires
+counted-requires c κs = search needs
+
+count-of-requires : tie.Need-count-of-requires
+count-of-requires c κs = search needs
+
+copy-out-requires : tie.Need-copy-out-requires
+copy-out-requires c κs =
+    let i = c .before .before .before .counted .ensures (c .before .before .before .before .before .before .normalize-joined .last .1 .1 .0) (front-within (c .before .before .before .before .before .before .normalize-joined .ensures)) in
+    let e = c .before .count-of .ensures in (omega (arith, e, i .held), omega (arith, e, i .fits))
 
 same-length : tie.Need-same-length
 same-length c = search needs
@@ -32,7 +42,8 @@ same-length-2 : tie.Need-same-length-2
 same-length-2 c = search needs
 
 returns-2 : tie.Need-returns-2
-returns-2 c = (extend-done _ _ _ _ (sym (c .before .before .before .before .before .before .before .before .before .before .before .extend-no .ensures) ∙ c .before .before .before .before .before .before .before .before .before .before .if1 .left) (c .before .before .before .before .before .before .before .normalize-joined .ensures) (c .before .before .hand-out .ensures), search needs)
+returns-2 c =
+    (extend-done _ _ _ _ (sym (c .before .before .before .before .before .before .before .before .before .before .before .before .before .extend-no .ensures) ∙ c .before .before .before .before .before .before .before .before .before .before .before .before .if1 .left) (c .before .before .before .before .before .before .before .before .before .normalize-joined .ensures) (copied _ (c .before .before .before .before .before .before .counted .ensures _ (front-within (c .before .before .before .before .before .before .before .before .before .normalize-joined .ensures))) refl (c .before .before .before .before .count-of .ensures) (c .before .before .copy-out .ensures)), search needs)
 
 pub extend-spec : {M : Type 1} → statement M
 extend-spec =
@@ -43,7 +54,9 @@ extend-spec =
     slice-reshare-prefix-normalize-joined
     slice-aggregate-normalize-joined
     normalize-joined-requires
-    hand-out-requires
+    counted-requires
+    count-of-requires
+    copy-out-requires
     same-length
     same-length-2
     returns-2)

@@ -1,0 +1,27 @@
+-- A result at the front of the scratch: none of it, another call that leaves the same, and the result copied over a buffer. Assumes nothing.
+use Prim.Native.Nat.{ℕ, _≤_}
+use mathlib.Core.Path.{_≡_, sym, _∙_}
+use mathlib.Core.List.{List}
+use native.Mathlib.Omega.{arith}
+use lib.ListN.{length, take}
+use Rattle.lists.specs.Lists.{over}
+use Rattle.changes.specs.Listed.{InScratch}
+
+module _ {B : Type 0} {room : ℕ} {s : List ℕ} {leaves call : List ℕ → B} where
+  -- a refusal, which has no result
+  pub scratch-none : ((out : List ℕ) → length out ≡ room → leaves out ≡ call out) → InScratch 0 room s leaves call
+  unfolding over
+  scratch-none f = record { fits = omega arith; held = omega arith; value = f }
+
+  -- what a call leaves that ends with another
+  pub scratch-then : {n : ℕ} {C : Type 0} {leaves′ call′ : List ℕ → C} → InScratch n room s leaves call
+      → ((out after : List ℕ) → length out ≡ room → leaves after ≡ call out → leaves′ after ≡ call′ out) → InScratch n room s leaves′ call′
+  scratch-then c f = record { fits = c .fits; held = c .held; value = λ out e. f out _ e (c .value out e) }
+
+  -- the result can be copied, and what it leaves then
+  module _ {n m : ℕ} (out : List ℕ) (c : InScratch n room s leaves call) (e : room ≡ length out) (q : m ≡ n) where
+    pub copy-fits : (m ≤ length s) × (m ≤ length out)
+    copy-fits = let a = c .fits in let b = c .held in (omega arith, omega arith)
+
+    pub copied : {after : List ℕ} → after ≡ over (take m s) out → leaves after ≡ call out
+    copied p = rw (p, q) (c .value out (sym e))
