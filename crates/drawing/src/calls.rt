@@ -4,8 +4,10 @@ use crate::brush::clamp;
 use crate::brush::paint_path;
 use crate::brush::paint_two;
 use crate::frame::paint_rectangle;
+use changes::copy_out;
+use changes::count_of;
+use changes::counted;
 use changes::differences;
-use changes::hand_out;
 use changes::lay;
 use ints::is_far;
 use limits::BAD_SHEET;
@@ -32,7 +34,7 @@ ghost use Rattle.sheet.specs.Sheet.{sheetOf};
 ghost use Rattle.lines.specs.Line.{point, farPoint};
 ghost use Rattle.edits.specs.Change.{packed};
 ghost use Rattle.changes.specs.Between.{between, laidOut};
-ghost use Rattle.changes.specs.Listed.{handed};
+ghost use Rattle.changes.specs.Listed.{handed, countOf, InScratch};
 ghost use Rattle.drawing.specs.Calls.{leaves, stageOf, cornerChecks, pointChecks, pencilCall, eraserCall, lineCall, rectangleCall};
 
 // The region to draw in, or the number of the first of 1 to 3, `no`, 5 and the scratch's 16 that applies; `no`
@@ -66,14 +68,14 @@ fn stage(
     Stage::Canvas(s)
 }
 
-// The end of each call: the changes from the picture to the one that is painted in the scratch, over the front of
-// out; 16 where it has fewer places, and then nothing is written.
-fn finish(indices: &[i16], w: usize, h: usize, scratch: &mut [u64], out: &mut [u64]) -> Counted
+// The end of each call: the changes from the picture to the one that is painted in the scratch, left at its front
+// for a buffer of `room` places; 16 where that has fewer.
+fn finish(indices: &[i16], w: usize, h: usize, scratch: &mut [u64], room: usize) -> Counted
     requires { ⌜ (w ≤ 2 ^ 16) × (h ≤ 2 ^ 16) × (length (now indices) ≡ w * h) × (length (now indices) ≤ length (now scratch)) ⌝ }
-    ensures { λ r. ⌜ leaves r (now (out .exit)) ≡ handed (map packed (between w (now (indices .entry)) (laidOut (length (now (indices .entry))) (now (scratch .entry))))) (now (out .entry)) ⌝ }
+    ensures { λ r. ⌜ InScratch (countOf r) room (now (scratch .exit)) (leaves r) (handed (map packed (between w (now (indices .entry)) (laidOut (length (now (indices .entry))) (now (scratch .entry)))))) ⌝ }
 {
     let n = differences(indices, w, h, scratch);
-    hand_out(scratch, n, out)
+    counted(n, room)
 }
 
 // Number 15 of a point.
@@ -125,6 +127,41 @@ fn points_no(points: &[i32]) -> u8
 
 // Paints `index` with a square brush along points, which are lent as x then y; a list of an odd length is 1. The
 // brush is clamped to 1 to 8.
+// The changes are left at the front of the scratch for a buffer of `room` places.
+pub fn pencil_in(
+    w: usize,
+    h: usize,
+    k: usize,
+    palette: &[u8],
+    lab: &[f64],
+    indices: &[i16],
+    area: Area,
+    points: &[i32],
+    size: usize,
+    index: i16,
+    scratch: &mut [u64],
+    room: usize,
+) -> Counted
+    ensures { λ r. ⌜ InScratch (countOf r) room (now (scratch .exit)) (leaves r) (pencilCall (sheetOf w h k (now (palette .entry)) (now (lab .entry)) (now (indices .entry))) area (now (points .entry)) size index (length (now (scratch .entry)))) ⌝ }
+    ensures { λ _. ⌜ length (now (scratch .exit)) ≡ length (now (scratch .entry)) ⌝ }
+{
+    if points.len() % 2 != 0 {
+        return Counted::Refused(BAD_SHEET);
+    }
+    let no = points_no(points);
+    match stage(w, h, k, palette, lab, indices, no, area, scratch.len()) {
+        Stage::Canvas(s) => {
+            let v = bits_of(index) as u64;
+            let brush = clamp(size);
+            lay(indices, scratch);
+            paint_path(points, scratch, w, s, brush, v);
+            finish(indices, w, h, scratch, room)
+        }
+        Stage::Refused(n) => Counted::Refused(n),
+    }
+}
+
+// The same at the front of out.
 pub fn pencil(
     w: usize,
     h: usize,
@@ -142,23 +179,58 @@ pub fn pencil(
     ensures { λ r. ⌜ leaves r (now (out .exit)) ≡ pencilCall (sheetOf w h k (now (palette .entry)) (now (lab .entry)) (now (indices .entry))) area (now (points .entry)) size index (length (now (scratch .entry))) (now (out .entry)) ⌝ }
     ensures { λ _. ⌜ length (now (scratch .exit)) ≡ length (now (scratch .entry)) ⌝ }
 {
-    if points.len() % 2 != 0 {
-        return Counted::Refused(BAD_SHEET);
-    }
-    let no = points_no(points);
-    match stage(w, h, k, palette, lab, indices, no, area, scratch.len()) {
-        Stage::Canvas(s) => {
-            let v = bits_of(index) as u64;
-            let brush = clamp(size);
-            lay(indices, scratch);
-            paint_path(points, scratch, w, s, brush, v);
-            finish(indices, w, h, scratch, out)
-        }
-        Stage::Refused(n) => Counted::Refused(n),
-    }
+    let r = pencil_in(
+        w,
+        h,
+        k,
+        palette,
+        lab,
+        indices,
+        area,
+        points,
+        size,
+        index,
+        scratch,
+        out.len(),
+    );
+    copy_out(scratch, count_of(r), out);
+    r
 }
 
-// The pencil with transparency.
+// The pencil with transparency. The changes are left at the front of the scratch for a buffer of `room` places.
+pub fn eraser_in(
+    w: usize,
+    h: usize,
+    k: usize,
+    palette: &[u8],
+    lab: &[f64],
+    indices: &[i16],
+    area: Area,
+    points: &[i32],
+    size: usize,
+    scratch: &mut [u64],
+    room: usize,
+) -> Counted
+    ensures { λ r. ⌜ InScratch (countOf r) room (now (scratch .exit)) (leaves r) (eraserCall (sheetOf w h k (now (palette .entry)) (now (lab .entry)) (now (indices .entry))) area (now (points .entry)) size (length (now (scratch .entry)))) ⌝ }
+    ensures { λ _. ⌜ length (now (scratch .exit)) ≡ length (now (scratch .entry)) ⌝ }
+{
+    pencil_in(
+        w,
+        h,
+        k,
+        palette,
+        lab,
+        indices,
+        area,
+        points,
+        size,
+        -1,
+        scratch,
+        room,
+    )
+}
+
+// The same at the front of out.
 pub fn eraser(
     w: usize,
     h: usize,
@@ -175,7 +247,7 @@ pub fn eraser(
     ensures { λ r. ⌜ leaves r (now (out .exit)) ≡ eraserCall (sheetOf w h k (now (palette .entry)) (now (lab .entry)) (now (indices .entry))) area (now (points .entry)) size (length (now (scratch .entry))) (now (out .entry)) ⌝ }
     ensures { λ _. ⌜ length (now (scratch .exit)) ≡ length (now (scratch .entry)) ⌝ }
 {
-    pencil(
+    let r = eraser_in(
         w,
         h,
         k,
@@ -185,13 +257,49 @@ pub fn eraser(
         area,
         points,
         size,
-        -1,
         scratch,
-        out,
-    )
+        out.len(),
+    );
+    copy_out(scratch, count_of(r), out);
+    r
 }
 
 // The line from a to b with the brush.
+// The changes are left at the front of the scratch for a buffer of `room` places.
+pub fn line_in(
+    w: usize,
+    h: usize,
+    k: usize,
+    palette: &[u8],
+    lab: &[f64],
+    indices: &[i16],
+    area: Area,
+    ax: i32,
+    ay: i32,
+    bx: i32,
+    by: i32,
+    size: usize,
+    index: i16,
+    scratch: &mut [u64],
+    room: usize,
+) -> Counted
+    ensures { λ r. ⌜ InScratch (countOf r) room (now (scratch .exit)) (leaves r) (lineCall (sheetOf w h k (now (palette .entry)) (now (lab .entry)) (now (indices .entry))) area (point ax ay) (point bx by) size index (length (now (scratch .entry)))) ⌝ }
+    ensures { λ _. ⌜ length (now (scratch .exit)) ≡ length (now (scratch .entry)) ⌝ }
+{
+    let no = corners_no(ax, ay, bx, by);
+    match stage(w, h, k, palette, lab, indices, no, area, scratch.len()) {
+        Stage::Canvas(s) => {
+            let v = bits_of(index) as u64;
+            let brush = clamp(size);
+            lay(indices, scratch);
+            paint_two(scratch, w, s, brush, ax, ay, bx, by, v);
+            finish(indices, w, h, scratch, room)
+        }
+        Stage::Refused(n) => Counted::Refused(n),
+    }
+}
+
+// The same at the front of out.
 pub fn line(
     w: usize,
     h: usize,
@@ -212,20 +320,62 @@ pub fn line(
     ensures { λ r. ⌜ leaves r (now (out .exit)) ≡ lineCall (sheetOf w h k (now (palette .entry)) (now (lab .entry)) (now (indices .entry))) area (point ax ay) (point bx by) size index (length (now (scratch .entry))) (now (out .entry)) ⌝ }
     ensures { λ _. ⌜ length (now (scratch .exit)) ≡ length (now (scratch .entry)) ⌝ }
 {
+    let r = line_in(
+        w,
+        h,
+        k,
+        palette,
+        lab,
+        indices,
+        area,
+        ax,
+        ay,
+        bx,
+        by,
+        size,
+        index,
+        scratch,
+        out.len(),
+    );
+    copy_out(scratch, count_of(r), out);
+    r
+}
+
+// The rectangle with corners a and b, both included: its four edges, or every pixel inside with `filled`.
+// The changes are left at the front of the scratch for a buffer of `room` places.
+pub fn rectangle_in(
+    w: usize,
+    h: usize,
+    k: usize,
+    palette: &[u8],
+    lab: &[f64],
+    indices: &[i16],
+    area: Area,
+    ax: i32,
+    ay: i32,
+    bx: i32,
+    by: i32,
+    filled: bool,
+    index: i16,
+    scratch: &mut [u64],
+    room: usize,
+) -> Counted
+    ensures { λ r. ⌜ InScratch (countOf r) room (now (scratch .exit)) (leaves r) (rectangleCall (sheetOf w h k (now (palette .entry)) (now (lab .entry)) (now (indices .entry))) area (point ax ay) (point bx by) filled index (length (now (scratch .entry)))) ⌝ }
+    ensures { λ _. ⌜ length (now (scratch .exit)) ≡ length (now (scratch .entry)) ⌝ }
+{
     let no = corners_no(ax, ay, bx, by);
     match stage(w, h, k, palette, lab, indices, no, area, scratch.len()) {
         Stage::Canvas(s) => {
             let v = bits_of(index) as u64;
-            let brush = clamp(size);
             lay(indices, scratch);
-            paint_two(scratch, w, s, brush, ax, ay, bx, by, v);
-            finish(indices, w, h, scratch, out)
+            paint_rectangle(scratch, w, s, ax, ay, bx, by, filled, v);
+            finish(indices, w, h, scratch, room)
         }
         Stage::Refused(n) => Counted::Refused(n),
     }
 }
 
-// The rectangle with corners a and b, both included: its four edges, or every pixel inside with `filled`.
+// The same at the front of out.
 pub fn rectangle(
     w: usize,
     h: usize,
@@ -246,14 +396,23 @@ pub fn rectangle(
     ensures { λ r. ⌜ leaves r (now (out .exit)) ≡ rectangleCall (sheetOf w h k (now (palette .entry)) (now (lab .entry)) (now (indices .entry))) area (point ax ay) (point bx by) filled index (length (now (scratch .entry))) (now (out .entry)) ⌝ }
     ensures { λ _. ⌜ length (now (scratch .exit)) ≡ length (now (scratch .entry)) ⌝ }
 {
-    let no = corners_no(ax, ay, bx, by);
-    match stage(w, h, k, palette, lab, indices, no, area, scratch.len()) {
-        Stage::Canvas(s) => {
-            let v = bits_of(index) as u64;
-            lay(indices, scratch);
-            paint_rectangle(scratch, w, s, ax, ay, bx, by, filled, v);
-            finish(indices, w, h, scratch, out)
-        }
-        Stage::Refused(n) => Counted::Refused(n),
-    }
+    let r = rectangle_in(
+        w,
+        h,
+        k,
+        palette,
+        lab,
+        indices,
+        area,
+        ax,
+        ay,
+        bx,
+        by,
+        filled,
+        index,
+        scratch,
+        out.len(),
+    );
+    copy_out(scratch, count_of(r), out);
+    r
 }

@@ -9,9 +9,13 @@ mod frame;
 mod paint;
 
 pub use calls::eraser;
+pub use calls::eraser_in;
 pub use calls::line;
+pub use calls::line_in;
 pub use calls::pencil;
+pub use calls::pencil_in;
 pub use calls::rectangle;
+pub use calls::rectangle_in;
 use selection::Selection;
 
 // The places of one axis that are painted: count of them from start on.

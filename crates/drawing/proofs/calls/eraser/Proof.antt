@@ -1,11 +1,18 @@
--- `eraser`: the pencil with -1. Assumes nothing.
-use Rattle.drawing.specs.Calls.{eraserCall}
+-- `eraser`: what `eraser_in` left in the scratch, copied out. Assumes nothing.
+use mathlib.Core.Path.{refl}
+use Rattle.changes.proofs.InScratch.{copied}
 use borrow.Author.Needs.{needs}
 use Rattle.drawing.proofs.calls.eraser.Statement.{statement}
 use Rattle.drawing.proofs.calls.eraser.Tie as tie
 
-pencil-requires : tie.Need-pencil-requires
-pencil-requires c κs = search needs
+eraser-in-requires : tie.Need-eraser-in-requires
+eraser-in-requires c κs = search needs
+
+count-of-requires : tie.Need-count-of-requires
+count-of-requires c κs = search needs
+
+copy-out-requires : tie.Need-copy-out-requires
+copy-out-requires c κs = search needs
 
 same-length : tie.Need-same-length
 same-length c = search needs
@@ -14,8 +21,9 @@ same-length-2 : tie.Need-same-length-2
 same-length-2 c = search needs
 
 returns : tie.Need-returns
-unfolding eraserCall
-returns c = c .before .before .before .before .pencil .ensures
+returns c = (copied _ (c .before .before .before .before .before .before .before .before .eraser-in .ensures .0) refl (c .before .before .before .before .count-of .ensures) (c .before .before .copy-out .ensures), search needs)
 
 pub eraser-spec : {M : Type 1} → statement M
-eraser-spec = tie.close (tie.spec pencil-requires same-length same-length-2 returns)
+eraser-spec =
+    tie.close
+    (tie.spec eraser-in-requires count-of-requires copy-out-requires same-length same-length-2 returns)

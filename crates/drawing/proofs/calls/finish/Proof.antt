@@ -4,6 +4,7 @@ use mathlib.Core.List.{List}
 use Prim.Native.Nat.{ℕ}
 use Rattle.changes.specs.Listed.{handed}
 use Rattle.changes.proofs.Fronts.{front-within}
+use Rattle.changes.proofs.InScratch.{scratch-then}
 use borrow.Author.Needs.{needs}
 use Rattle.drawing.proofs.calls.finish.Statement.{statement}
 use Rattle.drawing.proofs.calls.finish.Tie as tie
@@ -11,18 +12,16 @@ use Rattle.drawing.proofs.calls.finish.Tie as tie
 differences-requires : tie.Need-differences-requires
 differences-requires c κs = search needs
 
-hand-out-requires : tie.Need-hand-out-requires
-hand-out-requires c κs = front-within (c .before .before .before .before .differences .ensures)
+counted-requires : tie.Need-counted-requires
+counted-requires c κs = search needs
 
 same-length : tie.Need-same-length
 same-length c = search needs
 
-same-length-2 : tie.Need-same-length-2
-same-length-2 c = search needs
-
 returns : tie.Need-returns
-returns c = c .before .before .hand-out .ensures ∙ ap (λ (l : List ℕ). handed l (c .before .before .before .before .before .before .before .before .before .before .before .args .out .now)) (c .before .before .before .before .before .before .before .differences .ensures .front)
+returns c =
+    let f = c .before .before .before .differences .ensures in
+    scratch-then (c .counted .ensures _ (front-within f)) (λ out after e d. d ∙ ap (λ (l : List ℕ). handed l out) (f .front))
 
 pub finish-spec : {M : Type 1} → statement M
-finish-spec =
-    tie.close (tie.spec differences-requires hand-out-requires same-length same-length-2 returns)
+finish-spec = tie.close (tie.spec differences-requires counted-requires same-length returns)

@@ -1,69 +1,19 @@
--- `pencil`: the checks; then the picture laid out, painted and compared. Assumes nothing.
-use mathlib.Core.Path.{_≡_, sym, _∙_}
-use mathlib.Core.Bool.{not}
-use native.Mathlib.Omega.{arith}
-use borrow.Author.Tests.{eq-eqb, ne-eqb}
-use Prim.Native.Nat.{_%_}
-use lib.Dec.{eqb}
-use lib.ListN.{length}
-use mir.Syntax.{w16}
-use mir.Val.{ofZ}
-use Rattle.limits.specs.Checks.{_when_}
-use Rattle.ints.proofs.Back.{by-value}
-use Rattle.sheet.specs.Sheet.{Sheet, sheetOf}
-use Rattle.lines.specs.Brush.{stamped}
-use Rattle.drawing.specs.Points.{pencilOf}
-use Rattle.drawing.specs.Calls.{stageOf, pointsOf, pointChecks, pencilCall}
-use Rattle.drawing.proofs.Stamps.{brush-clamped}
-use Rattle.drawing.proofs.Paths.{points-near, stamped-places}
-use Rattle.drawing.proofs.Staging.{Ready, ready, ready-fits, refused, answered, listed-first, listed-skip}
+-- `pencil`: what `pencil_in` left in the scratch, copied out. Assumes nothing.
+use mathlib.Core.Path.{refl}
+use mir.Facts.{toZ-ofZ}
+use Rattle.changes.proofs.InScratch.{copied}
 use borrow.Author.Needs.{needs}
 use Rattle.drawing.proofs.calls.pencil.Statement.{statement}
 use Rattle.drawing.proofs.calls.pencil.Tie as tie
 
-returns : tie.Need-returns
-unfolding pencilCall
-returns c = (listed-first (1 when not (eqb (length (c .before .before .before .before .before .args .points .now) % 2) 0)) _ _ _ (omega arith) (rw (ne-eqb _ 0 (c .if1 .taken))), search needs)
+pencil-in-requires : tie.Need-pencil-in-requires
+pencil-in-requires c κs = search needs
 
-points-no-requires : tie.Need-points-no-requires
-points-no-requires c κs = search needs
+count-of-requires : tie.Need-count-of-requires
+count-of-requires c κs = search needs
 
-stage-requires : tie.Need-stage-requires
-stage-requires c κs = search needs
-
-enum-known-s : tie.Need-enum-known-s
-enum-known-s c = search needs
-
-bits-of-requires : tie.Need-bits-of-requires
-bits-of-requires c κs = search needs
-
-cast-v : tie.Need-cast-v
-cast-v c = search needs
-
-clamp-requires : tie.Need-clamp-requires
-clamp-requires c κs = search needs
-
-abbrev sheet : (c : tie.Start) → Sheet
-sheet c = let a = c .args in sheetOf (a .w) (a .h) (a .k) (a .palette .now) (a .lab .now) (a .indices .now)
-
--- what the checks answered
-answer : (c : tie.After-stage) → let a = c .before .before .before .before .before .before .before .args in c .stage .result ≡ stageOf (sheet (c .before .before .before .before .before .before .before)) (pointChecks (a .points .now)) (a .area) (length (a .scratch .now))
-answer c = c .stage .ensures _ (c .before .points-no .ensures)
-
-readied : (c : tie.After-s) → let a = c .before .before .before .before .before .before .before .before .before .args in Ready (sheet (c .before .before .before .before .before .before .before .before .before)) (pointChecks (a .points .now)) (a .area) (length (a .scratch .now)) (c .s .given .0 .0)
-readied c = ready _ _ _ _ _ (sym (c .s .given .1) ∙ answer (c .before .before))
-
-lay-requires : tie.Need-lay-requires
-lay-requires c κs = let r = readied (c .before .before .before .before) in omega (arith, r .space, r .well .limits .indices-length)
-
-paint-path-requires : tie.Need-paint-path-requires
-paint-path-requires c κs = let r = readied (c .before .before .before .before .before .before .before .before) in let e = c .before .before .before .before .before .before .before .before .before .before .before .before .if1 .left in (ready-fits _ _ _ _ _ r _ (omega (arith, r .space, c .before .before .before .lay .kept .1 .0)), rw (c .before .before .before .before .before .clamp .ensures) (brush-clamped _), points-near _ e (r .given-none), e)
-
-finish-requires : tie.Need-finish-requires
-finish-requires c κs = let r = readied (c .before .before .before .before .before .before .before .before .before .before .before .before .before) in let l = r .well .limits in let a = l .w-small in let b = l .h-small in (omega arith, omega arith, l .indices-length, omega (arith, r .space, l .indices-length, c .before .before .before .before .before .before .before .before .lay .kept .1 .0, c .before .before .before .before .paint-path .kept .1 .0))
-
-enum-known-n : tie.Need-enum-known-n
-enum-known-n c = search needs
+copy-out-requires : tie.Need-copy-out-requires
+copy-out-requires c κs = search needs
 
 same-length : tie.Need-same-length
 same-length c = search needs
@@ -71,39 +21,12 @@ same-length c = search needs
 same-length-2 : tie.Need-same-length-2
 same-length-2 c = search needs
 
-returns-2 : tie.Need-returns-2
-unfolding pencilCall pencilOf
-returns-2 c =
-    let s = c .before .before .before .before .before .before .before .before .before .before .before .before .before .before .before .before .before .before .before .before .before .before .before .before .before .before .before in
-    let a = s .args in
-    let ps = pointsOf (a .points .now) in
-    let painted = rw (by-value (ofZ w16) (s .fits .index) (c .before .before .before .before .before .before .before .before .before .before .before .before .before .before .before .before .bits-of .ensures), c .before .before .before .before .before .before .before .before .before .before .before .before .before .before .before .clamp .ensures) at (c .before .before .before .before .before .before .before .before .before .paint-path .ensures) in
-    let region = c .before .before .before .before .before .before .before .before .before .before .before .before .before .before .before .before .before .before .s .given .0 .0 in (
-      answered _ _ _ _ _ (readied (c .before .before .before .before .before .before .before .before .before .before .before .before .before .before .before .before .before .before)) (stamped (a .size) ps) (a .index) _ _ _ _ _ (s .fits .index) (c .before .before .before .before .before .before .before .before .before .before .before .before .before .lay .ensures .1) (rw (stamped-places region (a .w) (a .size) ps) at painted) (c .before .before .before .before .finish .ensures)
-          ∙ listed-skip (1 when not (eqb (length (a .points .now) % 2) 0)) _ _ _ (rw (eq-eqb _ 0 (c .before .before .before .before .before .before .before .before .before .before .before .before .before .before .before .before .before .before .before .before .before .before .if1 .left))),
-      c .before .before .before .before .finish .kept .1 .1 .1 .0 ∙ c .before .before .before .before .before .before .before .before .before .paint-path .kept .1 .0 ∙ c .before .before .before .before .before .before .before .before .before .before .before .before .before .lay .kept .1 .0,
-    )
-
-returns-3 : tie.Need-returns-3
-unfolding pencilCall
-returns-3 c = (refused _ _ _ _ _ _ _ (sym (c .before .n .given .1) ∙ answer (c .before .before .before)) ∙ listed-skip (1 when not (eqb (length (c .before .before .before .before .before .before .before .before .before .before .args .points .now) % 2) 0)) _ _ _ (rw (eq-eqb _ 0 (c .before .before .before .before .before .if1 .left))), search needs)
+returns : tie.Need-returns
+returns c =
+    let f = c .before .before .before .before .before .before .before .before .before .before .before .before .before .before .fits in
+    (copied _ (rw (toZ-ofZ (f .index)) at (c .before .before .before .before .before .before .before .before .pencil-in .ensures .0)) refl (c .before .before .before .before .count-of .ensures) (c .before .before .copy-out .ensures), search needs)
 
 pub pencil-spec : {M : Type 1} → statement M
 pencil-spec =
     tie.close
-    (tie.spec
-    returns
-    points-no-requires
-    stage-requires
-    enum-known-s
-    bits-of-requires
-    cast-v
-    clamp-requires
-    lay-requires
-    paint-path-requires
-    finish-requires
-    enum-known-n
-    same-length
-    same-length-2
-    returns-2
-    returns-3)
+    (tie.spec pencil-in-requires count-of-requires copy-out-requires same-length same-length-2 returns)
