@@ -4,8 +4,8 @@ use crate::flat::edit_of;
 use crate::flat::tell_edit;
 use history::Handle;
 use history::Moved;
-use history::Next;
-use history::Truth;
+use looks::Next;
+use looks::Truth;
 
 fn handle_of(state: &[usize; 6]) -> Handle {
     Handle {
@@ -137,17 +137,17 @@ fn tell_truth(t: Truth, r: &mut [usize; 5]) -> u8 {
 
 #[no_mangle]
 pub extern "C" fn call_is_dirty(journal: &[u8], state: &[usize; 6], r: &mut [usize; 5]) -> u8 {
-    tell_truth(history::is_dirty(journal, handle_of(state)), r)
+    tell_truth(looks::is_dirty(journal, handle_of(state)), r)
 }
 
 #[no_mangle]
 pub extern "C" fn call_can_undo(journal: &[u8], state: &[usize; 6], r: &mut [usize; 5]) -> u8 {
-    tell_truth(history::can_undo(journal, handle_of(state)), r)
+    tell_truth(looks::can_undo(journal, handle_of(state)), r)
 }
 
 #[no_mangle]
 pub extern "C" fn call_can_redo(journal: &[u8], state: &[usize; 6], r: &mut [usize; 5]) -> u8 {
-    tell_truth(history::can_redo(journal, handle_of(state)), r)
+    tell_truth(looks::can_redo(journal, handle_of(state)), r)
 }
 
 // The edit as `tell_edit` writes it, and in r[1] to r[4] the record's start and length, where its list starts, and its count.
@@ -181,7 +181,7 @@ pub extern "C" fn call_next_undo(
     r: &mut [usize; 5],
 ) -> u8 {
     tell_next(
-        history::next_undo(journal, handle_of(state)),
+        looks::next_undo(journal, handle_of(state)),
         bytes,
         doubles,
         r,
@@ -197,7 +197,7 @@ pub extern "C" fn call_next_redo(
     r: &mut [usize; 5],
 ) -> u8 {
     tell_next(
-        history::next_redo(journal, handle_of(state)),
+        looks::next_redo(journal, handle_of(state)),
         bytes,
         doubles,
         r,
@@ -214,7 +214,7 @@ pub extern "C" fn call_applied(
     r: &mut [usize; 5],
 ) -> u8 {
     tell_next(
-        history::applied(journal, handle_of(state), offset),
+        looks::applied(journal, handle_of(state), offset),
         bytes,
         doubles,
         r,

@@ -8,8 +8,8 @@ use Rattle.sheet.specs.Sheet.{sheetOf}
 use Rattle.ledger.specs.declared.Handle.{Handle}
 use Rattle.ledger.specs.Calls.{Outcome}
 use Rattle.ledger.specs.Journal.{State}
-use Rattle.history.specs.Editing.{editing}
-use Rattle.history.specs.Calls.{stateOf}
+use Rattle.editing.specs.Editing.{editing}
+use Rattle.editing.specs.Calls.{stateOf}
 
 -- the answer, and sheet, journal and handle after the call
 abbrev pub left : Answer → ℕ → ℕ → ℕ → List ℕ → List Float → List ℤ → List ℕ → Handle → Outcome (State editing)

@@ -5,9 +5,9 @@ ghost use mathlib.Core.Path.{_≡_};
 ghost use lib.ListN.{length};
 ghost use Rattle.sheet.specs.Sheet.{sheetOf};
 ghost use Rattle.ledger.specs.Journal.{undoOf, redoOf, markOf};
-ghost use Rattle.history.specs.Editing.{editing};
-ghost use Rattle.history.specs.Calls.{stateOf};
-ghost use Rattle.history.specs.Looks.{outcomeOf};
+ghost use Rattle.editing.specs.Editing.{editing};
+ghost use Rattle.editing.specs.Calls.{stateOf};
+ghost use Rattle.editing.specs.Calls.{outcomeOf};
 ghost use Rattle.lent_history.specs.Lent.{left};
 
 // `history::undo`, with palette count and handle lent.

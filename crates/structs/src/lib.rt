@@ -2,11 +2,11 @@
 // above; here is what they do with one, and with a slice.
 mod slices;
 
-use apply::change_of;
-use apply::column;
-use apply::new_of;
-use apply::old_of;
-use apply::row;
+use pixels::change_of;
+use pixels::column;
+use pixels::new_of;
+use pixels::old_of;
+use pixels::row;
 ghost use mathlib.Core.Path.{_≡_};
 ghost use Rattle.structs.specs.Struct.{packedOf, structOf};
 pub use slices::lesser;

@@ -1,7 +1,7 @@
 // Whether a tile, flipped, is another one, and by which flip first.
 use crate::reading::turn;
-use apply::both;
 use ints::same;
+use pixels::both;
 ghost use mathlib.Core.Path.{_≡_};
 ghost use mathlib.Core.Bool.{false};
 ghost use Prim.Native.Nat.{_+_, _≤_};

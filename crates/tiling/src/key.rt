@@ -1,6 +1,6 @@
 // A number for a tile that flips keep: tiles with different numbers are no flips of each other.
 use crate::reading::turn;
-use apply::bits_of;
+use pixels::bits_of;
 ghost use mathlib.Core.Path.{_≡_};
 ghost use Prim.Native.Nat.{_+_, _≤_, _<_, _^_};
 ghost use lib.ListN.{length};

@@ -42,7 +42,7 @@ use denote.Triple.Table.{entered, cited}
 use denote.Triple.Walked.{says, Stays, stay-ref, stay-none-slice, walkOf, goes-ref, goes-none-slice, Walks, ends-at, walked, walk-meets}
 use denote.Exit.{yes}
 use Rattle.ledger.specs.Journal.{markOf}
-use Rattle.history.specs.Looks.{outcomeOf}
+use Rattle.editing.specs.Calls.{outcomeOf}
 use Rattle.limits.specs.declared.Answer.{Answer}
 use Rattle.history.specs.declared.Marked.{Marked}
 use Rattle.ledger.specs.declared.Handle.{Handle}
