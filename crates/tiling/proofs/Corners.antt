@@ -16,6 +16,11 @@ less-one : (t w : ℕ) → 0 < t → (t - 1) * w + w ≡ t * w
 less-one zero w h = absurd (not-suc-le-zero h)
 less-one (suc t) w h = let e : suc t - 1 ≡ t = omega arith in rw e (omega arith)
 
+-- a tile that stands by itself lies inside
+pub alone-lies : (t : ℕ) → Lies (t * t) 0 t t
+alone-lies zero = omega arith
+alone-lies (suc t) = omega (arith, less-one (suc t) (suc t) (omega arith))
+
 -- a factor of a number below a product is positive
 pub right-positive : (a b c : ℕ) → c < a * b → 0 < b
 right-positive a zero c h = absurd (omega arith)

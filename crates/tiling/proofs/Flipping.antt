@@ -61,6 +61,11 @@ module _ (t : ℕ) where
   unfolding tileSeen rowSeen grid turned
   seen-flipped l corner stride fh fv = flipped-grid fh fv (λ y x. getD l (corner + y * stride + x) (pos 0))
 
+  -- a tile that stands by itself
+  pub alone-flipped : (l : List ℤ) (fh fv : Bool) → tileSeen l 0 t t fh fv ≡ flipped t fh fv l
+  unfolding tileSeen rowSeen grid flipped
+  alone-flipped l fh fv = grid-same t (λ y x. getD l (0 + turned fv t y * t + turned fh t x) (pos 0)) (λ y x. getD l (turned fv t y * t + turned fh t x) (pos 0)) (λ y x h k. ap (λ (p : ℕ). getD l p (pos 0)) (omega arith))
+
   -- ---- flips keep the key
   pub key-flipped : (fh fv : Bool) (l : List ℤ) → keyOf t (flipped t fh fv l) ≡ keyOf t l
   unfolding keyOf

@@ -37,6 +37,9 @@ flat-range f g s (suc n) e =
     sucs : (s i : ℕ) → suc s + i ≡ s + suc i
     sucs s i = omega arith
 
+pub rows-same : {A : Type 0} (f g : ℕ → List A) (n : ℕ) → ((i : ℕ) → i < n → f i ≡ g i) → flatMap f (range 0 n) ≡ flatMap g (range 0 n)
+rows-same f g n e = flat-range f g 0 n (λ i b. rw (zero-add i) (e i b))
+
 -- the element of rows of t each
 rows-from : {A : Type 0} (f : ℕ → List A) (t : ℕ) (e : (y : ℕ) → length (f y) ≡ t) (d : A) (s n y x : ℕ) → y < n → x < t → getD (flatMap f (range s n)) (y * t + x) d ≡ getD (f (s + y)) x d
 unfolding range flatMap
@@ -63,7 +66,7 @@ module _ (t : ℕ) where
 
   pub grid-same : (f g : ℕ → ℕ → ℤ) → ((y x : ℕ) → y < t → x < t → f y x ≡ g y x) → grid t f ≡ grid t g
   unfolding grid
-  grid-same f g e = flat-range (λ y. map (f y) (range 0 t)) (λ y. map (g y) (range 0 t)) 0 t (λ y h. rw (zero-add y) (first-same (f y) (g y) t (λ x k. e y x h k)))
+  grid-same f g e = rows-same (λ y. map (f y) (range 0 t)) (λ y. map (g y) (range 0 t)) t (λ y h. first-same (f y) (g y) t (λ x k. e y x h k))
 
   -- a list of t × t is the grid of its elements
   pub grid-of : (d : ℤ) (l : List ℤ) → length l ≡ t * t → grid t (λ y x. getD l (y * t + x) d) ≡ l

@@ -32,11 +32,16 @@ module _ (w t : ℕ) (l : List ℤ) where
   unfolding firstsBelow
   firsts-old c e = rw (ne-eqb (first c) c e)
 
-  rank-new : (c : ℕ) → first c ≡ c → rank (suc c) ≡ suc (rank c)
+  pub rank-new : (c : ℕ) → first c ≡ c → rank (suc c) ≡ suc (rank c)
   rank-new c e = ap length (firsts-new c e) ∙ length-append (firsts c) (c ∷ []) ∙ omega arith
 
-  rank-old : (c : ℕ) → (first c ≡ c → ⊥) → rank (suc c) ≡ rank c
+  pub rank-old : (c : ℕ) → (first c ≡ c → ⊥) → rank (suc c) ≡ rank c
   rank-old c e = ap length (firsts-old c e)
+
+  pub rank-le : (c : ℕ) → rank c ≤ c
+  unfolding firstsBelow
+  rank-le zero = omega arith
+  rank-le (suc c) = elim (ℕ-discrete (first c) c) [ yes e ↦ omega (arith, rank-new c e, rank-le c) | no e ↦ omega (arith, rank-old c e, rank-le c) ]
 
   -- the element at a rank
   pub record At (c i f : ℕ) : Type 0 where

@@ -5,7 +5,7 @@ use Prim.Native.Nat.{ℕ, zero, suc, _+_, _*_, _-_, _<_, _≤_}
 use native.Mathlib.Nat.{add-zero, zero-add, add-suc, le-of-suc-le-suc, not-suc-le-zero, le-antisymm}
 use native.Mathlib.Omega.{arith}
 use borrow.Rule.Slice.PartMut.{putMid}
-use lib.ListN.{length, set, take, drop, getD, length-map, length-set, drop-of-length-le}
+use lib.ListN.{length, set, take, drop, getD, length-map, length-set, drop-of-length-le, List·getD-append}
 use lib.Seq.{getD-append-add, getD-drop}
 use Rattle.lists.specs.Lists.{range, over}
 use Rattle.lists.proofs.Over.{over-none, over-set, over-lent, length-over}
@@ -61,6 +61,12 @@ module _ {A : Type 0} where
         let n : i ≡ length f + 0 = omega (arith, length-first i) in
         ap (λ (l : List A). getD l i d) (p .written) ∙ ap (λ (j : ℕ). getD (f ++ drop (length f) out₀) j d) n ∙ getD-append-add f (drop (length f) out₀) 0 d ∙ getD-drop (length f) out₀ 0 d
         ∙ ap (λ (j : ℕ). getD out₀ j d) (sym n)
+
+    pub row-front : {out₀ out : List A} {i : ℕ} (d : A) → Row out₀ out i → (j : ℕ) → j < i → getD out j d ≡ g j
+    unfolding over
+    row-front {out₀} {out} {i} d p j h =
+        let f : List A = map g (range 0 i) in
+        ap (λ (l : List A). getD l j d) (p .written) ∙ List·getD-append f (drop (length f) out₀) d j (omega (arith, length-first i)) ∙ first-at i j d h
 
     -- written over all of it
     pub row-whole : {out₀ out : List A} {i : ℕ} → Row out₀ out i → (n : ℕ) → length out₀ ≡ n → i ≤ n → n ≤ i → out ≡ map g (range 0 n)

@@ -1,0 +1,12 @@
+// Tiles: `flip` and `extract` of tiles.rs, the latter at tolerance 0.
+mod cutting;
+mod flips;
+
+pub use cutting::extract;
+pub use flips::flip;
+
+// How many tiles and map entries `extract` made.
+pub enum Extraction {
+    Made { tiles: usize, entries: usize },
+    Refused(u8),
+}
