@@ -1,8 +1,8 @@
 -- What the calls answer, by what their tests find. Assumes nothing.
-use mathlib.Core.Path.{_≡_, refl, sym, ap, _∙_}
+use mathlib.Core.Path.{_≡_}
 use mathlib.Core.Bool.{Bool}
-use mathlib.Core.List.{List, [], _∷_, _++_}
-use Prim.Native.Nat.{ℕ, _+_, _*_, _%_, _<_, _≤_}
+use mathlib.Core.List.{List}
+use Prim.Native.Nat.{ℕ, _*_, _%_, _<_, _≤_}
 use native.Mathlib.Omega.{arith}
 use borrow.Author.Tests.{lt-ltb, le-ltb, eq-eqb, ne-eqb}
 use lib.IntN.{ℤ}
@@ -14,13 +14,11 @@ use Rattle.lists.specs.Lists.{over}
 use Rattle.sheet.specs.Sheet.{Sheet}
 use Rattle.sheet.specs.Checks.{WellFormed, Judged}
 use Rattle.sheet.proofs.Judging.{past-sheet, refused-sheet}
-use Rattle.tiling.specs.Tile.{flipped}
 use Rattle.tiling.specs.Cells.{Tiled, cellCount}
 use Rattle.tiling.specs.Seen.{tileSeen}
 use Rattle.tiling.specs.Extract.{extractOf, tilesOf, mapOf}
 use Rattle.tiling.specs.Ids.{firstsBelow}
 use Rattle.tiling.proofs.Flipping.{alone-flipped}
-use Rattle.tiles.specs.declared.Extraction.{Extraction}
 use Rattle.tiles.specs.declared.Extraction.the-variants.{Made, Refused}
 use Rattle.tiles.specs.Flips.{flipOf}
 use Rattle.tiles.specs.Extracts.{Left, left, sideChecks, extractedIn, extractCall}

@@ -1,6 +1,6 @@
 -- The tiles and the map as the loops lay them out, and that these are `extract`'s. Assumes nothing.
 use mathlib.Core.Path.{_≡_, refl, sym, ap, _∙_}
-use mathlib.Core.Bool.{Bool, true, false, cond}
+use mathlib.Core.Bool.{cond}
 use mathlib.Core.List.{List, [], _∷_, _++_, map, flatMap}
 use Prim.Native.Nat.{ℕ, zero, suc, _+_, _-_, _*_, _/_, _%_, _<_, _≤_, _^_}
 use native.Mathlib.Decide.{ℕ-discrete}
@@ -16,13 +16,13 @@ use Rattle.lists.proofs.Collect.{flatMap-append, flatMap-one, length-flatMap, l
 use Rattle.tiling.specs.Tile.{flips, flipAt}
 use Rattle.tiling.specs.Cells.{Tiled, cellCount, cellOf, cornerOf, orderOf, firstCell}
 use Rattle.tiling.specs.Seen.{tileAt}
-use Rattle.tiling.specs.Extract.{Entry, Extracted, entryOf, extractOf, tilesOf, flatEntry, mapOf}
+use Rattle.tiling.specs.Extract.{entryOf, extractOf, tilesOf, flatEntry, mapOf}
 use Rattle.tiling.specs.Ids.{firstsBelow, tileId, entryAt, idOf}
 use Rattle.tiling.proofs.Rows.{first-at}
 use Rattle.tiling.proofs.Grids.{rows-same}
 use Rattle.tiling.proofs.Corners.{length-cell, cell-seen, count-area, count-small, area}
 use Rattle.tiling.proofs.Firsts.{first-le, first-flip}
-use Rattle.tiling.proofs.Ranks.{firsts-new, firsts-old, rank-new, rank-old, rank-le, firsts-at, id-new, id-old}
+use Rattle.tiling.proofs.Ranks.{firsts-new, firsts-old, rank-new, rank-le, firsts-at, id-new, id-old}
 use Rattle.tiling.proofs.Agreeing.{extract-is}
 use Rattle.tiles.specs.Numbering.{flatId}
 

@@ -15,7 +15,7 @@ use Rattle.tiling.specs.Ids.{firstsBelow, tileId, idOf}
 use Rattle.tiling.proofs.Rows.{Row, row-none, row-next, row-behind, row-front, row-whole, first-at, length-first}
 use Rattle.tiling.proofs.Grids.{first-same}
 use Rattle.tiling.proofs.Firsts.{first-le, first-flip, first-first, order-self}
-use Rattle.tiling.proofs.Ranks.{firsts-new, firsts-old, rank-new, rank-old}
+use Rattle.tiling.proofs.Ranks.{rank-new, rank-old}
 use Rattle.tiles.specs.Numbering.{Coded, ownBelow, numbered}
 
 module _ (s₀ : List ℕ) where

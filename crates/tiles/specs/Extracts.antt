@@ -1,6 +1,6 @@
 -- `extract` of tiles.rs at tolerance 0 as a call: its checks, in document 01's order, and its answer. Definitions only. Assumes nothing.
 use Prim.Native.Nat.{ℕ, _*_, _%_}
-use mathlib.Core.Bool.{Bool, not}
+use mathlib.Core.Bool.{not}
 use mathlib.Core.List.{List, [], _∷_, _++_}
 use lib.Dec.{ltb, eqb}
 use lib.IntN.{ℤ}

@@ -8,7 +8,7 @@ use tiling::copy_tile;
 use tiling::corner_of;
 use tiling::first_cells;
 ghost use mathlib.Core.Path.{_≡_};
-ghost use mathlib.Core.List.{[], _∷_, map, flatMap};
+ghost use mathlib.Core.List.{map, flatMap};
 ghost use Prim.Native.Nat.{ℕ, _*_, _/_, _≤_, _<_, _^_};
 ghost use lib.ListN.{length, getD};
 ghost use Rattle.lists.specs.Lists.{range, over};

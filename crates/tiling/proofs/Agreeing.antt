@@ -1,26 +1,23 @@
 -- `extract`'s pass over the cells gives the tiles of the first cells, and for each cell the tile of its first cell and the order in which it is it. Assumes nothing.
-use mathlib.Core.Path.{_≡_, refl, sym, ap, _∙_}
-use mathlib.Core.Bool.{Bool, true, false, cond}
+use mathlib.Core.Path.{_≡_, sym, ap, _∙_}
+use mathlib.Core.Bool.{false}
 use mathlib.Core.List.{List, [], _∷_, _++_, map, map-append}
-use Prim.Native.Nat.{ℕ, zero, suc, _+_, _*_, _<_, _≤_}
-use native.Mathlib.Nat.{add-zero, add-suc, suc-add, zero-add}
+use Prim.Native.Nat.{ℕ, zero, suc, _+_, _<_}
+use native.Mathlib.Nat.{add-zero, zero-add}
 use native.Mathlib.Numerals.{add-one}
 use native.Mathlib.Decide.{decLt, ℕ-discrete}
 use native.Mathlib.Omega.{arith}
 use borrow.Author.Tests.{lt-ltb, le-ltb}
-use lib.Dec.{ltb}
 use lib.IntN.{ℤ}
 use lib.ListN.{length, getD, length-map}
 use Rattle.lists.specs.Lists.{range}
-use Rattle.lists.proofs.Collect.{range-next}
 use Rattle.tiling.specs.Tile.{position, orderTo, isFlipOf}
 use Rattle.tiling.specs.Cells.{cellCount, cellOf, cells, orderOf, firstCell}
-use Rattle.tiling.specs.Extract.{Entry, Extracted, entryOf, entered, enteredAll, extractOf}
+use Rattle.tiling.specs.Extract.{Extracted, entered, enteredAll, extractOf}
 use Rattle.tiling.specs.Ids.{firstsBelow, tileId, entryAt}
 use Rattle.tiling.proofs.Rows.{getD-map, first-next}
 use Rattle.tiling.proofs.Positions.{position-is, position-out}
-use Rattle.tiling.proofs.Orders.{order-most}
-use Rattle.tiling.proofs.Firsts.{first-le, first-flip, first-first, first-is, order-self}
+use Rattle.tiling.proofs.Firsts.{first-le, first-flip, first-is, order-self}
 use Rattle.tiling.proofs.Ranks.{firsts-new, firsts-old, firsts-from, id-new, id-at, id-only}
 
 module _ (w t : ℕ) (l : List ℤ) where

@@ -1,24 +1,21 @@
 -- The chains of first cells: what a walk along one has ruled out, and a cell entered. Assumes nothing.
 use mathlib.Core.Path.{_≡_, refl, sym, ap, _∙_}
-use mathlib.Core.Bool.{Bool, true, false, _&&_, cond}
-use mathlib.Core.List.{List, map}
-use Prim.Native.Nat.{ℕ, zero, suc, _+_, _-_, _*_, _<_, _≤_}
-use native.Mathlib.Numerals.{add-one}
-use native.Mathlib.Decide.{decLt, decLe, ℕ-discrete}
+use mathlib.Core.Bool.{Bool, true, false, _&&_}
+use mathlib.Core.List.{List}
+use Prim.Native.Nat.{ℕ, zero, suc, _+_, _*_, _<_, _≤_}
+use native.Mathlib.Decide.{decLt, ℕ-discrete}
 use native.Mathlib.Nat.{not-suc-le-zero}
 use native.Mathlib.Omega.{arith}
-use borrow.Author.Tests.{eq-eqb, ne-eqb, eqb-true, eqb-false}
+use borrow.Author.Tests.{eq-eqb, eqb-true}
 use lib.Dec.{eqb}
 use lib.IntN.{ℤ}
-use lib.ListN.{length, getD, set, length-set}
-use lib.Seq.{getD-set-same, getD-set-other}
-use Rattle.lists.specs.Lists.{range}
+use lib.ListN.{getD}
 use Rattle.ints.proofs.Back.{never}
-use Rattle.tiling.specs.Cells.{cellOf, orderOf, firstCell, codeOf}
-use Rattle.tiling.specs.Table.{keyOf, chainOf, scaled, foundIn, headIn, nextIn, Holds, bucketOf, lastOn, Chained}
+use Rattle.tiling.specs.Cells.{orderOf, firstCell, codeOf}
+use Rattle.tiling.specs.Table.{chainOf, scaled, nextIn, bucketOf, lastOn, Chained}
 use Rattle.tiling.proofs.Positions.{cases}
 use Rattle.tiling.proofs.Sameness.{and-left, and-right}
-use Rattle.tiling.proofs.Firsts.{first-le, first-flip, first-first, order-key, code-found, code-self, code-is-self}
+use Rattle.tiling.proofs.Firsts.{first-le, first-flip, first-first, order-key, code-found, code-self}
 
 module _ (w t : ℕ) (l : List ℤ) (n : ℕ) where
   abbrev first : ℕ → ℕ

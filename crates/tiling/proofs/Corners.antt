@@ -1,5 +1,5 @@
 -- The cells of a sheet: how many there are, and where each lies. Assumes nothing.
-use mathlib.Core.Path.{_≡_, refl, sym, ap, _∙_}
+use mathlib.Core.Path.{_≡_, ap}
 use mathlib.Core.List.{List}
 use Prim.Native.Nat.{ℕ, zero, suc, _+_, _-_, _*_, _/_, _%_, _<_, _≤_, _^_}
 use native.Mathlib.Nat.{mul-le-mul, mul-le-mul-right, mod-lt, div-add-mod', div-lt-iff-lt-mul, not-suc-le-zero}
@@ -73,11 +73,11 @@ module _ {w h t : ℕ} {l : List ℤ} (d : Tiled w h t l) where
     pub fits : t ≤ w
     fits = omega (arith, across, mul-le-mul-right t wide)
 
-    row : c / (w / t) * t + t ≤ h
+    pub row : c / (w / t) * t + t ≤ h
     unfolding cellCount
     row = omega (arith, down, mul-le-mul-right t (div-lt-iff-lt-mul wide .1 b))
 
-    column : c % (w / t) * t + t ≤ w
+    pub column : c % (w / t) * t + t ≤ w
     column = omega (arith, across, mul-le-mul-right t (mod-lt c wide))
 
     pub corner-lies : Lies (length l) (cornerOf w t c) w t

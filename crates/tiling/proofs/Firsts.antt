@@ -1,22 +1,21 @@
 -- The first cell that a cell is a flip of. Assumes nothing.
-use mathlib.Core.Path.{_≡_, refl, sym, ap, _∙_}
-use mathlib.Core.Bool.{Bool, true, false}
+use mathlib.Core.Path.{_≡_, _∙_}
+use mathlib.Core.Bool.{Bool}
 use mathlib.Core.List.{List}
 use Prim.Native.Nat.{ℕ, _+_, _*_, _<_, _≤_}
 use native.Mathlib.Nat.{le-antisymm}
 use native.Mathlib.Decide.{decLt, ℕ-discrete}
 use native.Mathlib.Omega.{arith}
-use borrow.Author.Tests.{lt-ltb, le-ltb, ltb-true, ltb-false}
+use borrow.Author.Tests.{ltb-true, ltb-false}
 use lib.IntN.{ℤ}
-use lib.ListN.{length}
 use Rattle.lists.specs.Lists.{range}
 use Rattle.lists.proofs.Collect.{length-range}
-use Rattle.tiling.specs.Tile.{position, orderTo, isFlipOf}
+use Rattle.tiling.specs.Tile.{isFlipOf}
 use Rattle.tiling.specs.Cells.{cellOf, orderOf, firstCell, codeOf}
 use Rattle.tiling.specs.Table.{keyOf}
 use Rattle.tiling.proofs.Rows.{range-at}
-use Rattle.tiling.proofs.Positions.{position-le, position-has, position-none, position-is}
-use Rattle.tiling.proofs.Orders.{FlipOf, order-flip, order-most, flip-order, flip-trans, flip-sym, flip-self, flip-key}
+use Rattle.tiling.proofs.Positions.{position-le, position-has, position-none}
+use Rattle.tiling.proofs.Orders.{FlipOf, order-flip, flip-order, flip-trans, flip-sym, flip-self, flip-key}
 use Rattle.tiling.proofs.Corners.{length-cell}
 
 module _ (w t : ℕ) (l : List ℤ) where

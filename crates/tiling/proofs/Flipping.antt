@@ -1,12 +1,11 @@
 -- The flips of a tile: one after the other they are one flip, and each undoes itself. Assumes nothing.
-use mathlib.Core.Path.{_≡_, refl, sym, ap, _∙_}
-use mathlib.Core.Bool.{Bool, true, false, not, cond}
-use mathlib.Core.List.{List, map, flatMap}
-use Prim.Native.Nat.{ℕ, _+_, _-_, _*_, _<_, _%_, _^_}
+use mathlib.Core.Path.{_≡_, refl, ap, _∙_}
+use mathlib.Core.Bool.{Bool, true, false, not}
+use mathlib.Core.List.{List}
+use Prim.Native.Nat.{ℕ, _+_, _*_, _<_, _%_, _^_}
 use native.Mathlib.Omega.{arith}
 use lib.IntN.{ℤ, pos}
 use lib.ListN.{length, getD}
-use Rattle.lists.specs.Lists.{range}
 use Rattle.tiling.specs.Tile.{grid, turned, flipped}
 use Rattle.tiling.specs.Seen.{rowSeen, tileSeen, tileAt}
 use Rattle.tiling.specs.Table.{numberOf, keyOf}

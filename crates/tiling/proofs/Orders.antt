@@ -1,24 +1,22 @@
 -- The first order in which a tile is another one, and that being a flip of is an equivalence. Assumes nothing.
 use mathlib.Core.Path.{_≡_, refl, sym, ap, _∙_}
-use mathlib.Core.Bool.{Bool, true, false, cond}
-use mathlib.Core.List.{List, [], _∷_}
-use Prim.Native.Nat.{ℕ, zero, suc, _+_, _*_, _<_, _≤_}
+use mathlib.Core.Bool.{Bool, true, false}
+use mathlib.Core.List.{List}
+use Prim.Native.Nat.{ℕ, _*_, _<_, _≤_}
 use native.Mathlib.Decide.{decLe}
 use native.Mathlib.Omega.{arith}
-use borrow.Author.Tests.{lt-ltb, ltb-true}
-use lib.Dec.{ltb}
 use lib.IntN.{ℤ}
-use lib.ListN.{length, getD}
+use lib.ListN.{length}
 use Rattle.lists.specs.Lists.{range}
 use Rattle.lists.proofs.Collect.{length-range}
 use Rattle.ints.proofs.Back.{never}
-use Rattle.tiling.specs.Tile.{flipped, flips, flipAt, turnedBy, sameTile, position, orderTo, isFlipOf}
+use Rattle.tiling.specs.Tile.{flipped, flips, flipAt, turnedBy, sameTile, position, orderTo}
 use Rattle.tiling.proofs.Rows.{range-at}
-use Rattle.tiling.proofs.Sameness.{same-equal, same-self, equal-same}
+use Rattle.tiling.proofs.Sameness.{same-equal, equal-same}
 use Rattle.tiling.specs.Seen.{tileSeen, tileAt}
 use Rattle.tiling.specs.Table.{keyOf}
 use Rattle.tiling.proofs.Flipping.{joint, flipped-twice, flipped-none, flipped-back, seen-flipped, key-flipped}
-use Rattle.tiling.proofs.Positions.{position-le, position-has, position-none, position-is}
+use Rattle.tiling.proofs.Positions.{position-le, position-has, position-none}
 
 -- the order of a flip
 abbrev pub orderFor : Bool → Bool → ℕ

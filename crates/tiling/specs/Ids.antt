@@ -1,12 +1,11 @@
 -- The tiles of the cells by their first cells: what `extract` numbers. Definitions only. Assumes nothing.
 use Prim.Native.Nat.{ℕ, zero, suc, _+_, _*_}
 use mathlib.Core.Bool.{cond}
-use mathlib.Core.List.{List, [], _∷_, _++_, map}
+use mathlib.Core.List.{List, [], _∷_, _++_}
 use lib.Dec.{eqb}
 use lib.IntN.{ℤ}
 use lib.ListN.{length}
-use Rattle.lists.specs.Lists.{range}
-use Rattle.tiling.specs.Cells.{cellCount, cellOf, orderOf, firstCell}
+use Rattle.tiling.specs.Cells.{orderOf, firstCell}
 use Rattle.tiling.specs.Extract.{Entry, entryOf}
 
 -- the cells below c that are their own first cell, in order
