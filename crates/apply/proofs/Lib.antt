@@ -3,3 +3,4 @@ pub mod Bare
 pub mod Left
 pub mod Marking
 pub mod Redoing
+pub mod Together

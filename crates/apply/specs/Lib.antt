@@ -1,1 +1,2 @@
 pub mod Redoable
+pub mod Apart

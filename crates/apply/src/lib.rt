@@ -2,10 +2,15 @@
 // what they need; the calls that answer every input stand in the crates above.
 //
 // A list of changes is lent as one number of 64 bits a change.
+mod apart;
 mod own;
 mod redo;
 mod remap;
 
+pub use apart::clear_marks;
+pub use apart::finish_edit;
+pub use apart::head_no;
+pub use apart::left_no;
 pub use own::own_no;
 pub use redo::fill_edit;
 pub use redo::redo_edit;

@@ -28,7 +28,7 @@ ghost use Rattle.edits.specs.Change.{Change, unpacked};
 ghost use Rattle.edits.specs.Checks.{Permitted, permittedOf, sameRgb, ownChecks};
 
 // Number 11 of an entry: on replay, whether its colour is not the one that the edit says.
-fn is_stale(palette: &[u8], index: usize, c: Rgb, replay: bool) -> bool
+pub(crate) fn is_stale(palette: &[u8], index: usize, c: Rgb, replay: bool) -> bool
     requires { ⌜ 3 * index + 3 ≤ length (now palette) ⌝ }
     ensures { λ r. ⌜ r ≡ replay && not (sameRgb (rgbAt (now (palette .entry)) index) c) ⌝ }
 {
@@ -36,7 +36,7 @@ fn is_stale(palette: &[u8], index: usize, c: Rgb, replay: bool) -> bool
 }
 
 // The number of the first check that applies to a set, or 0: "7, 11, 10".
-fn set_no(
+pub(crate) fn set_no(
     k: usize,
     palette: &[u8],
     limited: bool,
@@ -62,7 +62,7 @@ fn set_no(
 }
 
 // The number of the first check that applies to an add, or 0: "8, 10".
-fn add_no(k: usize, limited: bool, permitted: &[u8], c: Rgb) -> u8
+pub(crate) fn add_no(k: usize, limited: bool, permitted: &[u8], c: Rgb) -> u8
     ensures { λ r. ⌜ ((w h : ℕ) (palette : List ℕ) (lab : List Float) (indices : List ℤ) (replay : Bool) (cs : List Change) → r ≡ firstOf (ownChecks replay (sheetOf w h k palette lab indices) (permittedOf limited (now (permitted .entry))) (PaletteAdd c) cs)) ⌝ }
 {
     if MAX_ENTRIES <= k {

@@ -8,6 +8,7 @@ pub mod Filled
 pub mod OnTheSheet
 pub mod Putting
 pub mod Written
+pub mod Framing
 pub mod Finding
 pub mod Holds
 pub mod Parts

@@ -2,3 +2,4 @@ pub mod Bytes
 pub mod Record
 pub mod Fit
 pub mod Found
+pub mod Frame

@@ -3,15 +3,18 @@
 //
 // specs/ has the four forms and their readings (Record), and what a record can hold (Fit). proofs/ReadAgain
 // says that what was written is read, from both ends.
+mod around;
 mod bytes;
 mod find;
 mod write;
 
+pub use around::write_around;
 pub use bytes::get_f64;
 pub use bytes::get_u32;
 pub use bytes::get_u64;
 pub use find::find_back;
 pub use find::find_forth;
+pub use write::put_change;
 pub use write::write_add;
 pub use write::write_pixels;
 pub use write::write_record;

@@ -22,7 +22,7 @@ ghost use Rattle.records.specs.Record.{changeBytes, labBytes, recordLeng
 ghost use Rattle.records.specs.Fit.{Numbers, Writable, rowsOf};
 
 // Writes two bytes at the front: the kind, and the tool or the index.
-fn put_kind(part: &mut [u8], kind: u8, second: u8)
+pub(crate) fn put_kind(part: &mut [u8], kind: u8, second: u8)
     requires { ⌜ 2 ≤ length (now part) ⌝ }
     ensures { λ _. ⌜ now (part .exit) ≡ over (kind ∷ second ∷ []) (now (part .entry)) ⌝ }
 {
@@ -30,7 +30,7 @@ fn put_kind(part: &mut [u8], kind: u8, second: u8)
     part[1] = second;
 }
 
-fn put_rgb(part: &mut [u8], at: usize, c: Rgb)
+pub(crate) fn put_rgb(part: &mut [u8], at: usize, c: Rgb)
     requires { ⌜ at + 3 ≤ length (now part) ⌝ }
     ensures { λ _. ⌜ now (part .exit) ≡ splice (now (part .entry)) at (bytesOf c) ⌝ }
 {
@@ -39,7 +39,7 @@ fn put_rgb(part: &mut [u8], at: usize, c: Rgb)
     part[at + 2] = c.b;
 }
 
-fn put_lab(part: &mut [u8], at: usize, x: Lab)
+pub(crate) fn put_lab(part: &mut [u8], at: usize, x: Lab)
     requires { ⌜ at + 24 ≤ length (now part) ⌝ }
     requires { ⌜ Numbers x ⌝ }
     ensures { λ _. ⌜ now (part .exit) ≡ splice (now (part .entry)) at (labBytes x) ⌝ }
@@ -47,6 +47,14 @@ fn put_lab(part: &mut [u8], at: usize, x: Lab)
     put_f64(part, at, x.l);
     put_f64(part, at + 8, x.a);
     put_f64(part, at + 16, x.b);
+}
+
+// Writes a change from `at` on.
+pub fn put_change(part: &mut [u8], at: usize, c: u64)
+    requires { ⌜ at + 8 ≤ length (now part) ⌝ }
+    ensures { λ _. ⌜ now (part .exit) ≡ splice (now (part .entry)) at (changeBytes (unpacked c)) ⌝ }
+{
+    put_u64(part, at, c);
 }
 
 // Writes the changes of a list from `at` on.

@@ -1,0 +1,9 @@
+pub mod Again
+pub mod AsShared
+pub mod Lent
+pub mod Told
+pub mod Checking
+pub mod Painting
+pub mod Putting
+pub mod Whole
+pub mod Journaled
