@@ -18,10 +18,11 @@ module _ {B : Type 0} {room : ℕ} {s : List ℕ} {leaves call : List ℕ → B}
       → ((out after : List ℕ) → length out ≡ room → leaves after ≡ call out → leaves′ after ≡ call′ out) → InScratch n room s leaves′ call′
   scratch-then c f = record { fits = c .fits; held = c .held; value = λ out e. f out _ e (c .value out e) }
 
-  -- the result can be copied, and what it leaves then
-  module _ {n m : ℕ} (out : List ℕ) (c : InScratch n room s leaves call) (e : room ≡ length out) (q : m ≡ n) where
-    pub copy-fits : (m ≤ length s) × (m ≤ length out)
+  module _ {n m : ℕ} (c : InScratch n room s leaves call) (q : m ≡ n) where
+    -- the result can be copied
+    pub copy-fits : (m ≤ length s) × (m ≤ room)
     copy-fits = let a = c .fits in let b = c .held in (omega arith, omega arith)
 
-    pub copied : {after : List ℕ} → after ≡ over (take m s) out → leaves after ≡ call out
-    copied p = rw (p, q) (c .value out (sym e))
+    -- and what it leaves then
+    pub copied : (out : List ℕ) {after : List ℕ} → room ≡ length out → after ≡ over (take m s) out → leaves after ≡ call out
+    copied out e p = rw (p, q) (c .value out (sym e))

@@ -4,6 +4,7 @@ use mathlib.Core.Bool.{true, false}
 use mathlib.Core.List.{List, [], _∷_, _++_, map}
 use Prim.Native.Nat.{ℕ, _≤_, _<_}
 use native.Mathlib.Omega.{arith}
+use native.Mathlib.Decide.{decLt}
 use borrow.Author.Tests.{lt-ltb, le-ltb}
 use lib.Dec.{ltb}
 use lib.IntN.{ℤ, pos}
@@ -11,6 +12,7 @@ use lib.ListN.{length, getD, take, length-map}
 use Rattle.limits.specs.Numbers.{noSpace}
 use Rattle.limits.specs.Checks.{Check, _when_, firstOf, refusedOr}
 use Rattle.limits.specs.Answer.{filled}
+use Rattle.limits.specs.declared.Counted.{Counted}
 use Rattle.limits.specs.declared.Counted.the-variants as counted
 use Rattle.limits.proofs.First.{first-past, first-here, refused-first}
 use Rattle.lists.specs.Lists.{over}
@@ -21,6 +23,9 @@ use Rattle.selection.specs.Selection.{containsI}
 use Rattle.sheet.specs.Sheet.{Sheet}
 use Rattle.edits.specs.Change.{Change, packed}
 use Rattle.changes.specs.Normal.{Front}
+use Rattle.changes.specs.Listed.{handed}
+use Rattle.changes.proofs.Fronts.{front-within}
+use Rattle.changes.proofs.Handing.{handed-full, handed-done}
 use Rattle.flood.specs.Flood.{floodOf}
 use Rattle.selection.specs.Region.{regionIn}
 use Rattle.fill.specs.Fill.{startOf, fillOf, fillChecks, floodFillOf}
@@ -60,11 +65,18 @@ module _ (s : Sheet) (given : Area) (x y index : ℤ) (room : ℕ) (out : List �
     length-result : length result ≡ n
     length-result = sym (length-map result packed) ∙ f .count
 
-    pub answer-short : length out < n → filled (counted.Refused 16) out ≡ floodFillOf s given x y index room out
+    answer-short : length out < n → filled (counted.Refused 16) out ≡ floodFillOf s given x y index room out
     unfolding floodFillOf firstOf refusedOr
     answer-short h = rw (first-past (fillChecks s given x y room) last-check (sym e), lt-ltb (length out) (length result) (omega (arith, length-result)))
 
-    pub answer-filled : n ≤ length out → (after : List ℕ) → after ≡ over (take n scratch) out → filled (counted.Count n) after ≡ floodFillOf s given x y index room out
+    answer-filled : n ≤ length out → (after : List ℕ) → after ≡ over (take n scratch) out → filled (counted.Count n) after ≡ floodFillOf s given x y index room out
     unfolding floodFillOf firstOf refusedOr
     answer-filled h after q =
         rw (first-past (fillChecks s given x y room) last-check (sym e), le-ltb (length out) (length result) (omega (arith, length-result)), length-result, q, f .front)
+
+    -- by what was counted
+    pub answer-counted : {a : Counted} {after : List ℕ} → filled a after ≡ handed (take n scratch) out → filled a after ≡ floodFillOf s given x y index room out
+    answer-counted d = d ∙ elim (decLt (length out) n) [
+      | yes h ↦ sym (handed-full scratch out n (front-within f) h) ∙ answer-short h
+      | no h ↦ sym (handed-done scratch out n (front-within f) (omega arith) refl) ∙ answer-filled (omega arith) _ refl
+    ]

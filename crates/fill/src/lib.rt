@@ -1,5 +1,7 @@
 // The flood fill as a call: `flood_fill` of tools.rs.
 use changes::copy_out;
+use changes::count_of;
+use changes::counted;
 use flood::flood_in;
 use ints::from_zero;
 use ints::is_far;
@@ -25,13 +27,41 @@ ghost use Rattle.selection.specs.Selection.{containsI};
 ghost use Rattle.sheet.specs.Sheet.{sheetOf};
 ghost use Rattle.edits.specs.Change.{packed};
 ghost use Rattle.changes.specs.Normal.{Front};
+ghost use Rattle.changes.specs.Listed.{countOf, InScratch};
 ghost use Rattle.selection.specs.Region.{regionIn};
 ghost use Rattle.fill.specs.Fill.{offSheet, fillOf, floodFillOf, Fillable, Ready};
 
 // The changes that fill the area of the index at (x, y) inside the selection with another, row by row; none where
 // the point is outside, or has that index. The scratch has a place for each of the sheet's, or the answer is 16;
-// its contents are free. What lies past the result keeps its bits, and so does all of out where it has no room
-// for them: 16.
+// its contents are free. They are left at its front for a buffer of `room` places; 16 where that has fewer.
+pub fn flood_fill_in(
+    w: usize,
+    h: usize,
+    k: usize,
+    palette: &[u8],
+    lab: &[f64],
+    indices: &[i16],
+    area: Area,
+    x: i32,
+    y: i32,
+    index: i16,
+    scratch: &mut [u64],
+    room: usize,
+) -> Counted
+    ensures { λ r. ⌜ InScratch (countOf r) room (now (scratch .exit)) (filled r) (floodFillOf (sheetOf w h k (now (palette .entry)) (now (lab .entry)) (now (indices .entry))) area x y index (length (now (scratch .entry)))) ⌝ }
+    ensures { λ _. ⌜ length (now (scratch .exit)) ≡ length (now (scratch .entry)) ⌝ }
+{
+    let no = fill_no(w, h, k, palette, lab, indices, area, x, y, scratch.len());
+    if no != 0 {
+        return Counted::Refused(no);
+    }
+    let region = region_in(area, w, h);
+    let n = fill_in(w, h, indices, region, x, y, index, scratch);
+    counted(n, room)
+}
+
+// The same at the front of out. What lies past the result keeps its bits, and so does all of out where it has no
+// room for them: 16.
 pub fn flood_fill(
     w: usize,
     h: usize,
@@ -49,18 +79,22 @@ pub fn flood_fill(
     ensures { λ r. ⌜ filled r (now (out .exit)) ≡ floodFillOf (sheetOf w h k (now (palette .entry)) (now (lab .entry)) (now (indices .entry))) area x y index (length (now (scratch .entry))) (now (out .entry)) ⌝ }
     ensures { λ _. ⌜ length (now (scratch .exit)) ≡ length (now (scratch .entry)) ⌝ }
 {
-    let room = scratch.len();
-    let no = fill_no(w, h, k, palette, lab, indices, area, x, y, room);
-    if no != 0 {
-        return Counted::Refused(no);
-    }
-    let region = region_in(area, w, h);
-    let n = fill_in(w, h, indices, region, x, y, index, scratch);
-    if out.len() < n {
-        return Counted::Refused(NO_SPACE);
-    }
-    copy_out(scratch, n, out);
-    Counted::Count(n)
+    let r = flood_fill_in(
+        w,
+        h,
+        k,
+        palette,
+        lab,
+        indices,
+        area,
+        x,
+        y,
+        index,
+        scratch,
+        out.len(),
+    );
+    copy_out(scratch, count_of(r), out);
+    r
 }
 
 // The number of the first of 1 to 3, 15, 5 and the scratch's 16 that applies, or 0.

@@ -1,6 +1,6 @@
 -- What the calls answer, by what their tests find. Assumes nothing.
 use Prim.Native.Nat.{ℕ, zero, suc, _+_, _-_, _≤_, _<_}
-use mathlib.Core.Path.{_≡_, refl, sym, _∙_}
+use mathlib.Core.Path.{_≡_, refl, sym, ap, _∙_}
 use mathlib.Core.Bool.{Bool, true, false, not, cond, _&&_, _||_}
 use mathlib.Core.List.{List, [], _∷_, _++_, map}
 use native.Mathlib.Omega.{arith}
@@ -14,7 +14,7 @@ use mir.Syntax.{w32}
 use mir.Val.{ofZ, SFits}
 use Rattle.limits.specs.Numbers.{badSheet, offTheSheet, tooFar, noSpace}
 use Rattle.limits.specs.Checks.{Check, _when_, firstOf, refusedOr}
-use Rattle.limits.specs.Answer.{filled}
+use Rattle.limits.specs.Answer.{Filled, filled}
 use Rattle.limits.specs.declared.Counted.{Counted}
 use Rattle.limits.specs.declared.Counted.the-variants as counted
 use Rattle.limits.proofs.First.{first-past, first-here, past, past-both}
@@ -31,12 +31,13 @@ use Rattle.selection.specs.Calls.{tooLarge, farAway, shiftChecks, translatedOf}
 use Rattle.selection.proofs.Checks.{near}
 use Rattle.edits.specs.Change.{Change, packed}
 use Rattle.changes.specs.Normal.{normalizeOf, Front}
-use Rattle.changes.specs.Listed.{handed}
+use Rattle.changes.specs.Listed.{handed, countOf, InScratch}
 use Rattle.changes.proofs.Handing.{listed-refused, listed-done}
+use Rattle.changes.proofs.InScratch.{scratch-then}
 use Rattle.moves.specs.declared.Shifted.{Shifted}
 use Rattle.moves.specs.declared.Shifted.the-variants as shifted-of
 use Rattle.moves.specs.Blocks.{Movable}
-use Rattle.moves.specs.Moves.{unmoved, moveChanges, movedList, movedSelection, left, shiftedOf, leaves, moveChecks, moveCall}
+use Rattle.moves.specs.Moves.{unmoved, moveChanges, movedList, movedSelection, Left, left, shiftedCount, shiftedOf, leaves, moveChecks, moveCall}
 
 -- ---- shift 0
 zero-bits : (z : ℤ) → mag z < 2147483648 → eqb (ofZ w32 z) 0 ≡ eqZ z (pos 0)
@@ -217,6 +218,16 @@ shifted-count s e = rw e
 pub shifted-refused : (s : Chosen) {c : Counted} {n : ℕ} → c ≡ counted.Refused n → shifted-of.Refused n ≡ shiftedOf s c
 unfolding shiftedOf
 shifted-refused s e = rw e
+
+count-kept : (s : Chosen) (a : Counted) → shiftedCount (shiftedOf s a) ≡ countOf a
+unfolding shiftedOf
+count-kept s (counted.Count n) = refl
+count-kept s (counted.Refused n) = refl
+
+-- a list that is left in the scratch, beside a selection
+pub shifted-in : {a : Counted} (c : Chosen) {r : Shifted} {places : ℕ} {s : List ℕ} {call : List ℕ → Left} {listing : List ℕ → Filled ℕ} → InScratch (countOf a) places s (filled a) listing → r ≡ shiftedOf c a
+    → ((out after : List ℕ) → filled a after ≡ listing out → left r after ≡ call out) → InScratch (shiftedCount r) places s (left r) call
+shifted-in {a} c k e f = rw (ap shiftedCount e ∙ count-kept c a) (scratch-then k (λ out after h d. f out after d))
 
 module _ (t : Sheet) (s : Selection) (dx dy : ℤ) (room : ℕ) (out : List ℕ) where
   pub move-refused : {n : ℕ} → n ≡ firstOf (moveChecks t s dx dy room) → (n ≡ 0 → ⊥) → left (shifted-of.Refused n) out ≡ moveCall t s dx dy room out

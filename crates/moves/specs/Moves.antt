@@ -86,6 +86,11 @@ abbrev pub shiftedNumber : Shifted → ℕ
 shiftedNumber (shifted-of.Changes n s) = 0
 shiftedNumber (shifted-of.Refused n) = n
 
+-- how many changes it counts, none where it is a refusal
+abbrev pub shiftedCount : Shifted → ℕ
+shiftedCount (shifted-of.Changes n s) = n
+shiftedCount (shifted-of.Refused n) = 0
+
 -- a list that was counted, beside a selection
 unfoldable pub shiftedOf : Chosen → Counted → Shifted
 shiftedOf s (counted.Count n) = shifted-of.Changes n s

@@ -7,7 +7,10 @@ mod moving;
 mod pasting;
 
 pub use moving::move_selection;
+pub use moving::move_selection_in;
+pub use moving::shifted_count;
 pub use pasting::paste;
+pub use pasting::paste_in;
 use selection::Chosen;
 
 // What a call answers that puts a rectangle of indices somewhere: how many changes it makes, and the rectangle as

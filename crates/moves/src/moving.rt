@@ -2,8 +2,9 @@
 use crate::Shifted;
 use crate::blocks::clear_rows;
 use crate::blocks::land;
+use changes::copy_out;
+use changes::counted;
 use changes::differences;
-use changes::hand_out;
 use changes::lay;
 use limits::Counted;
 use limits::NO_SPACE;
@@ -18,8 +19,9 @@ ghost use Rattle.sheet.specs.Sheet.{sheetOf};
 ghost use Rattle.selection.specs.Calls.{shiftChecks};
 ghost use Rattle.edits.specs.Change.{packed};
 ghost use Rattle.changes.specs.Normal.{normalizeOf, Front};
+ghost use Rattle.changes.specs.Listed.{InScratch};
 ghost use Rattle.moves.specs.Blocks.{Movable};
-ghost use Rattle.moves.specs.Moves.{unmoved, moveChanges, movedList, movedSelection, shiftedOf, moveChecks, moveCall, left};
+ghost use Rattle.moves.specs.Moves.{unmoved, moveChanges, movedList, movedSelection, shiftedOf, moveChecks, moveCall, left, shiftedCount};
 
 // Shift 0.
 fn is_unmoved(dx: i32, dy: i32) -> bool
@@ -135,8 +137,47 @@ pub(crate) fn shifted(counted: Counted, selection: Chosen) -> Shifted
     }
 }
 
+// How many changes such a call left, none where it was refused.
+pub fn shifted_count(answer: Shifted) -> usize
+    ensures { λ r. ⌜ r ≡ shiftedCount answer ⌝ }
+{
+    match answer {
+        Shifted::Changes {
+            count,
+            selection: _,
+        } => count,
+        Shifted::Refused(_) => 0,
+    }
+}
+
 // Moves the selection's contents by (dx, dy): transparency where they were, the moved indices where they land,
-// clipped to the sheet. The changes are written to the front of out.
+// clipped to the sheet. The changes are left at the front of the scratch for a
+// buffer of `room` places.
+pub fn move_selection_in(
+    w: usize,
+    h: usize,
+    k: usize,
+    palette: &[u8],
+    lab: &[f64],
+    indices: &[i16],
+    s: Selection,
+    dx: i32,
+    dy: i32,
+    scratch: &mut [u64],
+    room: usize,
+) -> Shifted
+    ensures { λ r. ⌜ InScratch (shiftedCount r) room (now (scratch .exit)) (left r) (moveCall (sheetOf w h k (now (palette .entry)) (now (lab .entry)) (now (indices .entry))) s dx dy (length (now (scratch .entry)))) ⌝ }
+    ensures { λ _. ⌜ length (now (scratch .exit)) ≡ length (now (scratch .entry)) ⌝ }
+{
+    let no = move_no(w, h, k, palette, lab, indices, s, dx, dy, scratch.len());
+    if no != 0 {
+        return Shifted::Refused(no);
+    }
+    let n = list_moved(w, h, indices, s, dx, dy, scratch);
+    shifted(counted(n, room), moved_selection(s, dx, dy, w, h))
+}
+
+// The same at the front of out.
 pub fn move_selection(
     w: usize,
     h: usize,
@@ -153,11 +194,19 @@ pub fn move_selection(
     ensures { λ r. ⌜ left r (now (out .exit)) ≡ moveCall (sheetOf w h k (now (palette .entry)) (now (lab .entry)) (now (indices .entry))) s dx dy (length (now (scratch .entry))) (now (out .entry)) ⌝ }
     ensures { λ _. ⌜ length (now (scratch .exit)) ≡ length (now (scratch .entry)) ⌝ }
 {
-    let no = move_no(w, h, k, palette, lab, indices, s, dx, dy, scratch.len());
-    if no != 0 {
-        return Shifted::Refused(no);
-    }
-    let n = list_moved(w, h, indices, s, dx, dy, scratch);
-    let counted = hand_out(scratch, n, out);
-    shifted(counted, moved_selection(s, dx, dy, w, h))
+    let r = move_selection_in(
+        w,
+        h,
+        k,
+        palette,
+        lab,
+        indices,
+        s,
+        dx,
+        dy,
+        scratch,
+        out.len(),
+    );
+    copy_out(scratch, shifted_count(r), out);
+    r
 }

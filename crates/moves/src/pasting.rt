@@ -4,8 +4,10 @@ use crate::Shifted;
 use crate::blocks::land;
 use crate::blocks::landing;
 use crate::moving::shifted;
+use crate::moving::shifted_count;
+use changes::copy_out;
+use changes::counted;
 use changes::differences;
-use changes::hand_out;
 use changes::lay;
 use ints::is_far;
 use limits::BAD_CLIP;
@@ -25,8 +27,9 @@ ghost use Rattle.ints.specs.Ints.{far};
 ghost use Rattle.sheet.specs.Sheet.{sheetOf};
 ghost use Rattle.edits.specs.Change.{packed};
 ghost use Rattle.changes.specs.Normal.{normalizeOf, Front};
+ghost use Rattle.changes.specs.Listed.{InScratch};
 ghost use Rattle.moves.specs.Blocks.{Pastable, placedOf};
-ghost use Rattle.moves.specs.Moves.{pasteChanges, pastedSelection, clipChecks, pasteChecks, pasteCall, left};
+ghost use Rattle.moves.specs.Moves.{pasteChanges, pastedSelection, clipChecks, pasteChecks, pasteCall, left, shiftedCount};
 
 // The number of the first check of a corner, a clip and the scratch that applies, or 0: 15, 17, 16. `room` is the
 // scratch's length, `pixels` the sheet's.
@@ -140,8 +143,9 @@ fn pasted_selection(clip_w: usize, clip_h: usize, x: i32, y: i32, w: usize, h: u
 }
 
 // Pastes a clip with its top-left corner at (x, y): every pixel of the rectangle, transparent ones included,
-// clipped to the sheet. The changes are written to the front of out.
-pub fn paste(
+// clipped to the sheet. The changes are left at the front of the scratch for a
+// buffer of `room` places.
+pub fn paste_in(
     w: usize,
     h: usize,
     k: usize,
@@ -154,9 +158,9 @@ pub fn paste(
     x: i32,
     y: i32,
     scratch: &mut [u64],
-    out: &mut [u64],
+    room: usize,
 ) -> Shifted
-    ensures { λ r. ⌜ left r (now (out .exit)) ≡ pasteCall (sheetOf w h k (now (palette .entry)) (now (lab .entry)) (now (indices .entry))) «clip_w» «clip_h» (now (clip .entry)) x y (length (now (scratch .entry))) (now (out .entry)) ⌝ }
+    ensures { λ r. ⌜ InScratch (shiftedCount r) room (now (scratch .exit)) (left r) (pasteCall (sheetOf w h k (now (palette .entry)) (now (lab .entry)) (now (indices .entry))) «clip_w» «clip_h» (now (clip .entry)) x y (length (now (scratch .entry)))) ⌝ }
     ensures { λ _. ⌜ length (now (scratch .exit)) ≡ length (now (scratch .entry)) ⌝ }
 {
     let no = paste_no(
@@ -177,6 +181,46 @@ pub fn paste(
         return Shifted::Refused(no);
     }
     let n = list_paste(w, h, indices, clip_w, clip_h, clip, x, y, scratch);
-    let counted = hand_out(scratch, n, out);
-    shifted(counted, pasted_selection(clip_w, clip_h, x, y, w, h))
+    shifted(
+        counted(n, room),
+        pasted_selection(clip_w, clip_h, x, y, w, h),
+    )
+}
+
+// The same at the front of out.
+pub fn paste(
+    w: usize,
+    h: usize,
+    k: usize,
+    palette: &[u8],
+    lab: &[f64],
+    indices: &[i16],
+    clip_w: usize,
+    clip_h: usize,
+    clip: &[i16],
+    x: i32,
+    y: i32,
+    scratch: &mut [u64],
+    out: &mut [u64],
+) -> Shifted
+    ensures { λ r. ⌜ left r (now (out .exit)) ≡ pasteCall (sheetOf w h k (now (palette .entry)) (now (lab .entry)) (now (indices .entry))) «clip_w» «clip_h» (now (clip .entry)) x y (length (now (scratch .entry))) (now (out .entry)) ⌝ }
+    ensures { λ _. ⌜ length (now (scratch .exit)) ≡ length (now (scratch .entry)) ⌝ }
+{
+    let r = paste_in(
+        w,
+        h,
+        k,
+        palette,
+        lab,
+        indices,
+        clip_w,
+        clip_h,
+        clip,
+        x,
+        y,
+        scratch,
+        out.len(),
+    );
+    copy_out(scratch, shifted_count(r), out);
+    r
 }

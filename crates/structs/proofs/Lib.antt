@@ -1,2 +1,4 @@
 pub mod Loops
 pub mod While
+pub mod Lending
+pub mod Tail

@@ -1,36 +1,19 @@
--- `move_selection`: its checks; then the list, handed out of the scratch, and the selection. Assumes nothing.
-use mathlib.Core.Path.{_≡_, sym, _∙_}
-use lib.ListN.{length}
+-- `move_selection`: what `move_selection_in` left in the scratch, copied out. Assumes nothing.
+use mathlib.Core.Path.{refl}
 use mir.Facts.{toZ-ofZ}
-use Rattle.limits.specs.Checks.{firstOf}
-use Rattle.sheet.specs.Sheet.{sheetOf}
-use Rattle.moves.specs.Moves.{moveChecks}
-use Rattle.changes.proofs.Fronts.{front-within}
-use Rattle.moves.proofs.Answers.{move-movable, move-shiftable, move-refused, move-done}
+use Rattle.changes.proofs.InScratch.{copied}
 use borrow.Author.Needs.{needs}
 use Rattle.moves.proofs.moving.move_selection.Statement.{statement}
 use Rattle.moves.proofs.moving.move_selection.Tie as tie
 
-move-no-requires : tie.Need-move-no-requires
-move-no-requires c κs = search needs
+move-selection-in-requires : tie.Need-move-selection-in-requires
+move-selection-in-requires c κs = search needs
 
-number : (c : tie.After-move-no) → c .move-no .result ≡ firstOf (moveChecks (sheetOf (c .before .before .before .before .before .args .w) (c .before .before .before .before .before .args .h) (c .before .before .before .before .before .args .k) (c .before .before .before .before .before .args .palette .now) (c .before .before .before .before .before .args .lab .now) (c .before .before .before .before .before .args .indices .now)) (c .before .before .before .before .before .args .s) (c .before .before .before .before .before .args .dx) (c .before .before .before .before .before .args .dy) (length (c .before .before .before .before .before .args .scratch .now)))
-number c = rw (toZ-ofZ (c .before .before .before .before .before .fits .dx), toZ-ofZ (c .before .before .before .before .before .fits .dy)) at (c .move-no .ensures)
+shifted-count-requires : tie.Need-shifted-count-requires
+shifted-count-requires c κs = search needs
 
-returns : tie.Need-returns
-returns c = (move-refused _ _ _ _ _ _ (number (c .before)) (c .if1 .taken), search needs)
-
-list-moved-requires : tie.Need-list-moved-requires
-list-moved-requires c κs = rw (toZ-ofZ (c .before .before .before .before .before .before .before .fits .dx), toZ-ofZ (c .before .before .before .before .before .before .before .fits .dy)) (move-movable _ _ _ _ _ (sym (number (c .before .before)) ∙ c .before .if1 .left))
-
-hand-out-requires : tie.Need-hand-out-requires
-hand-out-requires c κs = front-within (c .before .before .before .before .list-moved .ensures)
-
-moved-selection-requires : tie.Need-moved-selection-requires
-moved-selection-requires c κs = rw (toZ-ofZ (c .before .before .before .before .before .before .before .before .before .before .before .before .before .before .before .fits .dx), toZ-ofZ (c .before .before .before .before .before .before .before .before .before .before .before .before .before .before .before .fits .dy)) (move-shiftable _ _ _ _ _ (sym (number (c .before .before .before .before .before .before .before .before .before .before)) ∙ c .before .before .before .before .before .before .before .before .before .if1 .left))
-
-shifted-requires : tie.Need-shifted-requires
-shifted-requires c κs = search needs
+copy-out-requires : tie.Need-copy-out-requires
+copy-out-requires c κs = search needs
 
 same-length : tie.Need-same-length
 same-length c = search needs
@@ -38,19 +21,12 @@ same-length c = search needs
 same-length-2 : tie.Need-same-length-2
 same-length-2 c = search needs
 
-returns-2 : tie.Need-returns-2
-returns-2 c = (move-done _ _ _ _ _ _ (sym (number (c .before .before .before .before .before .before .before .before .before .before .before .before)) ∙ c .before .before .before .before .before .before .before .before .before .before .before .if1 .left) (rw (toZ-ofZ (c .before .before .before .before .before .before .before .before .before .before .before .before .before .before .before .before .before .fits .dx), toZ-ofZ (c .before .before .before .before .before .before .before .before .before .before .before .before .before .before .before .before .before .fits .dy)) at (c .before .before .before .before .before .before .before .before .before .list-moved .ensures)) (c .before .before .before .before .hand-out .ensures) (rw (toZ-ofZ (c .before .before .before .before .before .before .before .before .before .before .before .before .before .before .before .before .before .fits .dx), toZ-ofZ (c .before .before .before .before .before .before .before .before .before .before .before .before .before .before .before .before .before .fits .dy)) at (c .before .moved-selection .ensures)) (c .shifted .ensures), search needs)
+returns : tie.Need-returns
+returns c =
+    let f = c .before .before .before .before .before .before .before .before .before .before .before .before .before .before .fits in
+    (copied (rw (toZ-ofZ (f .dx), toZ-ofZ (f .dy)) at (c .before .before .before .before .before .before .before .before .move-selection-in .ensures .0)) (c .before .before .before .before .shifted-count .ensures) _ refl (c .before .before .copy-out .ensures), search needs)
 
 pub move-selection-spec : {M : Type 1} → statement M
 move-selection-spec =
     tie.close
-    (tie.spec
-    move-no-requires
-    returns
-    list-moved-requires
-    hand-out-requires
-    moved-selection-requires
-    shifted-requires
-    same-length
-    same-length-2
-    returns-2)
+    (tie.spec move-selection-in-requires shifted-count-requires copy-out-requires same-length same-length-2 returns)

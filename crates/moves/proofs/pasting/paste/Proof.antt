@@ -1,36 +1,19 @@
--- `paste`: its checks; then the list, handed out of the scratch, and the selection. Assumes nothing.
-use mathlib.Core.Path.{_≡_, sym, _∙_}
-use lib.ListN.{length}
+-- `paste`: what `paste_in` left in the scratch, copied out. Assumes nothing.
+use mathlib.Core.Path.{refl}
 use mir.Facts.{toZ-ofZ}
-use Rattle.limits.specs.Checks.{firstOf}
-use Rattle.sheet.specs.Sheet.{sheetOf}
-use Rattle.changes.proofs.Fronts.{front-within}
-use Rattle.moves.specs.Moves.{pasteChecks}
-use Rattle.moves.proofs.Clips.{paste-pastable, paste-near, paste-refused, paste-done}
+use Rattle.changes.proofs.InScratch.{copied}
 use borrow.Author.Needs.{needs}
 use Rattle.moves.proofs.pasting.paste.Statement.{statement}
 use Rattle.moves.proofs.pasting.paste.Tie as tie
 
-paste-no-requires : tie.Need-paste-no-requires
-paste-no-requires c κs = search needs
+paste-in-requires : tie.Need-paste-in-requires
+paste-in-requires c κs = search needs
 
-number : (c : tie.After-paste-no) → c .paste-no .result ≡ firstOf (pasteChecks (sheetOf (c .before .before .before .before .before .args .w) (c .before .before .before .before .before .args .h) (c .before .before .before .before .before .args .k) (c .before .before .before .before .before .args .palette .now) (c .before .before .before .before .before .args .lab .now) (c .before .before .before .before .before .args .indices .now)) (c .before .before .before .before .before .args .clip-w) (c .before .before .before .before .before .args .clip-h) (c .before .before .before .before .before .args .clip .now) (c .before .before .before .before .before .args .x) (c .before .before .before .before .before .args .y) (length (c .before .before .before .before .before .args .scratch .now)))
-number c = rw (toZ-ofZ (c .before .before .before .before .before .fits .x), toZ-ofZ (c .before .before .before .before .before .fits .y)) at (c .paste-no .ensures)
+shifted-count-requires : tie.Need-shifted-count-requires
+shifted-count-requires c κs = search needs
 
-returns : tie.Need-returns
-returns c = (paste-refused _ _ _ _ _ _ _ _ (number (c .before)) (c .if1 .taken), search needs)
-
-list-paste-requires : tie.Need-list-paste-requires
-list-paste-requires c κs = rw (toZ-ofZ (c .before .before .before .before .before .before .before .fits .x), toZ-ofZ (c .before .before .before .before .before .before .before .fits .y)) (paste-pastable _ _ _ _ _ _ _ (sym (number (c .before .before)) ∙ c .before .if1 .left))
-
-hand-out-requires : tie.Need-hand-out-requires
-hand-out-requires c κs = front-within (c .before .before .before .before .list-paste .ensures)
-
-pasted-selection-requires : tie.Need-pasted-selection-requires
-pasted-selection-requires c κs = rw (toZ-ofZ (c .before .before .before .before .before .before .before .before .before .before .before .before .before .before .before .fits .x), toZ-ofZ (c .before .before .before .before .before .before .before .before .before .before .before .before .before .before .before .fits .y)) (paste-near _ _ _ _ _ _ _ (sym (number (c .before .before .before .before .before .before .before .before .before .before)) ∙ c .before .before .before .before .before .before .before .before .before .if1 .left))
-
-shifted-requires : tie.Need-shifted-requires
-shifted-requires c κs = search needs
+copy-out-requires : tie.Need-copy-out-requires
+copy-out-requires c κs = search needs
 
 same-length : tie.Need-same-length
 same-length c = search needs
@@ -38,19 +21,12 @@ same-length c = search needs
 same-length-2 : tie.Need-same-length-2
 same-length-2 c = search needs
 
-returns-2 : tie.Need-returns-2
-returns-2 c = (paste-done _ _ _ _ _ _ _ _ (sym (number (c .before .before .before .before .before .before .before .before .before .before .before .before)) ∙ c .before .before .before .before .before .before .before .before .before .before .before .if1 .left) (rw (toZ-ofZ (c .before .before .before .before .before .before .before .before .before .before .before .before .before .before .before .before .before .fits .x), toZ-ofZ (c .before .before .before .before .before .before .before .before .before .before .before .before .before .before .before .before .before .fits .y)) at (c .before .before .before .before .before .before .before .before .before .list-paste .ensures)) (c .before .before .before .before .hand-out .ensures) (rw (toZ-ofZ (c .before .before .before .before .before .before .before .before .before .before .before .before .before .before .before .before .before .fits .x), toZ-ofZ (c .before .before .before .before .before .before .before .before .before .before .before .before .before .before .before .before .before .fits .y)) at (c .before .pasted-selection .ensures)) (c .shifted .ensures), search needs)
+returns : tie.Need-returns
+returns c =
+    let f = c .before .before .before .before .before .before .before .before .before .before .before .before .before .before .fits in
+    (copied (rw (toZ-ofZ (f .x), toZ-ofZ (f .y)) at (c .before .before .before .before .before .before .before .before .paste-in .ensures .0)) (c .before .before .before .before .shifted-count .ensures) _ refl (c .before .before .copy-out .ensures), search needs)
 
 pub paste-spec : {M : Type 1} → statement M
 paste-spec =
     tie.close
-    (tie.spec
-    paste-no-requires
-    returns
-    list-paste-requires
-    hand-out-requires
-    pasted-selection-requires
-    shifted-requires
-    same-length
-    same-length-2
-    returns-2)
+    (tie.spec paste-in-requires shifted-count-requires copy-out-requires same-length same-length-2 returns)

@@ -43,7 +43,7 @@ same-length-2 c = search needs
 
 returns-2 : tie.Need-returns-2
 returns-2 c =
-    (extend-done _ _ _ _ (sym (c .before .before .before .before .before .before .before .before .before .before .before .before .before .extend-no .ensures) ∙ c .before .before .before .before .before .before .before .before .before .before .before .before .if1 .left) (c .before .before .before .before .before .before .before .before .before .normalize-joined .ensures) (copied _ (c .before .before .before .before .before .before .counted .ensures _ (front-within (c .before .before .before .before .before .before .before .before .before .normalize-joined .ensures))) refl (c .before .before .before .before .count-of .ensures) (c .before .before .copy-out .ensures)), search needs)
+    (extend-done _ _ _ _ (sym (c .before .before .before .before .before .before .before .before .before .before .before .before .before .extend-no .ensures) ∙ c .before .before .before .before .before .before .before .before .before .before .before .before .if1 .left) (c .before .before .before .before .before .before .before .before .before .normalize-joined .ensures) (copied (c .before .before .before .before .before .before .counted .ensures _ (front-within (c .before .before .before .before .before .before .before .before .before .normalize-joined .ensures))) (c .before .before .before .before .count-of .ensures) _ refl (c .before .before .copy-out .ensures)), search needs)
 
 pub extend-spec : {M : Type 1} → statement M
 extend-spec =
