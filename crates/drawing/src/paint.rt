@@ -4,17 +4,12 @@ use ints::from_zero;
 use ints::min_usize;
 use ints::saturating_sub;
 use ints::up_to;
+use lines::max_usize;
 ghost use mathlib.Core.Path.{_≡_};
-ghost use Prim.Native.Nat.{_+_, _≤_, max};
+ghost use Prim.Native.Nat.{_+_, _≤_};
 ghost use lib.ListN.{length};
 ghost use Rattle.lists.specs.Lists.{range};
 ghost use Rattle.drawing.specs.Places.{setAll, clipped, boxPlaces, Rows, Ends};
-
-fn max_usize(a: usize, b: usize) -> usize
-    ensures { λ r. ⌜ r ≡ max a b ⌝ }
-{
-    if a < b { b } else { a }
-}
 
 // What lies of `a..=b` from `from` on and below `end`.
 pub(crate) fn clip(a: i32, b: i32, from: usize, end: usize) -> Run

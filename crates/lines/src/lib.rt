@@ -107,7 +107,8 @@ fn direction(a: i32, b: i32) -> i32
     if b < a { -1 } else { 1 }
 }
 
-fn max_usize(a: usize, b: usize) -> usize
+// The greater of two.
+pub fn max_usize(a: usize, b: usize) -> usize
     ensures { λ r. ⌜ r ≡ max a b ⌝ }
 {
     if a < b { b } else { a }

@@ -18,15 +18,12 @@ use Rattle.edits.specs.Change.{Change, outside, painted, oldOf}
 use Rattle.edits.specs.Storage.{bytesOf, numbersOf, stored, opened, raised}
 use Rattle.edits.specs.Apply.{reverted, canRevert}
 use Rattle.records.specs.Record.{rgbIn, labIn, changesIn, byKind}
+use Rattle.records.proofs.Holds.{and-left}
 use Rattle.recorded.specs.Sound.{undoable}
 use Rattle.recorded.specs.Lies.{editAt, changesAt}
 use Rattle.recorded.specs.UndoTests.{pixelsBack, setBack, removeBack}
 use Rattle.recorded.proofs.UndoTests.{undo-pixels, undo-set, undo-remove}
 use Rattle.recorded.proofs.RedoneAt.{and-right}
-
-and-left : (a b : Bool) → a && b ≡ true → a ≡ true
-and-left true b e = refl
-and-left false b e = e
 
 -- what is known of a removal that undo takes
 pub record Returns (s : Sheet) (i : ℕ) (cs : List Change) : Type 0 where

@@ -98,7 +98,7 @@ pub record Held (bytes : List ℕ) (n : ℕ) (e : Edit) (cs : List Change) : Typ
 abbrev triple : ℕ → Edit → List Change → Reading
 triple n e cs = some (n, e, cs)
 
-and-left : (a b : Bool) → a && b ≡ true → a ≡ true
+pub and-left : (a b : Bool) → a && b ≡ true → a ≡ true
 and-left true b e = refl
 and-left false b e = e
 
