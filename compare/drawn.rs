@@ -286,8 +286,9 @@ pub fn fill_global(c: &Case, a: Area, x: i32, y: i32, index: i16, out: usize) ->
 
 /// The words of an answer with a list and a selection.
 fn shifted(no: u8, r: &[usize], out: &[u64], s: [u16; 4]) -> Vec<u64> {
-    let mut words = listed(no, r, out);
+    let mut words = listed(no, r, &[]);
     shorts(&mut words, &s);
+    words.extend_from_slice(out);
     words
 }
 

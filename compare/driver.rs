@@ -11,6 +11,7 @@ mod drawn;
 mod histories;
 mod inputs;
 mod journal;
+mod sample;
 mod sheet;
 mod sheets;
 mod table;
@@ -18,6 +19,9 @@ mod table;
 use std::time::Instant;
 
 fn main() {
+    if std::env::args().nth(1).as_deref() == Some("sample") {
+        return sample::print();
+    }
     let start = Instant::now();
     let mut t = table::Table::default();
     inputs::run(&mut t);

@@ -270,21 +270,29 @@ pub fn push(
     (0, after, Some((history, doc)))
 }
 
-/// `replay` of an edit on a sheet.
-pub fn replay(s: &Sheet, p: &Permitted, e: &Flat, list: &[u64], scratch: usize) -> Pair {
+/// What is expected of `replay` of an edit on a sheet, and the sheet after it.
+pub fn replayed(s: &Sheet, p: &Permitted, e: &Flat, list: &[u64], scratch: usize) -> (u8, Sheet) {
     let mut no = s.number(p.is_bad());
-    let mut after = s.clone();
     if no == 0 {
         no = first(&[(21, list.len() > MAX_CHANGES), (16, scratch < s.w * s.h)]);
     }
-    if no == 0 {
-        let mut doc = journal::document(s);
-        doc.fixed = p.fixed();
-        match doc.replay(&e.op(list)) {
-            Ok(()) => after = journal::shown(&doc, s).expect("what a replay makes is well-formed"),
-            Err(told) => no = refusal(&told.0),
-        }
+    if no != 0 {
+        return (no, s.clone());
     }
+    let mut doc = journal::document(s);
+    doc.fixed = p.fixed();
+    match doc.replay(&e.op(list)) {
+        Ok(()) => (
+            0,
+            journal::shown(&doc, s).expect("what a replay makes is well-formed"),
+        ),
+        Err(told) => (refusal(&told.0), s.clone()),
+    }
+}
+
+/// `replay` of an edit on a sheet.
+pub fn replay(s: &Sheet, p: &Permitted, e: &Flat, list: &[u64], scratch: usize) -> Pair {
+    let (no, after) = replayed(s, p, e, list, scratch);
     let words = |no: u8, s: &Sheet| {
         let mut words = vec![no.into(), s.k as u64];
         s.words(&mut words);

@@ -363,9 +363,10 @@ pub fn normalize(list: &[u64], scratch: usize, out: usize) -> Pair {
 
 /// The words of an answer that is an edit, with its list in a buffer.
 fn made(no: u8, b: [u8; 8], f: [f64; 3], r: [usize; 5], out: &[u64]) -> Vec<u64> {
-    let mut words = listed(no, &r, out);
+    let mut words = listed(no, &r, &[]);
     bytes(&mut words, &b);
     doubles(&mut words, &f);
+    words.extend_from_slice(out);
     words
 }
 

@@ -1,0 +1,511 @@
+//! The lines that the program `sample` must print. Its inputs are dealt from seeds, here as in crates/deals and crates/sample,
+//! and the answers are the ones that the comparison expects: document 01's checks, and the Rust.
+
+use crate::drawn;
+use crate::histories;
+use crate::journal::{self, Handle, State};
+use crate::sheet::*;
+use crate::sheets::{self, Permitted};
+use pixelforge::editor::op::normalize;
+use pixelforge::editor::palette as rust_palette;
+use pixelforge::editor::History;
+
+const EACH: u64 = 60;
+const HISTORIES: u64 = 24;
+const STEPS: u64 = 60;
+const NAMES: [&str; 56] = [
+    "check",
+    "with_lab",
+    "new",
+    "get_at",
+    "counts",
+    "diff_mask",
+    "nearest_index",
+    "eyedropper",
+    "pencil",
+    "eraser",
+    "line",
+    "rectangle",
+    "flood_fill",
+    "replace_color",
+    "fill_global",
+    "move_selection",
+    "paste",
+    "copy",
+    "clip_rgba",
+    "snap_rgba",
+    "fixed_choices",
+    "set_color",
+    "add_color",
+    "nearest_other",
+    "remove_entry",
+    "merge_entries",
+    "rgb8_to_lab",
+    "cbrt",
+    "all",
+    "from_corners",
+    "contains",
+    "contains_i",
+    "translated",
+    "grown",
+    "positions",
+    "region",
+    "bresenham",
+    "normalize",
+    "pixels",
+    "is_empty",
+    "kind",
+    "extend",
+    "Stroke",
+    "check_color",
+    "fresh",
+    "push",
+    "undo",
+    "redo",
+    "mark_saved",
+    "is_dirty",
+    "can_undo",
+    "can_redo",
+    "next_undo",
+    "next_redo",
+    "applied",
+    "replay",
+];
+
+// As in crates/deals.
+
+type Deck = [u64; 32];
+
+fn next(x: u64) -> u64 {
+    let a = x ^ (x << 13);
+    let b = a ^ (a >> 7);
+    b ^ (b << 17)
+}
+
+fn mix(h: u64, word: u64) -> u64 {
+    next((h ^ word).wrapping_add(0x9e37_79b9_7f4a_7c15))
+}
+
+fn deck(seed: u64) -> Deck {
+    let mut x = mix(mix(mix(0, seed), seed), seed);
+    [(); 32].map(|_| {
+        x = next(x);
+        x
+    })
+}
+
+fn pick(x: u64, n: usize) -> usize {
+    (x >> 11) as usize % n
+}
+
+fn once_in(x: u64, n: usize) -> bool {
+    pick(x, n) == 0
+}
+
+fn near(x: u64) -> i32 {
+    [-1, 0, 0, 0, 1, 1, 2, 5][pick(x, 8)]
+}
+
+fn coordinate(x: u64) -> i32 {
+    match pick(x, 24) {
+        0 => 65_536,
+        1 => 65_537,
+        2 => -65_536,
+        3 => -65_537,
+        _ => near(x >> 8),
+    }
+}
+
+fn side(x: u64) -> usize {
+    match pick(x, 12) {
+        0 => 1023,
+        1 => 1024,
+        2 => 1025,
+        _ => pick(x >> 8, 4),
+    }
+}
+
+fn kind(x: u64) -> u8 {
+    pick(x, 4) as u8 + 1
+}
+
+fn index(x: u64) -> i16 {
+    pick(x, 6) as i16 - 2
+}
+
+/// The sides of a picture of six pixels, or with a width that none has.
+fn sides(x: u64) -> (usize, usize) {
+    match pick(x, 16) {
+        0..=3 => (1, 6),
+        4..=7 => (2, 3),
+        8..=11 => (3, 2),
+        12..=14 => (6, 1),
+        _ => (7, 1),
+    }
+}
+
+/// n values, each from the next number after a seed.
+fn dealt<T>(seed: u64, n: usize, value: impl Fn(u64) -> T) -> Vec<T> {
+    let mut x = seed;
+    let one = |_| {
+        x = next(x);
+        value(x)
+    };
+    (0..n).map(one).collect()
+}
+
+fn bytes_of(seed: u64, n: usize) -> Vec<u8> {
+    dealt(seed, n, |x| x as u8)
+}
+
+fn indices_of(seed: u64, k: usize, n: usize) -> Vec<i16> {
+    dealt(seed, n, |x| pick(x, k + 1) as i16 - 1)
+}
+
+fn change(x: u64) -> u64 {
+    let field = |n: u64| if n == 3 { 0xffff } else { n };
+    (x >> 11 & 0x0003_0003) | field(x >> 31 & 3) << 32 | field(x >> 41 & 3) << 48
+}
+
+/// The fingerprint of an answer's words.
+fn print_of(words: &[u64]) -> u64 {
+    words.iter().fold(0, |h, w| mix(h, *w))
+}
+
+fn line(c: usize, expected: &[u64]) {
+    println!("{} {} {:016x}", NAMES[c], expected[0], print_of(expected));
+}
+
+// As in crates/sample.
+
+/// A sheet of six pixels.
+fn sheet(d: &Deck, (w, h): (usize, usize)) -> Sheet {
+    let k = pick(d[10], 4);
+    let palette = bytes_of(d[12], STORAGE);
+    let mut lab = vec![0.0; STORAGE];
+    let indices = indices_of(d[13], k, 6);
+    if w * h == 6 {
+        lab[..3 * k].copy_from_slice(&pixelforge::color::rgb8_to_lab(&palette[..3 * k]));
+    }
+    Sheet {
+        w,
+        h,
+        k,
+        palette,
+        lab,
+        indices,
+    }
+}
+
+fn colour(d: &Deck) -> [u8; 3] {
+    let seed = if once_in(d[30], 2) { d[12] } else { d[30] };
+    bytes_of(seed, 3).try_into().unwrap()
+}
+
+fn permitted(d: &Deck, limited: bool) -> Permitted {
+    let seed = if once_in(d[31], 2) { d[30] } else { d[12] };
+    Permitted {
+        limited,
+        list: bytes_of(seed, 6),
+    }
+}
+
+fn selected(d: &Deck) -> [u16; 4] {
+    let corner = |x: u64| [0, 0, 1, 2][pick(x, 4)];
+    let extent = |x: u64| pick(x, 4) as u16;
+    [corner(d[15]), corner(d[16]), extent(d[17]), extent(d[18])]
+}
+
+fn over_sheet(c: usize, d: &Deck) -> Vec<u64> {
+    let mut s = sheet(d, sides(d[8]));
+    match pick(d[11], 24) {
+        0 => s.indices[0] = 3,
+        1 => s.lab[0] = f64::INFINITY,
+        2 => s.k = 256,
+        _ => {}
+    }
+    if c == 2 {
+        s.lab = vec![REAL; STORAGE];
+    }
+    let case = &Case::new(s);
+    let a = Area {
+        whole: once_in(d[14], 3),
+        s: selected(d),
+    };
+    let (x, y, size, i) = (coordinate(d[19]), near(d[20]), pick(d[24], 5), index(d[23]));
+    let (from, into) = (pick(d[20], 4), pick(d[21], 4));
+    let (cw, ch) = sides(d[21]);
+    let clip = indices_of(d[25], 3, 6);
+    let p = permitted(d, once_in(d[28], 3));
+    let [expected, _] = match c {
+        0 => sheets::check(case),
+        1 => sheets::with_lab(case),
+        2 => sheets::new_sheet(case),
+        3 => sheets::get_at(case, x, coordinate(d[20])),
+        4 => sheets::counts(case, 2),
+        5 => {
+            let (w, h) = sides(if once_in(d[26], 8) { d[26] >> 8 } else { d[8] });
+            let k = pick(d[31], 4);
+            let mut indices = indices_of(d[25], k, 6);
+            if once_in(d[28], 8) {
+                indices[0] = 3;
+            }
+            let base = Sheet {
+                w,
+                h,
+                k,
+                palette: bytes_of(d[12], STORAGE),
+                lab: Vec::new(),
+                indices,
+            };
+            sheets::diff_mask(case, &base, 7)
+        }
+        6 => {
+            let lab = pixelforge::color::rgb8_to_lab(&bytes_of(d[30], 3));
+            sheets::nearest_index(lab.try_into().unwrap(), &case.sheet.lab, case.sheet.k)
+        }
+        7 => drawn::eyedropper(case, x, coordinate(d[20])),
+        8 | 9 => {
+            let mut points = dealt(d[25], 4, near);
+            points[0] = x;
+            if c == 8 {
+                drawn::pencil(case, a, &points, size, i, 6, 4)
+            } else {
+                drawn::eraser(case, a, &points, size, 6, 4)
+            }
+        }
+        10 => drawn::line(
+            case,
+            a,
+            [x, y, near(d[21]), coordinate(d[22])],
+            size,
+            i,
+            6,
+            4,
+        ),
+        11 => drawn::rectangle(
+            case,
+            a,
+            [x, y, near(d[21]), near(d[22])],
+            once_in(d[26], 2),
+            i,
+            6,
+            4,
+        ),
+        12 => drawn::flood_fill(case, a, x, y, i, 6, 4),
+        13 => drawn::replace_color(case, a, index(d[31]), i, 4),
+        14 => drawn::fill_global(case, a, x, y, i, 4),
+        15 => drawn::move_selection(case, a.s, x, y, 6, 4),
+        16 => drawn::paste(case, cw, ch, &clip, x, y, 6, 4),
+        17 => drawn::copy(case, a, 5),
+        18 => drawn::clip_rgba(case, cw, ch, &clip, 25),
+        19 => drawn::snap_rgba(case, &bytes_of(d[25], 25), cw, ch, 5),
+        20 => sheets::fixed_choices(case, &permitted(d, !once_in(d[28], 3)), 3),
+        21 => sheets::set_color(case, &p, from, colour(d)),
+        22 => sheets::add_color(case, &p, colour(d)),
+        23 => sheets::nearest_other(case, from),
+        24 => sheets::remove_entry(case, from, 3),
+        _ => sheets::merge_entries(case, from, into, 3),
+    };
+    expected
+}
+
+const RADICANDS: [f64; 12] = [
+    0.0,
+    0.0078125,
+    0.007812499999999999,
+    2.0,
+    2.0000000000000004,
+    -1.0,
+    1.0,
+    0.008856,
+    0.3333333333333333,
+    1.9999999999999998,
+    0.125,
+    0.7,
+];
+
+fn loose(c: usize, d: &Deck) -> Vec<u64> {
+    let s = selected(d);
+    let (w, h) = (side(d[8]), side(d[9]));
+    let (x, y) = (coordinate(d[19]), coordinate(d[20]));
+    let rgb = colour(d);
+    let edit = Flat {
+        bytes: [
+            kind(d[23]),
+            d[24] as u8,
+            d[25] as u8,
+            0,
+            0,
+            rgb[0],
+            rgb[1],
+            rgb[2],
+        ],
+        index: pick(d[22], 4),
+        lab: [0.0; 3],
+    };
+    let list = |seed: u64, n: usize| dealt(seed, n, change);
+    let normal = || list_of(&normalize(changes_of(&list(d[25], 4))));
+    let [expected, _] = match c {
+        26 => sheets::rgb8_to_lab([d[12] as u8, d[13] as u8, d[14] as u8]),
+        27 => sheets::cbrt(RADICANDS[pick(d[12], 12)]),
+        28 => sheets::all(w, h),
+        29 => sheets::from_corners([x, y, near(d[21]), coordinate(d[22])], w, h),
+        30 => sheets::contains(s, pick(d[19], 8), pick(d[20], 8)),
+        31 => sheets::contains_i(s, x, y),
+        32 => sheets::translated(s, x, y, w, h),
+        33 => {
+            let margin = match pick(d[21], 6) {
+                0 => 65_536,
+                1 => 65_537,
+                _ => pick(d[21] >> 8, 4),
+            };
+            sheets::grown(s, margin, w, h)
+        }
+        34 => sheets::positions(s, 7),
+        35 => sheets::region(
+            Area {
+                whole: once_in(d[14], 3),
+                s,
+            },
+            w,
+            h,
+        ),
+        36 => sheets::bresenham([x, near(d[20]), near(d[21]), near(d[22])], 11),
+        37 => sheets::normalize(&list(d[25], 5), 5, 4),
+        38 => sheets::pixels(d[24] as u8, &list(d[25], 5), 5, 4),
+        39 => sheets::is_empty(&edit, &[0][usize::from(!once_in(d[26], 2))..]),
+        40 => sheets::kind(&edit),
+        41 => {
+            let front = normal();
+            sheets::extend(&over(&front, 5, WORD), front.len(), &list(d[24], 3), 7)
+        }
+        42 => sheets::stroke(d[24] as u8, &list(d[25], 4)),
+        _ => {
+            // any well-formed sheet: the call looks at none
+            let case = Case::new(sheet(&deck(1), (3, 2)));
+            sheets::check_color(&permitted(d, once_in(d[28], 3)), rgb, &case)
+        }
+    };
+    expected
+}
+
+fn call_of(x: u64) -> usize {
+    match pick(x, 24) {
+        0..=9 => 45,
+        10..=12 => 46,
+        13..=15 => 47,
+        n => n + 32,
+    }
+}
+
+fn told(no: u8, st: &State) -> Vec<u64> {
+    let mut words = vec![no.into()];
+    words.extend(st.words());
+    words
+}
+
+/// One call of a history, after which the state is what is expected.
+fn step(c: usize, d: &Deck, st: &mut State) -> Vec<u64> {
+    if once_in(d[29], 40) {
+        st.journal[pick(d[30], 120)] = d[31] as u8;
+    }
+    let rgb = colour(d);
+    let flat = |kind: u8| Flat {
+        bytes: [kind, d[24] as u8, d[25] as u8, 0, 0, rgb[0], rgb[1], rgb[2]],
+        index: pick(d[20], 4),
+        lab: [0.0; 3],
+    };
+    let p = permitted(d, once_in(d[28], 4));
+    let [expected, _] = match c {
+        45 => {
+            let kind = kind(d[9]);
+            let list = if kind == 4 {
+                let (from, into) = (pick(d[20], 4), pick(d[21], 4));
+                match rust_palette::merge_entries(&journal::document(&st.sheet), from, into) {
+                    Ok(op) => flat_of(&op).3,
+                    Err(_) => Vec::new(),
+                }
+            } else {
+                dealt(d[22], pick(d[23], 4), change)
+            };
+            let doc = journal::document(&st.sheet);
+            let (no, after, _) =
+                histories::push(st, (&History::new(), &doc), &p, &flat(kind), &list, 6);
+            *st = after;
+            return told(no, st);
+        }
+        46 => {
+            let (no, after) = journal::undo(st);
+            *st = after;
+            return told(no, st);
+        }
+        47 => {
+            let (no, after) = journal::redo(st, 6);
+            *st = after;
+            return told(no, st);
+        }
+        48 => {
+            let [mut expected, _] = histories::mark_saved(st);
+            st.handle.saved = expected[5] as usize;
+            expected.insert(1, st.sheet.k as u64);
+            return expected;
+        }
+        49 => histories::is_dirty(st),
+        50 => histories::can_undo(st),
+        51 => histories::can_redo(st),
+        52 => histories::next_undo(st),
+        53 => histories::next_redo(st),
+        54 => histories::applied(
+            st,
+            if once_in(d[20], 2) {
+                0
+            } else {
+                pick(d[21], 60)
+            },
+        ),
+        _ => {
+            let list = dealt(d[22], 2, change);
+            let (no, after) = histories::replayed(&st.sheet, &p, &flat(kind(d[9])), &list, 6);
+            st.sheet = after;
+            let mut words = vec![no.into(), st.sheet.k as u64];
+            st.sheet.words(&mut words);
+            return words;
+        }
+    };
+    expected
+}
+
+fn history(seed: u64) {
+    let d = deck(seed);
+    let mut st = State {
+        sheet: sheet(&d, (3, 2)),
+        journal: bytes_of(d[14], 120),
+        handle: Handle::FRESH,
+    };
+    line(44, &[0, 1, 0, 0, 0, 0, 0]);
+    for i in 1..STEPS {
+        let d = deck(seed + i);
+        let c = call_of(d[8]);
+        line(c, &step(c, &d, &mut st));
+    }
+}
+
+pub fn print() {
+    for c in 0..44 {
+        for i in 0..EACH {
+            let d = deck(1000 * c as u64 + i);
+            line(
+                c,
+                &if c < 26 {
+                    over_sheet(c, &d)
+                } else {
+                    loose(c, &d)
+                },
+            );
+        }
+    }
+    for i in 0..HISTORIES {
+        history(1_000_000 + 1000 * i);
+    }
+}

@@ -1,0 +1,182 @@
+// A fixed sample of the answers that compare/ gets from the Rust original, made again without it: some thousands of calls, every
+// exported call among them. A line has the call, its number (0 an answer, 255 "still", nothing or outside, else document 01's) and a
+// fingerprint of all that it answered and left in the buffers that it was lent.
+//
+// The inputs are dealt from seeds (crate `deals`). The file stdout was not written by this program: compare/sample.rs deals the same
+// inputs, takes the answers from the Rust and document 01's checks, and prints the lines (`compare/run FOLDER sample`).
+mod looks;
+mod loose;
+mod names;
+mod palettes;
+mod steps;
+mod strokes;
+
+use deals::Told;
+use deals::deck;
+use deals::fill_bytes;
+use deals::fill_indices;
+use deals::height;
+use deals::pick;
+use deals::width;
+
+// Inputs of each call, histories, and calls of each history.
+const EACH: u64 = 60;
+
+const HISTORIES: u64 = 24;
+
+const STEPS: u64 = 60;
+
+// A call over a sheet of six pixels with up to 3 entries, which is now and then damaged.
+fn over_sheet(c: usize, d: &[u64; 32]) -> Told {
+    let w = width(d[8]);
+    let h = height(d[8]);
+    let k = pick(d[10], 4);
+    let mut palette = [0u8; 765];
+    let mut lab = [0.0f64; 765];
+    let mut indices = [0i16; 6];
+    fill_bytes(d[12], &mut palette);
+    fill_indices(d[13], k, &mut indices);
+    exports::call_new(w, h, k, &palette, &mut lab, &indices);
+    let wrong = pick(d[11], 24);
+    let stray = if wrong == 0 { 3 } else { indices[0] };
+    indices[0] = stray;
+    let unfit = if wrong == 1 {
+        f64::from_bits(0x7ff0_0000_0000_0000)
+    } else {
+        lab[0]
+    };
+    lab[0] = unfit;
+    let many = if wrong == 2 { 256 } else { k };
+    if c < 8 {
+        return looks::answer(c, d, w, h, many, &palette, &lab, &indices);
+    }
+    if c < 20 {
+        return strokes::answer(c, d, w, h, many, &palette, &lab, &indices);
+    }
+    palettes::answer(c, d, w, h, many, &palette, &lab, &indices)
+}
+
+// Writes a line.
+fn print_line(c: usize, t: Told) {
+    names::print_name(c);
+    io::write_all(1, b" ");
+    io::print_decimal(1, t.number as u64);
+    io::write_all(1, b" ");
+    io::print_hex(1, t.print, 16);
+    io::write_all(1, b"\n");
+}
+
+// The line of a call that returns no sheet, on its inputs.
+fn print_answer(c: usize, seed: u64) {
+    let d = deck(seed);
+    if c < 26 {
+        print_line(c, over_sheet(c, &d));
+    } else {
+        print_line(c, loose::answer(c, &d));
+    }
+}
+
+// The lines of a call, on as many inputs as each has.
+fn print_call(c: usize, seed: u64) {
+    let mut i: u64 = 0;
+    while i < EACH {
+        print_answer(c, std::num::wrapping_add_u64(seed, i));
+        i += 1;
+    }
+}
+
+fn print_calls() {
+    let mut c: usize = 0;
+    let mut seed: u64 = 0;
+    while c < 44 {
+        print_call(c, seed);
+        seed = std::num::wrapping_add_u64(seed, 1000);
+        c += 1;
+    }
+}
+
+// One call of a history.
+fn print_step(
+    seed: u64,
+    w: usize,
+    h: usize,
+    palette: &mut [u8],
+    lab: &mut [f64],
+    indices: &mut [i16],
+    journal: &mut [u8],
+    state: &mut [usize; 6],
+) {
+    let d = deck(seed);
+    let c = steps::call_of(d[8]);
+    print_line(
+        c,
+        steps::step(c, &d, w, h, palette, lab, indices, journal, state),
+    );
+}
+
+fn print_steps(
+    seed: u64,
+    w: usize,
+    h: usize,
+    palette: &mut [u8],
+    lab: &mut [f64],
+    indices: &mut [i16],
+    journal: &mut [u8],
+    state: &mut [usize; 6],
+) {
+    let mut i: u64 = 1;
+    while i < STEPS {
+        print_step(
+            std::num::wrapping_add_u64(seed, i),
+            w,
+            h,
+            palette,
+            lab,
+            indices,
+            journal,
+            state,
+        );
+        i += 1;
+    }
+}
+
+// A history over a sheet, call by call.
+fn print_history(seed: u64) {
+    let d = deck(seed);
+    let w = 3;
+    let h = 2;
+    let k = pick(d[10], 4);
+    let mut palette = [0u8; 765];
+    let mut lab = [0.0f64; 765];
+    let mut indices = [0i16; 6];
+    let mut journal = [0u8; 120];
+    let mut state = [1usize; 6];
+    fill_bytes(d[12], &mut palette);
+    fill_indices(d[13], k, &mut indices);
+    fill_bytes(d[14], &mut journal);
+    exports::call_new(w, h, k, &palette, &mut lab, &indices);
+    exports::call_fresh(&mut state);
+    print_line(44, steps::told_state(0, &state));
+    state[0] = k;
+    print_steps(
+        seed,
+        w,
+        h,
+        &mut palette,
+        &mut lab,
+        &mut indices,
+        &mut journal,
+        &mut state,
+    );
+}
+
+fn main() {
+    print_calls();
+    let mut i: u64 = 0;
+    let mut seed: u64 = 1_000_000;
+    while i < HISTORIES {
+        print_history(seed);
+        seed = std::num::wrapping_add_u64(seed, 1000);
+        i += 1;
+    }
+}
