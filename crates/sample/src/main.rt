@@ -40,11 +40,7 @@ fn over_sheet(c: usize, d: &[u64; 32]) -> Told {
     let wrong = pick(d[11], 24);
     let stray = if wrong == 0 { 3 } else { indices[0] };
     indices[0] = stray;
-    let unfit = if wrong == 1 {
-        f64::from_bits(0x7ff0_0000_0000_0000)
-    } else {
-        lab[0]
-    };
+    let unfit = if wrong == 1 { 1e300 * 1e300 } else { lab[0] };
     lab[0] = unfit;
     let many = if wrong == 2 { 256 } else { k };
     if c < 8 {

@@ -101,7 +101,12 @@ fn fill_edit(
     pick(d[23], 4)
 }
 
-// Pushes an edit with the first n changes of a list.
+// The first n changes of a list, or all of them.
+fn front(list: &[u64], n: usize) -> &[u64] {
+    if n <= list.len() { &list[..n] } else { list }
+}
+
+// Pushes an edit with a list.
 fn push_list(
     d: &[u64; 32],
     w: usize,
@@ -113,15 +118,11 @@ fn push_list(
     state: &mut [usize; 6],
     k: u8,
     list: &[u64],
-    n: usize,
 ) -> u8 {
     let mut scratch = [0u8; 6];
     let doubles = [0.0f64; 3];
     let bytes = edit(d, k);
     let colours = permitted(d);
-    if list.len() < n {
-        return 0;
-    }
     exports::call_push(
         w,
         h,
@@ -133,7 +134,7 @@ fn push_list(
         &bytes,
         pick(d[20], 4),
         &doubles,
-        &list[..n],
+        list,
         journal,
         &mut scratch,
         state,
@@ -153,7 +154,18 @@ fn push(
     let mut list = [0u64; 6];
     let k = kind(d[9]);
     let n = fill_edit(d, k, w, h, state[0], palette, lab, indices, &mut list);
-    let no = push_list(d, w, h, palette, lab, indices, journal, state, k, &list, n);
+    let no = push_list(
+        d,
+        w,
+        h,
+        palette,
+        lab,
+        indices,
+        journal,
+        state,
+        k,
+        front(&list, n),
+    );
     told_all(no, palette, lab, indices, journal, state)
 }
 

@@ -5,7 +5,6 @@ use mathlib.Core.Path.{_≡_}
 use lib.ListN.{length}
 use Rattle.deals.proofs.dealt.deck.Statement.{statement}
 use Rattle.deals.proofs.dealt.deck.Tie as tie
-use Rattle.std.proofs.num.wrapping_add_u64.Reads as wrapping-add-u64-reads
 
 abbrev Inv-loop : tie.InvT-loop
 Inv-loop seed d₀ x₀ i₀ d x i = (length d ≡ 32) × (i ≤ 32)
@@ -13,8 +12,14 @@ Inv-loop seed d₀ x₀ i₀ d x i = (length d ≡ 32) × (i ≤ 32)
 abbrev μ-loop : tie.MeasureT-loop
 μ-loop seed d₀ x₀ i₀ d x i = 32 - i
 
-wrapping-add-u64-requires : tie.Need-wrapping-add-u64-requires Inv-loop μ-loop
-wrapping-add-u64-requires c κs = search needs
+mix-requires : tie.Need-mix-requires Inv-loop μ-loop
+mix-requires c κs = search needs
+
+mix-requires-2 : tie.Need-mix-requires-2 Inv-loop μ-loop
+mix-requires-2 c κs = search needs
+
+mix-requires-3 : tie.Need-mix-requires-3 Inv-loop μ-loop
+mix-requires-3 c κs = search needs
 
 loop-holds : tie.Need-loop-holds Inv-loop μ-loop
 loop-holds c = search needs
@@ -46,7 +51,9 @@ deck-spec =
     (tie.spec
     Inv-loop
     μ-loop
-    wrapping-add-u64-requires
+    mix-requires
+    mix-requires-2
+    mix-requires-3
     loop-holds
     next-requires
     mul-d
