@@ -76,7 +76,7 @@ pub or-zero : (a b : ℕ) → orElse a b ≡ 0 → a ≡ 0
 or-zero zero b e = refl
 or-zero (suc a) b e = absurd (omega arith)
 
-first-zero : (n : ℕ) (replay : Bool) (s : Sheet) (e : Edit) (list : List structs.Change) (i : ℕ) → checkUpto n replay s e list i ≡ 0 → n ≡ 0
+pub first-zero : (n : ℕ) (replay : Bool) (s : Sheet) (e : Edit) (list : List structs.Change) (i : ℕ) → checkUpto n replay s e list i ≡ 0 → n ≡ 0
 first-zero n replay s e list zero z = z
 first-zero n replay s e list (suc i) z = first-zero n replay s e list i (or-zero _ _ z)
 
