@@ -14,6 +14,7 @@ pub use op::normalize;
 pub use op::normalize_in;
 pub use op::pixels;
 pub use op::pixels_in;
+pub use op::pixels_of;
 pub use strokes::extend;
 
 // What a call answers that makes an edit with a list of changes: the edit, and how many they are.

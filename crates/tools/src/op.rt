@@ -45,7 +45,7 @@ pub fn normalize(list: &[u64], scratch: &mut [u64], out: &mut [u64]) -> Counted
 }
 
 // An edit of pixels, whose list was counted.
-fn pixels_of(tool: u8, counted: Counted) -> Made
+pub fn pixels_of(tool: u8, counted: Counted) -> Made
     ensures { λ r. ⌜ r ≡ pixelsOf tool counted ⌝ }
 {
     match counted {
