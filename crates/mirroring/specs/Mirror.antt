@@ -1,0 +1,57 @@
+-- `mirror_tiles` of tools.rs, statement by statement, over `extract`'s map. Definitions only. Assumes nothing.
+use Prim.Native.Nat.{ℕ, _+_, _*_, _/_, _%_}
+use mathlib.Core.Bool.{Bool, false, not, cond, _&&_}
+use mathlib.Core.List.{List, [], _∷_, _++_, flatMap}
+use lib.Dec.{eqb}
+use lib.IntN.{ℤ, pos}
+use lib.ListN.{length, getD}
+use Rattle.lists.specs.Lists.{range}
+use Rattle.selection.specs.declared.Selection.{Selection}
+use Rattle.selection.specs.Selection.{contains}
+use Rattle.edits.specs.Change.{Change}
+use Rattle.changes.specs.Normal.{kept, normalizeOf}
+use Rattle.tiling.specs.Tile.{turned}
+use Rattle.tiling.specs.Extract.{Entry, Extracted, extractOf}
+
+-- `map[cell]`
+unfoldable pub entryIn : Extracted → ℕ → Entry
+entryIn e cell = getD (e .entries) cell (record { tile = 0; h = false; v = false })
+
+-- `(c.y / t) * columns + c.x / t`, with `columns = w / t`
+unfoldable pub cellAt : ℕ → ℕ → ℕ → ℕ → ℕ
+cellAt w t x y = y / t * (w / t) + x / t
+
+-- `let x = (other % columns) * t + flip(tx, oh); let y = (other / columns) * t + flip(ty, ov);`
+unfoldable pub columnIn : ℕ → ℕ → ℕ → ℕ → ℕ
+columnIn w t other tx = other % (w / t) * t + tx
+
+unfoldable pub rowIn : ℕ → ℕ → ℕ → ℕ → ℕ
+rowIn w t other ty = other / (w / t) * t + ty
+
+-- `if region.contains(x, y) { out.push(PixelChange { x, y, old: doc.get(x, y), new: c.new }) }`
+unfoldable pub copyAt : ℕ → List ℤ → Selection → ℤ → ℕ → ℕ → List Change
+copyAt w l region new x y = cond (contains region x y) (record { x = x; y = y; old = getD l (y * w + x) (pos 0); new = new } ∷ []) []
+
+-- the change c copied to cell other: `let (tx, ty) = (flip(c.x % t, fh), flip(c.y % t, fv));`
+unfoldable pub copyIn : ℕ → ℕ → List ℤ → Selection → Extracted → Change → ℕ → List Change
+copyIn w t l region e c other =
+    let own = entryIn e (cellAt w t (c .x) (c .y)) in
+    let there = entryIn e other in
+    let tx = turned (own .h) t (c .x % t) in
+    let ty = turned (own .v) t (c .y % t) in
+    copyAt w l region (c .new) (columnIn w t other (turned (there .h) t tx)) (rowIn w t other (turned (there .v) t ty))
+
+-- `for &other in &instances[&id] { if other == cell { continue; } .. }`: the other cells of one tile, in order
+unfoldable pub instances : Extracted → ℕ → List ℕ
+instances e cell = kept (λ other. eqb (entryIn e other .tile) (entryIn e cell .tile) && not (eqb other cell)) (range 0 (length (e .entries)))
+
+unfoldable pub copiesOf : ℕ → ℕ → List ℤ → Selection → Extracted → Change → List Change
+copiesOf w t l region e c = flatMap (copyIn w t l region e c) (instances e (cellAt w t (c .x) (c .y)))
+
+-- `for c in changes { .. }`, then `out.extend_from_slice(changes)`: "Last, so the caller's own changes win."
+unfoldable pub mirrorChanges : ℕ → ℕ → List ℤ → Selection → Extracted → List Change → List Change
+mirrorChanges w t l region e cs = flatMap (copiesOf w t l region e) cs ++ cs
+
+-- "computed on the document before the change"; `normalize(out)`
+unfoldable pub mirrored : ℕ → ℕ → ℕ → List ℤ → Selection → List Change → List Change
+mirrored w h t l region cs = normalizeOf (mirrorChanges w t l region (extractOf w h t l) cs)
