@@ -1,1 +1,5 @@
-
+pub mod Flips
+pub mod Runs
+pub mod Spreading
+pub mod Landing
+pub mod Emitting

@@ -1,40 +1,41 @@
+-- `cell_of`: at most the place. Assumes nothing.
+use Prim.Native.Nat.{_+_, _*_, _/_, _%_, _≤_}
+use mathlib.Core.Path.{refl}
+use native.Mathlib.Omega.{arith}
+use Rattle.mirroring.specs.Mirror.{cellAt}
+use Rattle.mirroring.proofs.Spreading.{cell-le}
 use borrow.Author.Needs.{needs}
 use Rattle.mirroring.proofs.classes.cell_of.Statement.{statement}
 use Rattle.mirroring.proofs.classes.cell_of.Tie as tie
-use Rattle.mirroring.proofs.classes.cell_of.Reads as reads
-use Rattle.mirroring.proofs.classes.cell_of.Lts as lts
 
--- src/classes.rt:37:5
+sums : (c : tie.Start) → let a = c .args in a .p / a .w / a .t * (a .w / a .t) + a .p % a .w / a .t ≤ a .p
+unfolding cellAt
+sums c = cell-le (c .args .w) (c .args .t) (c .args .p)
+
 div-result : tie.Need-div-result
 div-result c = search needs
 
--- src/classes.rt:37:5
 div-result-2 : tie.Need-div-result-2
 div-result-2 c = search needs
 
--- src/classes.rt:37:18
 div-result-3 : tie.Need-div-result-3
 div-result-3 c = search needs
 
--- src/classes.rt:37:5
 mul-result : tie.Need-mul-result
-mul-result c = ?
+mul-result c = record { fits = omega (arith, sums c) }
 
--- src/classes.rt:37:27
 rem-result : tie.Need-rem-result
 rem-result c = search needs
 
--- src/classes.rt:37:27
 div-result-4 : tie.Need-div-result-4
 div-result-4 c = search needs
 
--- src/classes.rt:37:5
 add-result : tie.Need-add-result
-add-result c = ?
+add-result c = record { fits = omega (arith, sums c) }
 
--- src/classes.rt:33:1
 returns : tie.Need-returns
-returns c = ?
+unfolding cellAt
+returns c = (refl, sums c)
 
 pub cell-of-spec : {M : Type 1} → statement M
 cell-of-spec =

@@ -1,11 +1,11 @@
+-- `flips_v`: by the four orders. Assumes nothing.
+use Rattle.mirroring.proofs.Flips.{flip-v}
+use borrow.Author.Needs.{needs}
 use Rattle.mirroring.proofs.classes.flips_v.Statement.{statement}
 use Rattle.mirroring.proofs.classes.flips_v.Tie as tie
-use Rattle.mirroring.proofs.classes.flips_v.Reads as reads
-use Rattle.mirroring.proofs.classes.flips_v.Lts as lts
 
--- src/classes.rt:26:1
 returns : tie.Need-returns
-returns c = ?
+returns c = flip-v (c .args .code)
 
 pub flips-v-spec : {M : Type 1} → statement M
 flips-v-spec = tie.close (tie.spec returns)

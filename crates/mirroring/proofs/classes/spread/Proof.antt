@@ -1,63 +1,58 @@
+-- `spread`: from the last place on. Assumes nothing.
+use Prim.Native.Nat.{_-_}
+use native.Mathlib.Omega.{arith}
+use mathlib.Core.Path.{refl}
+use Rattle.mirroring.proofs.Spreading.{Spreading, spreading-start, spreading-step, spreading-end}
+use Rattle.mirroring.proofs.Spreading.{code-is}
+use borrow.Author.Needs.{needs}
 use Rattle.mirroring.proofs.classes.spread.Statement.{statement}
 use Rattle.mirroring.proofs.classes.spread.Tie as tie
-use Rattle.mirroring.proofs.classes.spread.Reads as reads
-use Rattle.mirroring.proofs.classes.spread.Lts as lts
-use Rattle.mirroring.proofs.classes.cell_of.Reads as cell-of-reads
-use Rattle.mirroring.proofs.classes.class_by.Reads as class-by-reads
 
 abbrev Inv-loop : tie.InvT-loop
-Inv-loop w t s₀ p₀ s p = ?
+Inv-loop w t s₀ p₀ s p = Spreading w t s₀ s p
 
 abbrev μ-loop : tie.MeasureT-loop
-μ-loop w t s₀ p₀ s p = ?
+μ-loop w t s₀ p₀ s p = p
 
--- src/classes.rt:59:5
 loop-holds : tie.Need-loop-holds Inv-loop μ-loop
-loop-holds c = ?
+loop-holds c = spreading-start _ _ _
 
--- src/classes.rt:60:9
 sub-p : tie.Need-sub-p Inv-loop μ-loop
-sub-p c = ?
+sub-p c = search needs
 
--- src/classes.rt:61:22
 cell-of-requires : tie.Need-cell-of-requires Inv-loop μ-loop
-cell-of-requires c κs = ?
+cell-of-requires c κs = let p = c .before .before .before .pre in let i = c .before .loop .inv in (p .side, p .wide, omega (arith, i .high, p .small, c .loop-test .taken))
 
--- src/classes.rt:61:20
 mul-code : tie.Need-mul-code Inv-loop μ-loop
-mul-code c = ?
+mul-code c = search needs
 
--- src/classes.rt:61:20
 slice-read-code : tie.Need-slice-read-code Inv-loop μ-loop
-slice-read-code c = ?
+slice-read-code c = omega (arith, c .before .cell-of .ensures .1, c .before .before .before .loop .inv .long, c .before .before .before .loop .inv .high, c .before .before .loop-test .taken)
 
--- src/classes.rt:62:16
 class-by-requires : tie.Need-class-by-requires Inv-loop μ-loop
-class-by-requires c κs = ?
+class-by-requires c κs = 
+    let p = c .before .before .before .before .before .pre in
+    let i = c .before .before .before .loop .inv in
+    let e = code-is _ _ _ _ _ i (c .before .before .loop-test .taken) _ _ (c .before .cell-of .ensures .0) refl in
+    (p .side, p .wide, rw e (omega (arith, p .within (c .before .before .before .loop .p - 1) (omega (arith, i .high, c .before .before .loop-test .taken)), p .small)))
 
--- src/classes.rt:62:9
 mul-s : tie.Need-mul-s Inv-loop μ-loop
-mul-s c = ?
+mul-s c = search needs
 
--- src/classes.rt:62:9
 slice-write-s : tie.Need-slice-write-s Inv-loop μ-loop
-slice-write-s c = ?
+slice-write-s c = omega (arith, c .before .before .before .before .loop .inv .long, c .before .before .before .before .loop .inv .high, c .before .before .before .loop-test .taken)
 
--- src/classes.rt:59:5
 loop-less : tie.Need-loop-less Inv-loop μ-loop
-loop-less c = ?
+loop-less c = search needs
 
--- src/classes.rt:59:5
 loop-again : tie.Need-loop-again Inv-loop μ-loop
-loop-again c = ?
+loop-again c = spreading-step _ _ _ _ _ (c .before .before .before .before .loop .inv) (c .before .before .before .loop-test .taken) _ _ (c .before .before .cell-of .ensures .0) refl _ (c .class-by .ensures)
 
--- src/classes.rt:54:1
 same-length : tie.Need-same-length Inv-loop μ-loop
-same-length c = ?
+same-length c = search needs
 
--- src/classes.rt:54:1
 returns : tie.Need-returns Inv-loop μ-loop
-returns c = ?
+returns c = spreading-end _ _ _ _ _ (c .before .loop .inv) (c .loop-test .left)
 
 pub spread-spec : {M : Type 1} → statement M
 spread-spec =

@@ -1,37 +1,31 @@
+-- `is_elsewhere`: by the tests. Assumes nothing.
+use Prim.Native.Nat.{_/_, _-_}
+use native.Mathlib.Omega.{arith}
+use Rattle.mirroring.proofs.Landing.{nowhere, several, by-place}
 use borrow.Author.Needs.{needs}
 use Rattle.mirroring.proofs.marks.is_elsewhere.Statement.{statement}
 use Rattle.mirroring.proofs.marks.is_elsewhere.Tie as tie
-use Rattle.mirroring.proofs.marks.is_elsewhere.Reads as reads
-use Rattle.mirroring.proofs.marks.is_elsewhere.Lts as lts
-use Rattle.apply.proofs.place_of.Reads as place-of-reads
 
--- src/marks.rt:38:9
 returns : tie.Need-returns
-returns c = ?
+returns c = nowhere _ _ _ _ (c .if1 .taken)
 
--- src/marks.rt:41:9
 returns-2 : tie.Need-returns-2
-returns-2 c = ?
+returns-2 c = several _ _ _ _ (c .before .if1 .left) (c .if2 .taken)
 
--- src/marks.rt:43:17
 sub-last : tie.Need-sub-last
 sub-last c = search needs
 
--- src/marks.rt:44:17
 mul-place-of : tie.Need-mul-place-of
 mul-place-of c = search needs
 
--- src/marks.rt:44:17
 shared-slice-read-place-of : tie.Need-shared-slice-read-place-of
 shared-slice-read-place-of c = search needs
 
--- src/marks.rt:44:5
 place-of-requires : tie.Need-place-of-requires
-place-of-requires c κs = ?
+place-of-requires c κs = omega (arith, c .before .before .before .before .pre .1 (c .before .before .before .before .args .m / 2 - 1) (omega (arith, c .before .before .before .before .pre .0, c .before .before .if1 .left)))
 
--- src/marks.rt:33:1
 returns-3 : tie.Need-returns-3
-returns-3 c = ?
+returns-3 c = by-place _ _ _ _ _ (c .before .before .before .if1 .left) (c .before .before .if2 .left) (c .place-of .ensures)
 
 pub is-elsewhere-spec : {M : Type 1} → statement M
 is-elsewhere-spec =

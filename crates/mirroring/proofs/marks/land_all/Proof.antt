@@ -1,82 +1,72 @@
+-- `land_all`: place by place; classes and marks stay. Assumes nothing.
+use native.Mathlib.Omega.{arith}
+use mathlib.Core.Path.{refl}
+use Prim.Native.Nat.{_-_, _<_}
+use lib.ListN.{length}
+use Rattle.mirroring.proofs.Landing.{Landing, landing-start, class-within, mark-most, landing-room, landing-step, landing-end}
+use borrow.Author.Needs.{needs}
 use Rattle.mirroring.proofs.marks.land_all.Statement.{statement}
 use Rattle.mirroring.proofs.marks.land_all.Tie as tie
-use Rattle.mirroring.proofs.marks.land_all.Reads as reads
-use Rattle.mirroring.proofs.marks.land_all.Lts as lts
-use Rattle.mirroring.proofs.marks.land_by.Reads as land-by-reads
 
 abbrev Inv-loop : tie.InvT-loop
-Inv-loop w region list s₀ p₀ s p = ?
+Inv-loop w region list s₀ p₀ s p = Landing w region list s₀ s p
 
 abbrev μ-loop : tie.MeasureT-loop
-μ-loop w region list s₀ p₀ s p = ?
+μ-loop w region list s₀ p₀ s p = length s₀ - p
 
--- src/marks.rt:93:5
 loop-holds : tie.Need-loop-holds Inv-loop μ-loop
-loop-holds c = ?
+loop-holds c = landing-start _ _ _ _
 
--- src/marks.rt:94:22
+inside : (c : tie.In-loop Inv-loop μ-loop) → c .before .loop .p < length (c .before .before .before .before .args .s .now)
+inside c = omega (arith, c .before .loop .inv .long, c .loop-test .taken)
+
 mul-class : tie.Need-mul-class Inv-loop μ-loop
-mul-class c = ?
+mul-class c = search needs
 
--- src/marks.rt:94:22
 slice-read-class : tie.Need-slice-read-class Inv-loop μ-loop
-slice-read-class c = ?
+slice-read-class c = search needs
 
--- src/marks.rt:95:45
 mul-land-by : tie.Need-mul-land-by Inv-loop μ-loop
-mul-land-by c = ?
+mul-land-by c = search needs
 
--- src/marks.rt:95:45
 slice-read-land-by : tie.Need-slice-read-land-by Inv-loop μ-loop
-slice-read-land-by c = ?
+slice-read-land-by c = let p = c .before .before .before .before .before .before .pre in omega (arith, c .before .before .before .loop .inv .long, class-within _ _ _ _ (p .1 .few) (p .2) _ _ (c .before .before .before .loop .inv) (inside (c .before .before)) _ refl)
 
--- src/marks.rt:95:13
 land-by-requires : tie.Need-land-by-requires Inv-loop μ-loop
-land-by-requires c κs = ?
+land-by-requires c κs = let p = c .before .before .before .before .before .before .pre in (p .0, mark-most _ _ _ _ (p .1 .few) (p .2) _ _ (c .before .before .before .loop .inv) (inside (c .before .before)) _ refl, λ j k. omega (arith, p .1 .on j k, p .1 .small))
 
--- src/marks.rt:96:16
 mul-s : tie.Need-mul-s Inv-loop μ-loop
-mul-s c = ?
+mul-s c = search needs
 
--- src/marks.rt:96:16
 slice-read-s : tie.Need-slice-read-s Inv-loop μ-loop
-slice-read-s c = ?
+slice-read-s c = search needs
 
--- src/marks.rt:96:23
 mul-s-2 : tie.Need-mul-s-2 Inv-loop μ-loop
-mul-s-2 c = ?
+mul-s-2 c = record { fits = omega (arith, c .before .land-by .ensures .1) }
 
--- src/marks.rt:96:16
 add-s : tie.Need-add-s Inv-loop μ-loop
-add-s c = ?
+add-s c = let p = c .before .before .before .before .before .before .before .before .pre in record { fits = omega (arith, landing-room _ _ _ _ (p .1 .few) (p .2) _ _ (c .before .before .before .before .before .loop .inv) (inside (c .before .before .before .before)) _ refl _ (c .before .land-by .ensures .1)) }
 
--- src/marks.rt:96:9
 mul-s-3 : tie.Need-mul-s-3 Inv-loop μ-loop
-mul-s-3 c = ?
+mul-s-3 c = search needs
 
--- src/marks.rt:96:9
 slice-write-s : tie.Need-slice-write-s Inv-loop μ-loop
-slice-write-s c = ?
+slice-write-s c = search needs
 
--- src/marks.rt:97:9
 add-p : tie.Need-add-p Inv-loop μ-loop
-add-p c = ?
+add-p c = search needs
 
--- src/marks.rt:93:5
 loop-less : tie.Need-loop-less Inv-loop μ-loop
-loop-less c = ?
+loop-less c = search needs
 
--- src/marks.rt:93:5
 loop-again : tie.Need-loop-again Inv-loop μ-loop
-loop-again c = ?
+loop-again c = let p = c .before .before .before .before .before .before .before .before .pre in landing-step _ _ _ _ (p .1 .few) (p .2) _ _ (c .before .before .before .before .before .loop .inv) (inside (c .before .before .before .before)) _ refl _ (c .before .land-by .ensures .0)
 
--- src/marks.rt:88:1
 same-length : tie.Need-same-length Inv-loop μ-loop
-same-length c = ?
+same-length c = search needs
 
--- src/marks.rt:88:1
 returns : tie.Need-returns Inv-loop μ-loop
-returns c = ?
+returns c = landing-end _ _ _ _ _ _ (c .before .loop .inv) (c .loop-test .left)
 
 pub land-all-spec : {M : Type 1} → statement M
 land-all-spec =

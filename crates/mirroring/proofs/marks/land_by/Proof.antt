@@ -1,63 +1,62 @@
+-- `land_by`: by the tests. Assumes nothing.
+use mathlib.Core.Bool.{true}
+use mathlib.Core.Path.{_≡_, sym, _∙_}
+use Prim.Native.Nat.{_/_, _%_, _≤_}
+use borrow.Author.Tests.{not-true, not-false}
+use native.Mathlib.Omega.{arith}
+use Rattle.selection.specs.Selection.{contains}
+use Rattle.mirroring.proofs.Landing.{some-mark, land-outside, land-none, land-one, land-small}
 use borrow.Author.Needs.{needs}
 use Rattle.mirroring.proofs.marks.land_by.Statement.{statement}
 use Rattle.mirroring.proofs.marks.land_by.Tie as tie
-use Rattle.mirroring.proofs.marks.land_by.Reads as reads
-use Rattle.mirroring.proofs.marks.land_by.Lts as lts
-use Rattle.mirroring.proofs.marks.is_elsewhere.Reads as is-elsewhere-reads
-use Rattle.mirroring.proofs.marks.new_bits.Reads as new-bits-reads
-use Rattle.selection.proofs.Selection.contains.Reads as contains-reads
 
--- src/marks.rt:77:25
 rem-contains : tie.Need-rem-contains
 rem-contains c = search needs
 
--- src/marks.rt:77:32
 div-contains : tie.Need-div-contains
 div-contains c = search needs
 
--- src/marks.rt:77:9
 contains-requires : tie.Need-contains-requires
 contains-requires c κs = search needs
 
--- src/marks.rt:78:9
-returns : tie.Need-returns
-returns c = ?
+outside : (c : tie.After-contains) → let a = c .before .before .args in contains (a .region) (a .p % a .w) (a .p / a .w) ≡ c .contains .result
+outside c = sym (c .contains .ensures)
 
--- src/marks.rt:80:9
+inside : (c : tie.Else1) → let a = c .before .before .before .args in contains (a .region) (a .p % a .w) (a .p / a .w) ≡ true
+inside c = outside (c .before) ∙ not-false _ (c .if1 .left)
+
+returns : tie.Need-returns
+returns c = (land-outside _ _ _ _ _ (outside (c .before) ∙ not-true _ (c .if1 .taken)), omega arith)
+
 is-elsewhere-requires : tie.Need-is-elsewhere-requires
 is-elsewhere-requires c κs = search needs
 
--- src/marks.rt:81:9
 returns-2 : tie.Need-returns-2
-returns-2 c = ?
+returns-2 c = (land-none _ _ _ _ _ (inside (c .before .before)) (sym (c .before .is-elsewhere .ensures) ∙ not-true _ (c .if2 .taken)), omega arith)
 
--- src/marks.rt:83:17
+marked : (c : tie.Else2) → 2 ≤ c .before .before .before .before .before .args .m
+marked c = some-mark _ _ _ _ (sym (c .before .is-elsewhere .ensures) ∙ not-false _ (c .if2 .left))
+
 sub-last : tie.Need-sub-last
-sub-last c = ?
+sub-last c = omega (arith, marked c)
 
--- src/marks.rt:84:18
 mul-new-bits : tie.Need-mul-new-bits
 mul-new-bits c = search needs
 
--- src/marks.rt:84:18
 shared-slice-read-new-bits : tie.Need-shared-slice-read-new-bits
-shared-slice-read-new-bits c = ?
+shared-slice-read-new-bits c = omega (arith, marked (c .before), c .before .before .before .before .before .before .pre .1)
 
--- src/marks.rt:84:9
 new-bits-requires : tie.Need-new-bits-requires
 new-bits-requires c κs = search needs
 
--- src/marks.rt:84:9
 mul-result : tie.Need-mul-result
 mul-result c = search needs
 
--- src/marks.rt:84:5
 add-result : tie.Need-add-result
 add-result c = search needs
 
--- src/marks.rt:73:1
 returns-3 : tie.Need-returns-3
-returns-3 c = ?
+returns-3 c = let e = sym (c .before .before .before .is-elsewhere .ensures) ∙ not-false _ (c .before .before .if2 .left) in (land-one _ _ _ _ _ _ (inside (c .before .before .before .before)) e (c .new-bits .ensures .0), omega (arith, c .new-bits .ensures .1))
 
 pub land-by-spec : {M : Type 1} → statement M
 land-by-spec =

@@ -1,42 +1,44 @@
+-- `emit`: what stands at the front and what the places ahead give is the whole. Assumes nothing.
+use Prim.Native.Nat.{_-_}
+use lib.ListN.{length}
+use native.Mathlib.Omega.{arith}
+use Rattle.mirroring.proofs.Emitting.{emitting-read}
+use Rattle.mirroring.proofs.Emitting.{Emitting, emitting-start, emitting-step, emitting-end}
+use Rattle.changes.proofs.Fronts.{front-of}
+use borrow.Author.Needs.{needs}
 use Rattle.mirroring.proofs.waiting.emit.Statement.{statement}
 use Rattle.mirroring.proofs.waiting.emit.Tie as tie
-use Rattle.mirroring.proofs.waiting.emit.Reads as reads
-use Rattle.mirroring.proofs.waiting.emit.Lts as lts
-use Rattle.mirroring.proofs.waiting.put_pending.Reads as put-pending-reads
 
 abbrev Inv-loop : tie.InvT-loop
-Inv-loop w indices s₀ m₀ p₀ s m p = ?
+Inv-loop w indices s₀ m₀ p₀ s m p = Emitting w indices s₀ s m p
 
 abbrev μ-loop : tie.MeasureT-loop
-μ-loop w indices s₀ m₀ p₀ s m p = ?
+μ-loop w indices s₀ m₀ p₀ s m p = length s₀ - p
 
--- src/waiting.rt:99:5
 loop-holds : tie.Need-loop-holds Inv-loop μ-loop
-loop-holds c = ?
+loop-holds c = emitting-start _ _ _
 
--- src/waiting.rt:100:9
 put-pending-requires : tie.Need-put-pending-requires Inv-loop μ-loop
-put-pending-requires c κs = ?
+put-pending-requires c κs = 
+    let p = c .before .before .before .before .pre in
+    let i = c .before .before .loop .inv in
+    let t = c .before .loop-test .taken in
+    (p .0, p .1, omega (arith, i .long, p .3), t, i .low, omega (arith, i .long, p .2), rw (emitting-read _ _ _ _ _ _ i) (p .4 .small _ (omega (arith, i .long))))
 
--- src/waiting.rt:101:9
 add-p : tie.Need-add-p Inv-loop μ-loop
-add-p c = ?
+add-p c = search needs
 
--- src/waiting.rt:99:5
 loop-less : tie.Need-loop-less Inv-loop μ-loop
-loop-less c = ?
+loop-less c = search needs
 
--- src/waiting.rt:99:5
 loop-again : tie.Need-loop-again Inv-loop μ-loop
-loop-again c = ?
+loop-again c = emitting-step _ _ _ (c .before .before .before .before .before .loop .s) _ _ _ _ (c .before .before .before .before .before .loop .inv) (c .before .before .before .before .loop-test .taken) (c .before .before .put-pending .kept .1 .1 .1 .0) (c .before .before .put-pending .ensures)
 
--- src/waiting.rt:93:1
 same-length : tie.Need-same-length Inv-loop μ-loop
-same-length c = ?
+same-length c = search needs
 
--- src/waiting.rt:93:1
 returns : tie.Need-returns Inv-loop μ-loop
-returns c = ?
+returns c = front-of (emitting-end _ _ _ _ _ _ (c .before .loop .inv) (c .loop-test .left)) (let l = c .before .loop .inv .low in let g = c .before .loop .inv .high in let k = c .before .loop .inv .long in omega arith)
 
 pub emit-spec : {M : Type 1} → statement M
 emit-spec =

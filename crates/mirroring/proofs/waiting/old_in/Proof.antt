@@ -1,25 +1,27 @@
+-- `old_in`: by the test. Assumes nothing.
+use mir.Syntax.{w16}
+use borrow.Author.Tests.{eq-eqb, ne-eqb}
+use mir.Val.{ofZ}
+use native.Mathlib.Omega.{arith}
+use Rattle.ints.proofs.Back.{by-value}
+use Rattle.mirroring.specs.Marks.{oldIn}
 use borrow.Author.Needs.{needs}
 use Rattle.mirroring.proofs.waiting.old_in.Statement.{statement}
 use Rattle.mirroring.proofs.waiting.old_in.Tie as tie
-use Rattle.mirroring.proofs.waiting.old_in.Reads as reads
-use Rattle.mirroring.proofs.waiting.old_in.Lts as lts
-use Rattle.apply.proofs.bits_of.Reads as bits-of-reads
 
--- src/waiting.rt:60:9
 returns : tie.Need-returns
-returns c = ?
+unfolding oldIn
+returns c = (rw (eq-eqb _ _ (c .if1 .taken)), omega arith)
 
--- src/waiting.rt:62:5
 bits-of-requires : tie.Need-bits-of-requires
 bits-of-requires c κs = search needs
 
--- src/waiting.rt:62:5
 cast-result : tie.Need-cast-result
 cast-result c = search needs
 
--- src/waiting.rt:56:1
 returns-2 : tie.Need-returns-2
-returns-2 c = ?
+unfolding oldIn
+returns-2 c = (rw (ne-eqb _ _ (c .before .if1 .left)) (by-value (ofZ w16) (c .before .before .fits .own) (c .bits-of .ensures)), omega arith)
 
 pub old-in-spec : {M : Type 1} → statement M
 old-in-spec = tie.close (tie.spec returns bits-of-requires cast-result returns-2)

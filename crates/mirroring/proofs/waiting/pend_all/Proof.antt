@@ -1,79 +1,71 @@
+-- `pend_all`: one number an element. Assumes nothing.
+use lib.ListN.{length, getD}
+use Prim.Native.Nat.{_-_, _≤_, _<_}
+use native.Mathlib.Omega.{arith}
+use mathlib.Core.Path.{_≡_}
+use Rattle.mirroring.proofs.Runs.{Running, running-start, running-step}
+use Rattle.mirroring.specs.Marks.{placeAt, pendingBy, pending}
+use borrow.Author.Needs.{needs}
 use Rattle.mirroring.proofs.waiting.pend_all.Statement.{statement}
 use Rattle.mirroring.proofs.waiting.pend_all.Tie as tie
-use Rattle.mirroring.proofs.waiting.pend_all.Reads as reads
-use Rattle.mirroring.proofs.waiting.pend_all.Lts as lts
-use Rattle.apply.proofs.place_of.Reads as place-of-reads
-use Rattle.mirroring.proofs.waiting.pend_by.Reads as pend-by-reads
 
 abbrev Inv-loop : tie.InvT-loop
-Inv-loop w list s₀ i₀ s i = ?
+Inv-loop w list s₀ i₀ s i = (i ≤ length list) × Running (placeAt w list) (λ j. pendingBy (getD list j 0)) s₀ s i
 
 abbrev μ-loop : tie.MeasureT-loop
-μ-loop w list s₀ i₀ s i = ?
+μ-loop w list s₀ i₀ s i = length list - i
 
--- src/waiting.rt:47:5
 loop-holds : tie.Need-loop-holds Inv-loop μ-loop
-loop-holds c = ?
+loop-holds c = (omega arith, running-start _ _ _)
 
--- src/waiting.rt:48:29
 mul-place-of : tie.Need-mul-place-of Inv-loop μ-loop
-mul-place-of c = ?
+mul-place-of c = search needs
 
--- src/waiting.rt:48:29
 shared-slice-read-place-of : tie.Need-shared-slice-read-place-of Inv-loop μ-loop
-shared-slice-read-place-of c = ?
+shared-slice-read-place-of c = search needs
 
--- src/waiting.rt:48:13
 place-of-requires : tie.Need-place-of-requires Inv-loop μ-loop
-place-of-requires c κs = ?
+place-of-requires c κs = let p = c .before .before .before .before .before .pre in omega (arith, p .on (c .before .before .loop .i) (c .before .loop-test .taken), p .small)
 
--- src/waiting.rt:49:25
+at : (c : tie.After-place-of Inv-loop μ-loop) → c .place-of .result < length (c .before .before .before .before .before .before .args .s .now)
+at c = rw (c .place-of .ensures) (c .before .before .before .before .before .before .pre .on (c .before .before .before .loop .i) (c .before .before .loop-test .taken))
+
 mul-pend-by : tie.Need-mul-pend-by Inv-loop μ-loop
-mul-pend-by c = ?
+mul-pend-by c = search needs
 
--- src/waiting.rt:49:25
 shared-slice-read-pend-by : tie.Need-shared-slice-read-pend-by Inv-loop μ-loop
-shared-slice-read-pend-by c = ?
+shared-slice-read-pend-by c = search needs
 
--- src/waiting.rt:49:34
 mul-pend-by-2 : tie.Need-mul-pend-by-2 Inv-loop μ-loop
-mul-pend-by-2 c = ?
+mul-pend-by-2 c = record { fits = omega (arith, at (c .before), c .before .before .before .before .before .before .before .pre .small) }
 
--- src/waiting.rt:49:34
 slice-read-pend-by : tie.Need-slice-read-pend-by Inv-loop μ-loop
-slice-read-pend-by c = ?
+slice-read-pend-by c = omega (arith, at (c .before .before), c .before .before .before .before .before .loop .inv .1 .long)
 
--- src/waiting.rt:49:13
 pend-by-requires : tie.Need-pend-by-requires Inv-loop μ-loop
-pend-by-requires c κs = ?
+pend-by-requires c κs = search needs
 
--- src/waiting.rt:50:9
 mul-s : tie.Need-mul-s Inv-loop μ-loop
-mul-s c = ?
+mul-s c = record { fits = omega (arith, at (c .before .before .before), c .before .before .before .before .before .before .before .before .before .pre .small) }
 
--- src/waiting.rt:50:9
 slice-write-s : tie.Need-slice-write-s Inv-loop μ-loop
-slice-write-s c = ?
+slice-write-s c = omega (arith, at (c .before .before .before), c .before .before .before .before .before .before .loop .inv .1 .long)
 
--- src/waiting.rt:51:9
 add-i : tie.Need-add-i Inv-loop μ-loop
-add-i c = ?
+add-i c = search needs
 
--- src/waiting.rt:47:5
 loop-less : tie.Need-loop-less Inv-loop μ-loop
-loop-less c = ?
+loop-less c = search needs
 
--- src/waiting.rt:47:5
 loop-again : tie.Need-loop-again Inv-loop μ-loop
-loop-again c = ?
+loop-again c = (omega (arith, c .before .before .before .before .before .loop-test .taken), running-step _ _ _ _ _ (c .before .before .before .before .before .before .loop .inv .1) _ _ (c .before .before .before .place-of .ensures) (at (c .before .before .before)) (c .pend-by .ensures .0))
 
--- src/waiting.rt:42:1
 same-length : tie.Need-same-length Inv-loop μ-loop
-same-length c = ?
+same-length c = search needs
 
--- src/waiting.rt:42:1
 returns : tie.Need-returns Inv-loop μ-loop
-returns c = ?
+unfolding pending
+returns c = λ p h. let e : c .before .loop .i ≡ length (c .before .before .before .before .args .list .now) = omega (arith, c .before .loop .inv .0, c .loop-test .left) in rw e at (c .before .loop .inv .1 .at p h)
 
 pub pend-all-spec : {M : Type 1} → statement M
 pend-all-spec =

@@ -1,48 +1,38 @@
+-- `put_change`: by the test. Assumes nothing.
+use Rattle.changes.proofs.Rows.{put-alike, put-other}
 use borrow.Author.Needs.{needs}
 use Rattle.mirroring.proofs.waiting.put_change.Statement.{statement}
 use Rattle.mirroring.proofs.waiting.put_change.Tie as tie
-use Rattle.mirroring.proofs.waiting.put_change.Reads as reads
-use Rattle.mirroring.proofs.waiting.put_change.Lts as lts
 
--- src/waiting.rt:72:9
 returns : tie.Need-returns
-returns c = ?
+returns c = put-alike _ _ _ _ _ (c .if1 .taken)
 
--- src/waiting.rt:74:20
 mul-s : tie.Need-mul-s
 mul-s c = search needs
 
--- src/waiting.rt:74:12
 add-s : tie.Need-add-s
 add-s c = search needs
 
--- src/waiting.rt:74:32
 mul-s-2 : tie.Need-mul-s-2
 mul-s-2 c = search needs
 
--- src/waiting.rt:74:12
 add-s-2 : tie.Need-add-s-2
 add-s-2 c = search needs
 
--- src/waiting.rt:74:5
 mul-s-3 : tie.Need-mul-s-3
 mul-s-3 c = search needs
 
--- src/waiting.rt:74:5
 slice-write-s : tie.Need-slice-write-s
 slice-write-s c = search needs
 
--- src/waiting.rt:75:5
 add-result : tie.Need-add-result
 add-result c = search needs
 
--- src/waiting.rt:66:1
 same-length : tie.Need-same-length
 same-length c = search needs
 
--- src/waiting.rt:66:1
 returns-2 : tie.Need-returns-2
-returns-2 c = ?
+returns-2 c = put-other _ _ _ _ _ (c .if1 .left) (c .before .pre .0)
 
 pub put-change-spec : {M : Type 1} → statement M
 put-change-spec =

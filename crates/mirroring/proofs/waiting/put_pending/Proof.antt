@@ -1,62 +1,66 @@
+-- `put_pending`: by the test. Assumes nothing.
+use lib.ListN.{getD}
+use mir.Syntax.{w16}
+use mir.Val.{ofZ}
+use native.Mathlib.Omega.{arith}
+use lib.IntN.{pos}
+use Prim.Native.Nat.{_+_, _*_, _/_, _%_, _<_}
+use mathlib.Core.Path.{_≡_, refl}
+use native.Mathlib.Nat.{mod-lt, div-lt-iff-lt-mul}
+use Rattle.ints.proofs.Back.{back}
+use Rattle.mirroring.specs.Marks.{oldIn}
+use Rattle.mirroring.proofs.Emitting.{put-none, emitted-some, emitted-none}
 use borrow.Author.Needs.{needs}
 use Rattle.mirroring.proofs.waiting.put_pending.Statement.{statement}
 use Rattle.mirroring.proofs.waiting.put_pending.Tie as tie
-use Rattle.mirroring.proofs.waiting.put_pending.Reads as reads
-use Rattle.mirroring.proofs.waiting.put_pending.Lts as lts
-use Rattle.mirroring.proofs.waiting.old_in.Reads as old-in-reads
-use Rattle.mirroring.proofs.waiting.put_change.Reads as put-change-reads
 
--- src/waiting.rt:83:13
+row : (c : tie.Start) → c .args .p / c .args .w < 1024
+row c = div-lt-iff-lt-mul (c .pre .0) .1 (c .pre .5)
+
+column : (c : tie.Start) → c .args .p % c .args .w < 1024
+column c = omega (arith, mod-lt (c .args .p) (c .pre .0), c .pre .1)
+
 mul-v : tie.Need-mul-v
 mul-v c = search needs
 
--- src/waiting.rt:83:13
 slice-read-v : tie.Need-slice-read-v
 slice-read-v c = search needs
 
--- src/waiting.rt:85:22
 rem-place : tie.Need-rem-place
 rem-place c = search needs
 
--- src/waiting.rt:85:39
 div-place : tie.Need-div-place
 div-place c = search needs
 
--- src/waiting.rt:85:38
 mul-place : tie.Need-mul-place
-mul-place c = ?
+mul-place c = record { fits = omega (arith, row (c .before .before .before)) }
 
--- src/waiting.rt:85:21
 add-place : tie.Need-add-place
-add-place c = ?
+add-place c = record { fits = omega (arith, row (c .before .before .before), column (c .before .before .before)) }
 
--- src/waiting.rt:86:26
 mul-old-in : tie.Need-mul-old-in
 mul-old-in c = search needs
 
--- src/waiting.rt:86:26
 shared-slice-copy-out-old-in : tie.Need-shared-slice-copy-out-old-in
 shared-slice-copy-out-old-in c = search needs
 
--- src/waiting.rt:86:13
 old-in-requires : tie.Need-old-in-requires
 old-in-requires c κs = search needs
 
--- src/waiting.rt:87:9
-put-change-requires : tie.Need-put-change-requires
-put-change-requires c κs = ?
+old : (c : tie.After-old-in) → let a = c .before .before .before .before .before .args in c .old-in .result ≡ oldIn (ofZ w16 (getD (a .indices .now) (a .p) (pos 0))) (getD (a .s .now) (a .p) 0)
+old c = let a = c .before .before .before .before .before .args in rw (back w16 (getD (a .indices .now) (a .p) (pos 0)) (c .before .old-in-arg .given)) at (c .old-in .ensures .0)
 
--- src/waiting.rt:87:9
+put-change-requires : tie.Need-put-change-requires
+put-change-requires c κs = let p = c .before .before .before .before .before .before .pre in (omega (arith, p .3, p .4), (omega (arith, row (c .before .before .before .before .before .before), column (c .before .before .before .before .before .before)), c .before .old-in .ensures .1, omega (arith, p .6)))
+
 same-length : tie.Need-same-length
 same-length c = search needs
 
--- src/waiting.rt:87:9
 returns : tie.Need-returns
-returns c = ?
+returns c = let a = c .before .before .before .before .before .before .before .before .before .args in rw (emitted-some (a .w) (a .indices .now) (a .p) (getD (a .s .now) (a .p) 0) (a .p % a .w + a .p / a .w * 65536) (c .before .before .before .before .old-in .result) (c .before .before .before .before .before .before .if1 .taken) refl (old (c .before .before .before .before))) at (c .before .before .put-change .ensures)
 
--- src/waiting.rt:79:1
 returns-2 : tie.Need-returns-2
-returns-2 c = ?
+returns-2 c = rw (← emitted-none _ _ _ _ (c .if1 .left)) (put-none _ _)
 
 pub put-pending-spec : {M : Type 1} → statement M
 put-pending-spec =
