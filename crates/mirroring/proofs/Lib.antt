@@ -3,3 +3,9 @@ pub mod Runs
 pub mod Spreading
 pub mod Landing
 pub mod Emitting
+pub mod Places
+pub mod AtPlace
+pub mod Written
+pub mod Coordinates
+pub mod Copies
+pub mod Mirrored

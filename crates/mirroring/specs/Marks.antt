@@ -11,7 +11,7 @@ use lib.Dec.{leb, eqb}
 use lib.IntN.{ℤ, pos}
 use lib.ListN.{length, getD}
 use mir.Syntax.{w16}
-use mir.Val.{ofZ}
+use mir.Val.{SFits, ofZ}
 use Rattle.lists.specs.Lists.{range}
 use Rattle.selection.specs.declared.Selection.{Selection}
 use Rattle.selection.specs.Selection.{contains}
@@ -120,6 +120,7 @@ pub record Words (s : List ℕ) : Type 0 where
 -- of all steps: a sheet that is cut into tiles, and changes on it
 pub record Mirrorable (w h t : ℕ) (l : List ℤ) (list : List ℕ) : Type 0 where
   pub tiled : Tiled w h t l
+  pub fits : (p : ℕ) → SFits w16 (getD l p (pos 0))
   pub some : 0 < length list
   pub few : length list ≤ 2 ^ 20
   pub across : (j : ℕ) → j < length list → unpacked (getD list j 0) .x < w

@@ -18,15 +18,13 @@ use tiling::first_cells;
 ghost use mathlib.Core.Path.{_≡_};
 ghost use mathlib.Core.List.{map};
 ghost use Prim.Native.Nat.{_*_, _≤_};
-ghost use lib.ListN.{length, take};
+ghost use lib.ListN.{length};
 ghost use Rattle.edits.specs.Change.{packed, unpacked};
 ghost use Rattle.changes.specs.Normal.{Front};
-ghost use Rattle.tiling.specs.Cells.{cellCount, firstCells};
 ghost use Rattle.mirroring.specs.Mirror.{mirrored};
 ghost use Rattle.mirroring.specs.Marks.{Mirrorable};
 
-// The same in as many numbers as there are places, the first of which are the codes of the cells. `h` is for the
-// contract alone.
+// The same in as many numbers as there are places.
 fn mirror_all(
     w: usize,
     h: usize,
@@ -37,9 +35,9 @@ fn mirror_all(
     s: &mut [u64],
 ) -> usize
     requires { ⌜ Mirrorable w h t (now indices) (now list) × (length (now s) ≡ w * h) ⌝ }
-    requires { ⌜ take (cellCount w h t) (now s) ≡ firstCells w h t (now indices) ⌝ }
     ensures { λ r. ⌜ Front (map packed (mirrored w h t (now (indices .entry)) region (map unpacked (now (list .entry))))) (now (s .exit)) r ⌝ }
 {
+    first_cells(w, h, t, indices, s);
     spread(w, t, s);
     mark_all(w, list, s);
     land_all(w, region, list, s);
@@ -62,6 +60,5 @@ pub fn mirror_in(
     ensures { λ r. ⌜ Front (map packed (mirrored w h t (now (indices .entry)) region (map unpacked (now (list .entry))))) (now (scratch .exit)) r ⌝ }
 {
     let n = indices.len();
-    first_cells(w, h, t, indices, scratch);
     mirror_all(w, h, t, indices, region, list, &mut scratch[..n])
 }

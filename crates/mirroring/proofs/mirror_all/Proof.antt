@@ -1,46 +1,72 @@
+-- `mirror_all`: one step after the other. Assumes nothing.
+use lib.ListN.{length, getD}
+use native.Mathlib.Nat.{mul-comm, mul-le-mul-right}
+use mathlib.Core.Path.{_≡_, sym, _∙_}
+use Prim.Native.Nat.{ℕ, _*_, _<_}
+use Rattle.mirroring.specs.Marks.{classOf}
+use Rattle.tiling.proofs.Corners.{count-small}
+use Rattle.mirroring.proofs.Mirrored.{wide, listed, class-by, coded, classes, marks, words, whole}
 use borrow.Author.Needs.{needs}
 use Rattle.mirroring.proofs.mirror_all.Statement.{statement}
 use Rattle.mirroring.proofs.mirror_all.Tie as tie
-use Rattle.mirroring.proofs.mirror_all.Reads as reads
-use Rattle.mirroring.proofs.mirror_all.Lts as lts
-use Rattle.mirroring.proofs.classes.spread.Reads as spread-reads
-use Rattle.mirroring.proofs.marks.land_all.Reads as land-all-reads
-use Rattle.mirroring.proofs.marks.mark_all.Reads as mark-all-reads
-use Rattle.mirroring.proofs.waiting.emit.Reads as emit-reads
-use Rattle.mirroring.proofs.waiting.pend_all.Reads as pend-all-reads
 
--- src/lib.rt:43:5
+first-cells-requires : tie.Need-first-cells-requires
+first-cells-requires c κs = (c .before .before .before .pre .0 .tiled, rw (c .before .before .before .pre .1) (count-small (c .before .before .before .pre .0 .tiled)))
+
+-- as many numbers as places, after each step
+l0 : (c : tie.After-first-cells) → length (c .first-cells .last .1 .1 .1 .1 .0) ≡ c .before .before .before .before .args .w * c .before .before .before .before .args .h
+l0 c = c .first-cells .kept .1 .1 .1 .1 .0 ∙ c .before .before .before .before .pre .1
+
+l1 : (c : tie.After-spread) → length (c .spread .last .1 .1 .0) ≡ c .before .before .before .before .before .before .before .before .args .w * c .before .before .before .before .before .before .before .before .args .h
+l1 c = c .spread .kept .1 .1 .0 ∙ l0 (c .before .before .before .before)
+
+l2 : (c : tie.After-mark-all) → length (c .mark-all .last .1 .1 .0) ≡ c .before .before .before .before .before .before .before .before .before .before .before .before .args .w * c .before .before .before .before .before .before .before .before .before .before .before .before .args .h
+l2 c = c .mark-all .kept .1 .1 .0 ∙ l1 (c .before .before .before .before)
+
+l3 : (c : tie.After-land-all) → length (c .land-all .last .1 .1 .1 .0) ≡ c .before .before .before .before .before .before .before .before .before .before .before .before .before .before .before .before .args .w * c .before .before .before .before .before .before .before .before .before .before .before .before .before .before .before .before .args .h
+l3 c = c .land-all .kept .1 .1 .1 .0 ∙ l2 (c .before .before .before .before)
+
+l4 : (c : tie.After-pend-all) → length (c .pend-all .last .1 .1 .0) ≡ c .before .before .before .before .before .before .before .before .before .before .before .before .before .before .before .before .before .before .before .before .args .w * c .before .before .before .before .before .before .before .before .before .before .before .before .before .before .before .before .before .before .before .before .args .h
+l4 c = c .pend-all .kept .1 .1 .0 ∙ l3 (c .before .before .before .before)
+
+-- the classes
+e1 : (c : tie.After-spread) → let a = c .before .before .before .before .before .before .before .before .args in (p : ℕ) → p < a .w * a .h → getD (c .spread .last .1 .1 .0) p 0 ≡ classOf (a .w) (a .t) (a .indices .now) p
+e1 c p b = c .spread .ensures p (rw (l0 (c .before .before .before .before)) b) ∙ class-by _ _ _ _ _ (c .before .before .before .before .before .before .before .before .args .region) (c .before .before .before .before .before .before .before .before .pre .0) _ (l0 (c .before .before .before .before)) (c .before .before .before .before .first-cells .ensures) p b
+
 spread-requires : tie.Need-spread-requires
-spread-requires c κs = ?
+spread-requires c κs = coded _ _ _ _ _ (c .before .before .before .before .before .before .before .args .region) (c .before .before .before .before .before .before .before .pre .0) _ (l0 (c .before .before .before)) (c .before .before .before .first-cells .ensures)
 
--- src/lib.rt:44:5
 mark-all-requires : tie.Need-mark-all-requires
-mark-all-requires c κs = ?
+mark-all-requires c κs = (listed _ _ _ _ _ (c .before .before .before .before .before .before .before .before .before .before .before .args .region) (c .before .before .before .before .before .before .before .before .before .before .before .pre .0) _ (l1 (c .before .before .before)), classes _ _ _ _ _ (c .before .before .before .before .before .before .before .before .before .before .before .args .region) (c .before .before .before .before .before .before .before .before .before .before .before .pre .0) _ (l1 (c .before .before .before)) (e1 (c .before .before .before)))
 
--- src/lib.rt:45:5
 land-all-requires : tie.Need-land-all-requires
-land-all-requires c κs = ?
+land-all-requires c κs = (wide _ _ _ _ _ (c .before .before .before .before .before .before .before .before .before .before .before .before .before .before .before .args .region) (c .before .before .before .before .before .before .before .before .before .before .before .before .before .before .before .pre .0), listed _ _ _ _ _ (c .before .before .before .before .before .before .before .before .before .before .before .before .before .before .before .args .region) (c .before .before .before .before .before .before .before .before .before .before .before .before .before .before .before .pre .0) _ (l2 (c .before .before .before)), marks _ _ _ _ _ (c .before .before .before .before .before .before .before .before .before .before .before .before .before .before .before .args .region) (c .before .before .before .before .before .before .before .before .before .before .before .before .before .before .before .pre .0) _ (l1 (c .before .before .before .before .before .before .before)) (e1 (c .before .before .before .before .before .before .before)) _ (l2 (c .before .before .before)) (c .before .before .before .mark-all .ensures))
 
--- src/lib.rt:46:5
 pend-all-requires : tie.Need-pend-all-requires
-pend-all-requires c κs = ?
+pend-all-requires c κs = listed _ _ _ _ _ (c .before .before .before .before .before .before .before .before .before .before .before .before .before .before .before .before .before .before .before .args .region) (c .before .before .before .before .before .before .before .before .before .before .before .before .before .before .before .before .before .before .before .pre .0) _ (l3 (c .before .before .before))
 
--- src/lib.rt:47:5
 emit-requires : tie.Need-emit-requires
-emit-requires c κs = ?
+emit-requires c κs =
+    let m = c .before .before .before .before .before .before .before .before .before .before .before .before .before .before .before .before .before .before .before .before .before .before .before .pre .0 in
+    let s = l4 (c .before .before .before) in (
+      wide _ _ _ _ _ (c .before .before .before .before .before .before .before .before .before .before .before .before .before .before .before .before .before .before .before .before .before .before .before .args .region) (c .before .before .before .before .before .before .before .before .before .before .before .before .before .before .before .before .before .before .before .before .before .before .before .pre .0),
+      m .tiled .w-small,
+      rw (s, mul-comm (c .before .before .before .before .before .before .before .before .before .before .before .before .before .before .before .before .before .before .before .before .before .before .before .args .w) (c .before .before .before .before .before .before .before .before .before .before .before .before .before .before .before .before .before .before .before .before .before .before .before .args .h)) (mul-le-mul-right (c .before .before .before .before .before .before .before .before .before .before .before .before .before .before .before .before .before .before .before .before .before .before .before .args .w) (m .tiled .h-small)),
+      s ∙ sym (m .tiled .long),
+      words _ _ _ _ _ (c .before .before .before .before .before .before .before .before .before .before .before .before .before .before .before .before .before .before .before .before .before .before .before .args .region) (c .before .before .before .before .before .before .before .before .before .before .before .before .before .before .before .before .before .before .before .before .before .before .before .pre .0) _ (l1 (c .before .before .before .before .before .before .before .before .before .before .before .before .before .before .before)) (e1 (c .before .before .before .before .before .before .before .before .before .before .before .before .before .before .before)) _ (l2 (c .before .before .before .before .before .before .before .before .before .before .before)) (c .before .before .before .before .before .before .before .before .before .before .before .mark-all .ensures) _ (l3 (c .before .before .before .before .before .before .before)) (c .before .before .before .before .before .before .before .land-all .ensures) _ (l4 (c .before .before .before)) (c .before .before .before .pend-all .ensures),
+    )
 
--- src/lib.rt:30:1
 same-length : tie.Need-same-length
 same-length c = search needs
 
--- src/lib.rt:30:1
 returns : tie.Need-returns
-returns c = ?
+returns c = rw (whole _ _ _ _ _ (c .before .before .before .before .before .before .before .before .before .before .before .before .before .before .before .before .before .before .before .before .before .before .before .before .before .before .args .region) (c .before .before .before .before .before .before .before .before .before .before .before .before .before .before .before .before .before .before .before .before .before .before .before .before .before .before .pre .0) _ (l1 (c .before .before .before .before .before .before .before .before .before .before .before .before .before .before .before .before .before .before)) (e1 (c .before .before .before .before .before .before .before .before .before .before .before .before .before .before .before .before .before .before)) _ (l2 (c .before .before .before .before .before .before .before .before .before .before .before .before .before .before)) (c .before .before .before .before .before .before .before .before .before .before .before .before .before .before .mark-all .ensures) _ (l3 (c .before .before .before .before .before .before .before .before .before .before)) (c .before .before .before .before .before .before .before .before .before .before .land-all .ensures) _ (l4 (c .before .before .before .before .before .before)) (c .before .before .before .before .before .before .pend-all .ensures)) at (c .before .before .emit .ensures)
 
 pub mirror-all-spec : {M : Type 1} → statement M
 mirror-all-spec =
     tie.close
     (tie.spec
+    first-cells-requires
     spread-requires
     mark-all-requires
     land-all-requires

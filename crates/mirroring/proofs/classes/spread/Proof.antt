@@ -30,7 +30,7 @@ slice-read-code : tie.Need-slice-read-code Inv-loop μ-loop
 slice-read-code c = omega (arith, c .before .cell-of .ensures .1, c .before .before .before .loop .inv .long, c .before .before .before .loop .inv .high, c .before .before .loop-test .taken)
 
 class-by-requires : tie.Need-class-by-requires Inv-loop μ-loop
-class-by-requires c κs = 
+class-by-requires c κs =
     let p = c .before .before .before .before .before .pre in
     let i = c .before .before .before .loop .inv in
     let e = code-is _ _ _ _ _ i (c .before .before .loop-test .taken) _ _ (c .before .cell-of .ensures .0) refl in

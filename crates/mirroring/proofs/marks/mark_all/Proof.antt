@@ -49,7 +49,7 @@ slice-read-mark-by : tie.Need-slice-read-mark-by Inv-loop μ-loop
 slice-read-mark-by c = omega (arith, within (c .before .before), c .before .before .before .before .before .loop .inv .1 .long)
 
 mark-by-requires : tie.Need-mark-by-requires Inv-loop μ-loop
-mark-by-requires c κs = 
+mark-by-requires c κs =
     let p = c .before .before .before .before .before .before .before .before .pre .0 in
     let i = c .before .before .before .before .before .loop .inv in
     let h = mark-read _ _ _ _ _ (p .small) (c .before .before .before .before .before .before .before .before .pre .1 .within) (i .1) _ (within (c .before .before)) in

@@ -19,7 +19,7 @@ loop-holds : tie.Need-loop-holds Inv-loop μ-loop
 loop-holds c = emitting-start _ _ _
 
 put-pending-requires : tie.Need-put-pending-requires Inv-loop μ-loop
-put-pending-requires c κs = 
+put-pending-requires c κs =
     let p = c .before .before .before .before .pre in
     let i = c .before .before .loop .inv in
     let t = c .before .loop-test .taken in
