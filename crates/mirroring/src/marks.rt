@@ -1,5 +1,5 @@
 // The last change of each class, and its copies.
-use apply::place_of;
+use pixels::place_of;
 use selection::Selection;
 ghost use mathlib.Core.Path.{_≡_};
 ghost use mathlib.Core.Bool.{cond};

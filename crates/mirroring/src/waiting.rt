@@ -1,7 +1,7 @@
 // What is pending at each place: the caller's changes over the copies, and the result.
 use crate::marks::new_bits;
-use apply::bits_of;
-use apply::place_of;
+use pixels::bits_of;
+use pixels::place_of;
 ghost use mathlib.Core.Path.{_≡_};
 ghost use Prim.Native.Nat.{ℕ, _+_, _*_, _≤_, _<_, _^_};
 ghost use lib.ListN.{length, getD};
