@@ -1,0 +1,152 @@
+-- The checks of the call in their order, and what they leave. Assumes nothing.
+use mathlib.Core.Path.{_≡_, refl, sym, ap, _∙_}
+use mathlib.Core.Bool.{Bool, true, false}
+use mathlib.Core.List.{List, [], _∷_, _++_, map}
+use Prim.Native.Nat.{ℕ, zero, suc, _*_, _≤_, _<_}
+use native.Mathlib.Omega.{arith}
+use borrow.Author.Tests.{lt-ltb, le-ltb, ltb-false}
+use lib.Dec.{ltb}
+use lib.IntN.{ℤ}
+use lib.ListN.{length, take}
+use lib.Seq.{take-length}
+use Rattle.limits.specs.Limits.{maxChanges}
+use Rattle.limits.specs.Numbers.{offTheSheet, noSpace, listTooLong}
+use Rattle.limits.specs.Checks.{Check, _when_, firstOf, refusedOr}
+use Rattle.limits.specs.Answer.{Filled, filled}
+use Rattle.limits.specs.declared.Counted.{Counted}
+use Rattle.limits.specs.declared.Counted.the-variants as counted
+use Rattle.limits.proofs.First.{first-past, first-here, refused-first, result-first, past, past-both, skip}
+use Rattle.selection.specs.declared.Selection.{Selection}
+use Rattle.selection.specs.declared.Area.{Area}
+use Rattle.selection.specs.Region.{regionChecks, regionIn}
+use Rattle.sheet.specs.Sheet.{Sheet}
+use Rattle.sheet.specs.Checks.{sheetChecks, WellFormed, Judged}
+use Rattle.sheet.proofs.Judging.{none-applied, past-sheet, refused-sheet}
+use Rattle.edits.specs.Change.{packed, unpacked}
+use Rattle.changes.specs.Normal.{Front}
+use Rattle.changes.specs.Listed.{handed}
+use Rattle.mirroring.specs.Mirror.{mirrored}
+use Rattle.mirror.specs.declared.Stage.the-variants.{Canvas, Refused}
+use Rattle.mirror.specs.Calls.{touching, straying, mirrorChecks, stageOf, mirrorList, mirrorCall}
+
+module _ (s : Sheet) (a : Area) (touched : Bool) (list : List ℕ) (room : ℕ) where
+  abbrev ends : List Check
+  ends = offTheSheet when straying touched (s .w) (s .h) list ∷ noSpace when ltb room (s .w * s .h) ∷ []
+
+  abbrev region-checks : List Check
+  region-checks = regionChecks a (s .w) (s .h)
+
+  abbrev rest : List Check
+  rest = listTooLong when ltb maxChanges (length list) ∷ (region-checks ++ ends)
+
+  pub stage-sheet : (n : ℕ) → Judged s n → (n ≡ 0 → ⊥) → Refused n ≡ stageOf s a touched list room
+  unfolding stageOf mirrorChecks
+  stage-sheet n j h = refused-sheet s rest Refused (Canvas (regionIn a (s .w) (s .h))) n j h
+
+  module _ (f : WellFormed s) where
+    by-number : (n : ℕ) → n ≡ firstOf rest → (n ≡ 0 → ⊥) → Refused n ≡ stageOf s a touched list room
+    unfolding stageOf mirrorChecks
+    by-number n e h = refused-first (sheetChecks [] s ++ rest) Refused (Canvas (regionIn a (s .w) (s .h))) n (e ∙ sym (past-sheet s f rest)) h
+
+    pub stage-long : maxChanges < length list → Refused 21 ≡ stageOf s a touched list room
+    unfolding firstOf
+    stage-long h = by-number 21 (rw (lt-ltb maxChanges (length list) h)) (λ z. omega arith)
+
+    module _ (few : length list ≤ maxChanges) where
+      past-list : firstOf rest ≡ firstOf (region-checks ++ ends)
+      past-list = skip (listTooLong when ltb maxChanges (length list)) (region-checks ++ ends) (le-ltb maxChanges (length list) few)
+
+      pub stage-off : 5 ≡ firstOf region-checks → Refused 5 ≡ stageOf s a touched list room
+      stage-off e = by-number 5 (first-here region-checks ends 5 e (λ z. omega arith) ∙ sym past-list) (λ z. omega arith)
+
+      module _ (on : firstOf region-checks ≡ 0) where
+        past-region : firstOf rest ≡ firstOf ends
+        past-region = past-list ∙ first-past region-checks ends on
+
+        pub stage-stray : straying touched (s .w) (s .h) list ≡ true → Refused 5 ≡ stageOf s a touched list room
+        unfolding firstOf
+        stage-stray e = by-number 5 (sym (past-region ∙ rw e)) (λ z. omega arith)
+
+        module _ (held : straying touched (s .w) (s .h) list ≡ false) where
+          pub stage-short : room < s .w * s .h → Refused 16 ≡ stageOf s a touched list room
+          unfolding firstOf
+          stage-short h = by-number 16 (sym (past-region ∙ rw (held, lt-ltb room (s .w * s .h) h))) (λ z. omega arith)
+
+          pub stage-done : s .w * s .h ≤ room → Canvas (regionIn a (s .w) (s .h)) ≡ stageOf s a touched list room
+          unfolding stageOf mirrorChecks firstOf
+          stage-done h = result-first (sheetChecks [] s ++ rest) Refused (Canvas (regionIn a (s .w) (s .h))) (past-sheet s f rest ∙ past-region ∙ rw (held, le-ltb room (s .w * s .h) h))
+
+  -- ---- what the answer tells
+  pub record Told (n : ℕ) : Type 0 where
+    pub value : n ≡ firstOf (mirrorChecks s a touched list room)
+    pub some : n ≡ 0 → ⊥
+
+  told : (n : ℕ) → Refused n ≡ stageOf s a touched list room → Told n
+  unfolding stageOf refusedOr
+  told n e = go (firstOf (mirrorChecks s a touched list room)) refl e
+    where
+      go : (m : ℕ) → firstOf (mirrorChecks s a touched list room) ≡ m → Refused n ≡ refusedOr m Refused (Canvas (regionIn a (s .w) (s .h))) → Told n
+      go zero q e = absurd (let z : _≡_ {A = ℕ} 0 1 = cc in omega arith)
+      go (suc m) q e = let i : n ≡ suc m = cc in record { value = i ∙ sym q; some = λ z. omega arith }
+
+  refused : (out : List ℕ) (result : Filled ℕ) (n : ℕ) → Refused n ≡ stageOf s a touched list room
+      → filled (counted.Refused n) out ≡ refusedOr (firstOf (mirrorChecks s a touched list room)) (λ m. filled (counted.Refused m) out) result
+  refused out result n e = let t = told n e in refused-first (mirrorChecks s a touched list room) (λ m. filled (counted.Refused m) out) result n (t .value) (t .some)
+
+  pub record Passed (region : Selection) : Type 0 where
+    pub none : firstOf (mirrorChecks s a touched list room) ≡ 0
+    pub is : region ≡ regionIn a (s .w) (s .h)
+    pub well : WellFormed s
+    pub few : length list ≤ maxChanges
+    pub held : straying touched (s .w) (s .h) list ≡ false
+    pub space : s .w * s .h ≤ room
+
+  left : firstOf (mirrorChecks s a touched list room) ≡ 0 → Passed (regionIn a (s .w) (s .h))
+  unfolding mirrorChecks
+  left e =
+      let x = past-both (sheetChecks [] s) rest e in
+      let y = past (listTooLong when ltb maxChanges (length list)) (region-checks ++ ends) (omega arith) (x .right) in
+      let z = past-both region-checks ends (y .rest) in
+      let u = past (offTheSheet when straying touched (s .w) (s .h) list) (noSpace when ltb room (s .w * s .h) ∷ []) (omega arith) (z .right) in
+      record {
+        none = e;
+        is = refl;
+        well = none-applied s (x .left);
+        few = ltb-false maxChanges (length list) (y .off);
+        held = u .off;
+        space = ltb-false room (s .w * s .h) (past (noSpace when ltb room (s .w * s .h)) [] (omega arith) (u .rest) .off);
+      }
+
+  pub passed : (region : Selection) → Canvas region ≡ stageOf s a touched list room → Passed region
+  unfolding stageOf refusedOr
+  passed region e = go (firstOf (mirrorChecks s a touched list room)) refl e
+    where
+      go : (m : ℕ) → firstOf (mirrorChecks s a touched list room) ≡ m → Canvas region ≡ refusedOr m Refused (Canvas (regionIn a (s .w) (s .h))) → Passed region
+      go zero q e = let i : region ≡ regionIn a (s .w) (s .h) = cc in rw i (left q)
+      go (suc m) q e = absurd (let z : _≡_ {A = ℕ} 0 1 = cc in omega arith)
+
+  -- ---- the answer of the call
+  module _ (on : Bool) (t : ℕ) (out : List ℕ) (is : touched ≡ touching on (length list) t (s .w) (s .h)) where
+    pub call-refused : (n : ℕ) → Refused n ≡ stageOf s a touched list room → filled (counted.Refused n) out ≡ mirrorCall s a on t list room out
+    unfolding mirrorCall
+    call-refused n e = rw (← is) (refused out (handed (mirrorList touched (s .w) (s .h) t (s .indices) (regionIn a (s .w) (s .h)) list) out) n e)
+
+    pub call-done : (region : Selection) {r : Counted} {m : List ℕ} → Passed region → filled r m ≡ handed (mirrorList touched (s .w) (s .h) t (s .indices) region list) out
+        → filled r m ≡ mirrorCall s a on t list room out
+    unfolding mirrorCall
+    call-done region p d =
+        rw (← is)
+        (d ∙ ap (λ (g : Selection). handed (mirrorList touched (s .w) (s .h) t (s .indices) g list) out) (p .is)
+        ∙ result-first (mirrorChecks s a touched list room) (λ n. filled (counted.Refused n) out) (handed (mirrorList touched (s .w) (s .h) t (s .indices) (regionIn a (s .w) (s .h)) list) out) (p .none))
+
+-- ---- the end
+module _ (w h t : ℕ) (l : List ℤ) (region : Selection) (list out : List ℕ) where
+  pub handed-mirrored : (touched : Bool) {r : Counted} {m s : List ℕ} {n : ℕ} → touched ≡ true → Front (map packed (mirrored w h t l region (map unpacked list))) s n
+      → filled r m ≡ handed (take n s) out → filled r m ≡ handed (mirrorList touched w h t l region list) out
+  unfolding mirrorList
+  handed-mirrored touched e f d = d ∙ rw (e, f .front)
+
+  pub handed-untouched : (touched : Bool) {r : Counted} {m : List ℕ} → touched ≡ false → filled r m ≡ handed (take (length list) list) out
+      → filled r m ≡ handed (mirrorList touched w h t l region list) out
+  unfolding mirrorList
+  handed-untouched touched e d = d ∙ rw (e, take-length list)
