@@ -1,0 +1,34 @@
+-- Scratch for a call whose flat form takes none. Definitions only. Assumes nothing.
+use Prim.Native.Nat.{ℕ}
+use mathlib.Core.Bool.{cond}
+use mathlib.Core.List.{List}
+use lib.Dec.{ltb}
+use Rattle.limits.specs.Numbers.{noSpace}
+use Rattle.limits.specs.Answer.{Filled, filled}
+use Rattle.limits.specs.declared.Counted.{Counted}
+use Rattle.limits.specs.declared.Counted.the-variants as counted
+use Rattle.palette.specs.declared.Removal.{Removal}
+use Rattle.palette.specs.declared.Removal.the-variants as removal
+use Rattle.palette.specs.Removal.{Remapped, remapped}
+
+-- "scratch under w × h places": 16, where nothing else refuses the call
+unfoldable pub noRoom : Counted → Counted
+noRoom (counted.Count n) = counted.Refused noSpace
+noRoom (counted.Refused n) = counted.Refused n
+
+-- a call with scratch of `room` places on a sheet of `pixels`
+unfoldable pub needing : ℕ → ℕ → (List ℕ → Filled ℕ) → List ℕ → Filled ℕ
+needing room pixels call out = cond (ltb room pixels) (filled (noRoom (call out .answer)) out) (call out)
+
+-- ---- the same of a removal
+-- how many changes it has, none where it is a refusal
+abbrev pub removalCount : Removal → ℕ
+removalCount (removal.Made edit n) = n
+removalCount (removal.Refused n) = 0
+
+unfoldable pub noRemoval : Removal → Removal
+noRemoval (removal.Made edit n) = removal.Refused noSpace
+noRemoval (removal.Refused n) = removal.Refused n
+
+unfoldable pub needingRemap : ℕ → ℕ → (List ℕ → Remapped) → List ℕ → Remapped
+needingRemap room pixels call out = cond (ltb room pixels) (remapped (noRemoval (call out .answer)) out) (call out)
