@@ -127,7 +127,7 @@ fn moved_selection(s: Selection, dx: i32, dy: i32, w: usize, h: usize) -> Chosen
     s.translated(dx, dy, w, h)
 }
 
-// What a call answers with a list that was handed out and a selection.
+// What a call answers with a list that was counted and a selection.
 pub(crate) fn shifted(counted: Counted, selection: Chosen) -> Shifted
     ensures { λ r. ⌜ r ≡ shiftedOf selection counted ⌝ }
 {
