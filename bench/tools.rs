@@ -300,6 +300,41 @@ fn snap() {
     }
 }
 
+/// Unique tiles and their map, at tolerance 0.
+fn tiles() {
+    use pixelforge::tiles::{extract, TileConfig};
+    let mut draw = Draw(13);
+    let few: Vec<i16> = (0..200 * 256).map(|_| draw.below(16) as i16).collect();
+    let one = Sheet::of(1024, 16, |x, y| (x % 16 + y % 16) as i16 / 2);
+    let mixed = Sheet::of(1024, 16, |x, y| few[(x / 16 * 7 + y / 16 * 13) % 200 * 256 + y % 16 * 16 + x % 16]);
+    for (name, sheet) in [("noise", noise(1024, 16)), ("200 tiles", mixed), ("one tile", one)] {
+        let (s, document) = (&sheet, sheet.document());
+        for t in [8, 16] {
+            let (mut out, mut map) = (vec![0i16; 1 << 20], vec![0u32; 3 * (1 << 20) / (t * t)]);
+            let (mut scratch, mut r) = (vec![0u64; 1 << 20], [0usize; 5]);
+            let config = TileConfig { tile_size: t as i64, tile_dedupe_tolerance: 0.0, tileset_columns: 0 };
+            let rust = |d: &Document| extract(&d.indices.indices, 1024, 1024, &d.palette_lab, &config).unwrap();
+            row(
+                &format!("extract, 1,024 × 1,024, t = {t}, {name}"),
+                &mut [
+                    &mut || assert_eq!(calls::call_extract(s.side, s.side, s.k, &s.palette, &s.lab, &s.indices, t, &mut out, &mut map, &mut scratch, &mut r), 0),
+                    &mut || {
+                        assert!(black_box(stray(black_box(&document))).is_none());
+                        black_box(rust(black_box(&document)));
+                    },
+                    &mut || {
+                        black_box(rust(black_box(&document)));
+                    },
+                ],
+            );
+            let made = rust(&document);
+            assert!(r[..2] == [made.n_tiles, made.tilemap.tiles.len()]);
+            assert!(made.tiles.iter().zip(&out).all(|(a, b)| *a == i64::from(*b)));
+            assert!(made.tilemap.tiles.iter().flatten().zip(&map).all(|(a, b)| *a == i64::from(*b)));
+        }
+    }
+}
+
 fn main() {
     println!("| what                                                       |   ours ms | scan+call | ratio |      call | ratio |");
     println!("|------------------------------------------------------------|-----------|-----------|-------|-----------|-------|");
@@ -307,4 +342,5 @@ fn main() {
     strokes();
     normal();
     snap();
+    tiles();
 }

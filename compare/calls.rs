@@ -77,6 +77,10 @@ ours! {
     call_snap_rgba(sheet, rgba: [u8], image_w: usize, image_h: usize, out: mut [i16], r: R,) -> u8;
     call_eyedropper(sheet, x: i32, y: i32, got: &mut [i16; 1],) -> u8;
 
+    call_flip(tile: [i16], t: usize, flip_h: bool, flip_v: bool, out: mut [i16], r: R,) -> u8;
+    call_extract(sheet, t: usize, out: mut [i16], map: mut [u32], scratch: mut [u64], r: R,) -> u8;
+    call_mirror_tiles(sheet, whole: bool, s: S, on: bool, t: usize, list: [u64], scratch: mut [u64], out: mut [u64], r: R,) -> u8;
+
     call_check_color(limited: bool, permitted: [u8], rgb: &[u8; 3],) -> u8;
     call_fixed_choices(sheet, limited: bool, permitted: [u8], used: mut [u8], r: R,) -> u8;
     call_set_color(sheet, limited: bool, permitted: [u8], index: usize, rgb: &[u8; 3], bytes: &mut [u8; 8], doubles: &mut [f64; 3], r: R,) -> u8;

@@ -19,7 +19,7 @@ macro_rules! sheet {
 pub(crate) use sheet;
 
 /// The words of an answer that is a count with a list in a buffer.
-fn listed(no: u8, r: &[usize], out: &[u64]) -> Vec<u64> {
+pub fn listed(no: u8, r: &[usize], out: &[u64]) -> Vec<u64> {
     let mut words = vec![u64::from(no)];
     sizes(&mut words, r);
     words.extend_from_slice(out);
@@ -27,7 +27,7 @@ fn listed(no: u8, r: &[usize], out: &[u64]) -> Vec<u64> {
 }
 
 /// What is expected of a call whose result is a list: 16 where the buffer or the scratch is too short.
-fn with_list(
+pub fn with_list(
     no: u8,
     out: usize,
     short: bool,

@@ -15,6 +15,7 @@ mod sample;
 mod sheet;
 mod sheets;
 mod table;
+mod tiled;
 
 use std::time::Instant;
 
@@ -25,6 +26,7 @@ fn main() {
     let start = Instant::now();
     let mut t = table::Table::default();
     inputs::run(&mut t);
+    tiled::run(&mut t);
     histories::run(&mut t);
     let same = t.print();
     println!();

@@ -1,5 +1,5 @@
 //! Inputs for the calls that return no sheet: tiny ones exhaustively, then random ones, at the limits and past them, and
-//! damaged copies of good ones. Calls of tiles.rs (`flip`, `extract`, `mirror_tiles`) are to stand beside `tools`.
+//! damaged copies of good ones. Those of tiles.rs stand in tiled.rs.
 
 use crate::draw::Draw;
 use crate::drawn;

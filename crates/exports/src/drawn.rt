@@ -1,4 +1,4 @@
-// The calls of `drawing`, `fill`, `fills`, `moves` and `clips`. Those of tiles.rs and `mirror_tiles` have their place here, too.
+// The calls of `drawing`, `fill`, `fills`, `moves` and `clips`.
 use crate::flat::area_of;
 use crate::flat::part_of;
 use crate::flat::tell_chosen;

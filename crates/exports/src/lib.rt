@@ -10,6 +10,7 @@ mod listed;
 mod palettes;
 mod selections;
 mod sheets;
+mod tiled;
 
 pub use colours::call_cbrt;
 pub use colours::call_nearest_index;
@@ -67,3 +68,6 @@ pub use sheets::call_diff_mask;
 pub use sheets::call_get_at;
 pub use sheets::call_new;
 pub use sheets::call_with_lab;
+pub use tiled::call_extract;
+pub use tiled::call_flip;
+pub use tiled::call_mirror_tiles;

@@ -1,6 +1,5 @@
 // Per-tile editing: `mirror_tiles` of tools.rs. A list of changes is lent as one number of 64 bits a change, and so
 // is the scratch, whose contents are free before and after the call.
-use apply::is_outside;
 use changes::hand_out;
 use limits::Counted;
 use limits::LIST_TOO_LONG;
@@ -9,6 +8,7 @@ use limits::NO_SPACE;
 use limits::OFF_THE_SHEET;
 use lists::either;
 use mirroring::mirror_in;
+use pixels::is_outside;
 use selection::Area;
 use selection::Chosen;
 use selection::Selection;
