@@ -47,5 +47,5 @@ extractedIn w h t indices tiles map =
 unfoldable pub extractCall : Sheet → ℕ → ℕ → List ℤ → List ℕ → Left
 extractCall s t places tiles map =
     checked (sheetChecks [] s ++ (sideChecks (s .w) (s .h) t ++ (noSpace when ltb places (s .w * s .h) ∷ [])))
-    (λ n. left (Refused n) tiles map)
+    (λ number. left (Refused number) tiles map)
     (extractedIn (s .w) (s .h) t (s .indices) tiles map)

@@ -12,7 +12,8 @@ use mir.Val.{ofZ}
 use Rattle.tiling.specs.Tile.{flipped}
 use Rattle.tiling.specs.Cells.{cellOf, firstCell, codeOf}
 
--- ---- a number for a tile
+-- ---- a number for a tile: what is found rests only on flips keeping the key below
+-- one index mixed in
 unfoldable pub mixed : ℕ → ℤ → ℕ
 mixed n z = (n + ofZ w16 z) * 1664525 % 2 ^ 32
 
@@ -20,6 +21,7 @@ unfoldable pub mixedAll : ℕ → List ℤ → ℕ
 mixedAll n [] = n
 mixedAll n (z ∷ l) = mixedAll (mixed n z) l
 
+-- the middle digits of a square
 unfoldable pub numberOf : List ℤ → ℕ
 numberOf tile = mixedAll 7 tile * mixedAll 7 tile / 2 ^ 16 % 2 ^ 32
 
@@ -27,10 +29,10 @@ numberOf tile = mixedAll 7 tile * mixedAll 7 tile / 2 ^ 16 % 2 ^ 32
 unfoldable pub keyOf : ℕ → List ℤ → ℕ
 keyOf t tile = (numberOf (flipped t false false tile) + numberOf (flipped t true false tile) + numberOf (flipped t false true tile) + numberOf (flipped t true true tile)) % 2 ^ 32
 
--- one of n chains
 unfoldable pub chainOf : ℕ → ℕ → List ℤ → ℕ → ℕ
 chainOf w t indices c = keyOf t (cellOf w t indices c)
 
+-- one of n chains
 unfoldable pub scaled : ℕ → ℕ → ℕ
 scaled key n = key * n / 2 ^ 32
 
