@@ -1,1 +1,4 @@
 pub mod Replaying
+pub mod PushSteps
+pub mod Finishing
+pub mod Carrying

@@ -57,14 +57,14 @@ head-markable replay s p (PaletteAdd c) m l h q = tt
 head-markable replay s p (PaletteRemove i c lab) m l h q = (omega (arith, leb-false (s .k) i (past _ _ (omega arith) q .off), l .k-small), h)
 
 -- ---- the checks read no storage
-bare-each : (replay : Bool) (s : Sheet) (e : Edit) (cs : List flat.Change) → firstOf (flatMap (changeChecks replay (bare (s .w) (s .h) (s .k) (s .indices)) e) cs) ≡ firstOf (flatMap (changeChecks replay s e) cs)
+pub bare-each : (replay : Bool) (s : Sheet) (e : Edit) (cs : List flat.Change) → firstOf (flatMap (changeChecks replay (bare (s .w) (s .h) (s .k) (s .indices)) e) cs) ≡ firstOf (flatMap (changeChecks replay s e) cs)
 unfolding changeChecks pixelChecks remapChecks misdirected
 bare-each replay s (Pixels tool) cs = refl
 bare-each replay s (PaletteSet i old new lab) cs = refl
 bare-each replay s (PaletteAdd c) cs = refl
 bare-each replay s (PaletteRemove i c lab) cs = refl
 
-bare-left : (s : Sheet) (e : Edit) (cs : List flat.Change) → firstOf (leftChecks (bare (s .w) (s .h) 0 (s .indices)) e cs) ≡ firstOf (leftChecks s e cs)
+pub bare-left : (s : Sheet) (e : Edit) (cs : List flat.Change) → firstOf (leftChecks (bare (s .w) (s .h) 0 (s .indices)) e cs) ≡ firstOf (leftChecks s e cs)
 unfolding leftChecks
 bare-left s (Pixels tool) cs = refl
 bare-left s (PaletteSet i old new lab) cs = refl
@@ -133,7 +133,7 @@ module _ (room w h k : ℕ) (palette : List ℕ) (lab : List Float) (indices : L
             whole ∙ first-kept n _ kept ∙ o .refuses kept
 
 -- ---- the edit done
-unpainted : (n w : ℕ) (e : Edit) (list : List Change) (l : List ℤ) (i : ℕ) → paintUpto (suc n) e w list l i ≡ l
+pub unpainted : (n w : ℕ) (e : Edit) (list : List Change) (l : List ℤ) (i : ℕ) → paintUpto (suc n) e w list l i ≡ l
 unpainted n w e list l zero = refl
 unpainted n w e list l (suc i) = sym (refused-unpainted w (paintUpto (suc n) e w list l i) e (suc n) _ (λ z. omega (arith, z))) ∙ unpainted n w e list l i
 

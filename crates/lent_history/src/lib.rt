@@ -2,8 +2,10 @@
 // of the same name that takes and returns them by value, and its contract is that call's own equation.
 mod moving;
 mod op;
+mod pushing;
 
 pub use moving::mark_saved;
 pub use moving::redo;
 pub use moving::undo;
 pub use op::replay;
+pub use pushing::push;

@@ -71,14 +71,7 @@ fn open_replay(
 }
 
 // After the list: the number so far or, where that is 0, 13 of a removal that leaves a pixel of its entry, or 0.
-pub(crate) fn left_after(
-    no: u8,
-    edit: Edit,
-    w: usize,
-    h: usize,
-    indices: &[i16],
-    marks: &[u8],
-) -> u8
+fn left_after(no: u8, edit: Edit, w: usize, h: usize, indices: &[i16], marks: &[u8]) -> u8
     requires { ⌜ (no ≡ 0 → Checkable edit w h (length (now indices)) (length (now marks))) ⌝ }
     ensures { λ r. ⌜ ((cs : List flat.Change) → (no ≡ 0 → MarksFor edit w (w * h) cs (now (marks .entry))) → r ≡ orElse no (firstOf (leftChecks (bare w h 0 (now (indices .entry))) edit cs))) ⌝ }
 {
