@@ -1,7 +1,7 @@
 -- When a list is touched, and what is known of it then. Assumes nothing.
-use Prim.Native.Nat.{ℕ, zero, suc, _*_, _%_, _≤_, _<_, _^_}
+use Prim.Native.Nat.{ℕ, zero, suc, _%_, _≤_, _<_}
 use mathlib.Core.Path.{_≡_, refl, sym, ap, _∙_}
-use mathlib.Core.Bool.{Bool, true, false, not, cond, _&&_, _||_}
+use mathlib.Core.Bool.{Bool, true, false, not, _&&_, _||_}
 use mathlib.Core.List.{List, [], _∷_, map}
 use native.Mathlib.Omega.{arith}
 use native.Mathlib.Decide.{ℕ-discrete}
@@ -19,7 +19,6 @@ use Rattle.ints.proofs.Back.{never}
 use Rattle.sheet.specs.Sheet.{Sheet, stray}
 use Rattle.sheet.specs.Checks.{WellFormed}
 use Rattle.edits.specs.Change.{outside, unpacked}
-use Rattle.tiling.specs.Cells.{Tiled}
 use Rattle.mirroring.specs.Marks.{Mirrorable}
 use Rattle.mirror.specs.Calls.{divides, touching, straying}
 

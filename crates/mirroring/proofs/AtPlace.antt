@@ -5,10 +5,11 @@ use mathlib.Core.Bool.{Bool, true, false, not, cond, _&&_, _||_}
 use mathlib.Core.List.{List, [], _∷_, _++_, append-nil, append-assoc}
 use mathlib.Core.Logic.{_⊎_, ⊎-elim, inl, inr}
 use native.Mathlib.Omega.{arith}
+use native.Mathlib.Nat.{mod-mod}
 use native.Mathlib.Decide.{ℕ-discrete}
-use lib.Dec.{leb, eqb}
+use lib.Dec.{eqb}
 use lib.IntN.{ℤ, pos}
-use lib.ListN.{length, getD}
+use lib.ListN.{getD}
 use mir.Syntax.{w16}
 use mir.Val.{toZ}
 use borrow.Author.Tests.{eq-eqb, ne-eqb, le-leb}
@@ -72,7 +73,7 @@ module _ (w : ℕ) (l : List ℤ) (p : ℕ) where
   oldAt v = cond (eqb (v / 2 ^ 43 % 2) 1) (toZ w16 (v % 2 ^ 16)) (getD l p (pos 0))
 
   abbrev pairAt : ℕ → Change
-  pairAt v = record { x = p % w; y = p / w; old = oldAt v; new = toZ w16 (v / 2 ^ 44) }
+  pairAt v = record { x = p % w; y = p / w; old = oldAt v; new = toZ w16 (newBits v) }
 
   unfoldable pub waitingAt : ℕ → List Change
   waitingAt v = cond (eqb (v / 2 ^ 42 % 2) 1) (pairAt v ∷ []) []
@@ -176,18 +177,20 @@ module _ (w : ℕ) (l : List ℤ) (list : List ℕ) (key : ℕ → ℕ) (r p : �
   unfolding waitingAt pendingBy onto joined unpacked
   waiting-next j v ex ey = elim (ℕ-discrete (v / 2 ^ 42 % 2) 1) [
     | yes e ↦ (let c = getD list j 0 in
-        let u : ℕ = v % 2 ^ 44 + newBits c * 2 ^ 44 in
+        let u : ℕ = v % 2 ^ 48 + newBits c * 2 ^ 48 in
         let a : u / 2 ^ 42 % 2 ≡ 1 = omega arith in
         let b : u / 2 ^ 43 % 2 ≡ v / 2 ^ 43 % 2 = omega arith in
         let d : u % 2 ^ 16 ≡ v % 2 ^ 16 = omega arith in
-        let n : u / 2 ^ 44 ≡ newBits c = omega arith in
+        let q : u / 2 ^ 48 ≡ newBits c = omega arith in
+        let n : newBits u ≡ newBits c = ap (λ (x : ℕ). x % 2 ^ 16) q ∙ mod-mod (c / 2 ^ 48) (2 ^ 16) in
         rw (eq-eqb (v / 2 ^ 42 % 2) 1 e, eq-eqb (u / 2 ^ 42 % 2) 1 a, b, d, n) same)
     | no e ↦ (let c = getD list j 0 in
-        let u : ℕ = oldBits c + 3 * 2 ^ 42 + newBits c * 2 ^ 44 in
+        let u : ℕ = oldBits c + 3 * 2 ^ 42 + newBits c * 2 ^ 48 in
         let a : u / 2 ^ 42 % 2 ≡ 1 = omega arith in
         let b : u / 2 ^ 43 % 2 ≡ 1 = omega arith in
         let d : u % 2 ^ 16 ≡ oldBits c = omega arith in
-        let n : u / 2 ^ 44 ≡ newBits c = omega arith in
+        let q : u / 2 ^ 48 ≡ newBits c = omega arith in
+        let n : newBits u ≡ newBits c = ap (λ (x : ℕ). x % 2 ^ 16) q ∙ mod-mod (c / 2 ^ 48) (2 ^ 16) in
         rw (ne-eqb (v / 2 ^ 42 % 2) 1 e, eq-eqb (u / 2 ^ 42 % 2) 1 a, eq-eqb (u / 2 ^ 43 % 2) 1 b, d, n) fresh)
   ]
     where
@@ -266,12 +269,13 @@ module _ (w : ℕ) (l : List ℤ) (list : List ℕ) (key : ℕ → ℕ) (r p : �
   unfolding landBy waitingAt unpacked
   waiting-landed region base m h e = rw (← e) (pick (in-region && elsewhere w list m p))
     where
-      pick : (b : Bool) → waiting (base + cond b (1 + newBits (getD list (lastIn m) 0) * 4) 0 * 2 ^ 42) ≡ cond b (copy (C (lastIn m) .new) ∷ []) []
+      pick : (b : Bool) → waiting (base + cond b (1 + newBits (getD list (lastIn m) 0) * 64) 0 * 2 ^ 42) ≡ cond b (copy (C (lastIn m) .new) ∷ []) []
       pick true =
           let c = getD list (lastIn m) 0 in
-          let u : ℕ = base + (1 + newBits c * 4) * 2 ^ 42 in
+          let u : ℕ = base + (1 + newBits c * 64) * 2 ^ 42 in
           let a : u / 2 ^ 42 % 2 ≡ 1 = omega arith in
           let b : u / 2 ^ 43 % 2 ≡ 0 = omega arith in
-          let n : u / 2 ^ 44 ≡ newBits c = omega arith in
+          let q : u / 2 ^ 48 ≡ newBits c = omega arith in
+          let n : newBits u ≡ newBits c = ap (λ (x : ℕ). x % 2 ^ 16) q ∙ mod-mod (c / 2 ^ 48) (2 ^ 16) in
           rw (eq-eqb (u / 2 ^ 42 % 2) 1 a, b, n)
       pick false = let a : (base + 0 * 2 ^ 42) / 2 ^ 42 % 2 ≡ 0 = omega arith in rw a

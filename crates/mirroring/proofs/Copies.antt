@@ -1,8 +1,8 @@
 -- The copies of a change at one place: one where the place is the same pixel of the same tile in another cell, and the region contains it. Assumes nothing.
-use Prim.Native.Nat.{ℕ, zero, suc, _+_, _-_, _*_, _/_, _%_, _≤_, _<_, _^_}
+use Prim.Native.Nat.{ℕ, zero, suc, _+_, _*_, _/_, _%_, _≤_, _<_, _^_}
 use mathlib.Core.Path.{_≡_, refl, sym, ap, _∙_}
 use mathlib.Core.Bool.{Bool, true, false, not, cond, _&&_}
-use mathlib.Core.List.{List, [], _∷_, _++_, map, flatMap, append-nil}
+use mathlib.Core.List.{List, [], _∷_, _++_, flatMap, append-nil}
 use native.Mathlib.Omega.{arith}
 use native.Mathlib.Nat.{mod-lt, div-add-mod', div-lt-iff-lt-mul, mul-comm}
 use native.Mathlib.Decide.{ℕ-discrete}
@@ -21,8 +21,8 @@ use Rattle.changes.specs.Laws.{On, atPlace}
 use Rattle.changes.proofs.Order.{all-append}
 use Rattle.tiling.specs.Tile.{turned}
 use Rattle.tiling.specs.Cells.{Tiled, cellCount, firstCell}
-use Rattle.tiling.specs.Extract.{Entry, Extracted, entryOf, extractOf}
-use Rattle.tiling.specs.Ids.{tileId, entryAt}
+use Rattle.tiling.specs.Extract.{Extracted, entryOf, extractOf}
+use Rattle.tiling.specs.Ids.{entryAt}
 use Rattle.tiling.proofs.Rows.{length-first, first-at}
 use Rattle.tiling.proofs.Firsts.{first-le}
 use Rattle.tiling.proofs.Flipping.{turned-below}
@@ -32,7 +32,7 @@ use Rattle.mirroring.specs.Mirror.{entryIn, cellAt, columnIn, rowIn, cop
 use Rattle.mirroring.specs.Marks.{cellOfPlace, classOf}
 use Rattle.mirroring.proofs.Places.{keyAt}
 use Rattle.mirroring.proofs.AtPlace.{copyTo}
-use Rattle.mirroring.proofs.Coordinates.{turned-back, column-mod, row-mod, column-on, row-on, cell-back, cell-below, column-of, row-of, flipOf, tileX, tileY, classIn, class-is, class-same, Same}
+use Rattle.mirroring.proofs.Coordinates.{turned-back, column-mod, row-mod, column-on, row-on, cell-back, cell-below, column-of, row-of, flipOf, tileX, tileY, classIn, class-is, class-same}
 
 -- ---- lists
 pub kept-append : {A : Type 0} (t : A → Bool) (k l : List A) → kept t (k ++ l) ≡ kept t k ++ kept t l

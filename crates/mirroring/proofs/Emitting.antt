@@ -1,7 +1,7 @@
 -- What is pending, written to the front over numbers that were read. Assumes nothing.
-use Prim.Native.Nat.{ℕ, zero, suc, _+_, _-_, _*_, _/_, _%_, _≤_, _<_, _^_}
+use Prim.Native.Nat.{ℕ, suc, _+_, _-_, _*_, _/_, _%_, _≤_, _<_, _^_}
 use mathlib.Core.Path.{_≡_, refl, sym, ap, _∙_}
-use mathlib.Core.List.{List, [], _∷_, _++_, flatMap, append-nil, append-assoc}
+use mathlib.Core.List.{List, [], _++_, flatMap, append-nil, append-assoc}
 use native.Mathlib.Omega.{arith}
 use native.Mathlib.Numerals.{add-one}
 use native.Mathlib.Nat.{add-zero}
@@ -14,13 +14,13 @@ use mir.Val.{ofZ}
 use Rattle.lists.specs.Lists.{range}
 use Rattle.changes.specs.Keys.{Put}
 use Rattle.changes.specs.Between.{differenceOf}
-use Rattle.mirroring.specs.Marks.{oldIn, emitted, emittedAll}
+use Rattle.mirroring.specs.Marks.{newBits, oldIn, emitted, emittedAll}
 
 pub put-none : (l : List ℕ) (m : ℕ) → Put l m [] (m + 1) l m
 put-none l m = record { front = sym (append-nil (take m l)); most = omega arith; behind = refl }
 
 module _ (w : ℕ) (l : List ℤ) (p v : ℕ) where
-  pub emitted-some : (place old : ℕ) → v / 2 ^ 42 % 2 ≡ 1 → place ≡ p % w + p / w * 2 ^ 16 → old ≡ oldIn (ofZ w16 (getD l p (pos 0))) v → differenceOf place old (v / 2 ^ 44) ≡ emitted w l p v
+  pub emitted-some : (place old : ℕ) → v / 2 ^ 42 % 2 ≡ 1 → place ≡ p % w + p / w * 2 ^ 16 → old ≡ oldIn (ofZ w16 (getD l p (pos 0))) v → differenceOf place old (newBits v) ≡ emitted w l p v
   unfolding emitted
   emitted-some place old e f g = rw (eq-eqb (v / 2 ^ 42 % 2) 1 e, f, g)
 

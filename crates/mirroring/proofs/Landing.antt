@@ -1,6 +1,6 @@
 -- The copies, each written above its place's class and mark, which stay. Assumes nothing.
-use Prim.Native.Nat.{ℕ, zero, suc, _+_, _-_, _*_, _/_, _%_, _≤_, _<_, _^_}
-use mathlib.Core.Path.{_≡_, refl, sym, ap, _∙_}
+use Prim.Native.Nat.{ℕ, _+_, _*_, _/_, _%_, _≤_, _<_, _^_}
+use mathlib.Core.Path.{_≡_, refl, ap, _∙_}
 use mathlib.Core.Bool.{Bool, true, false, not, cond, _&&_, _||_}
 use mathlib.Core.List.{List}
 use native.Mathlib.Omega.{arith}
@@ -44,17 +44,9 @@ module _ (w : ℕ) (region : Selection) (list : List ℕ) (p m : ℕ) where
   unfolding landBy
   land-none e f = rw (e, f)
 
-  pub land-one : (v : ℕ) → contains region (p % w) (p / w) ≡ true → elsewhere w list m p ≡ true → v ≡ newBits (getD list (lastIn m) 0) → 1 + v * 4 ≡ landBy w region list p m
+  pub land-one : (v : ℕ) → contains region (p % w) (p / w) ≡ true → elsewhere w list m p ≡ true → v ≡ newBits (getD list (lastIn m) 0) → 1 + v * 64 ≡ landBy w region list p m
   unfolding landBy
   land-one v e f g = rw (e, f, g)
-
-  pub land-small : landBy w region list p m < 2 ^ 18
-  unfolding landBy
-  land-small = pick (contains region (p % w) (p / w) && elsewhere w list m p)
-    where
-      pick : (b : Bool) → cond b (1 + newBits (getD list (lastIn m) 0) * 4) 0 < 2 ^ 18
-      pick true = omega arith
-      pick false = omega arith
 
 -- ---- the loop
 module _ (w : ℕ) (region : Selection) (list s₀ : List ℕ) where
@@ -92,7 +84,7 @@ module _ (w : ℕ) (region : Selection) (list s₀ : List ℕ) where
       pub mark-most : getD s class 0 % 2 ^ 42 / 2 ^ 20 < 2 * length list + 2
       mark-most = rw (kept class class-within) (marks .most class class-within)
 
-      pub landing-room : (v : ℕ) → v < 2 ^ 18 → getD s p 0 + v * 2 ^ 42 < 2 ^ 61
+      pub landing-room : (v : ℕ) → v < 2 ^ 22 → getD s p 0 + v * 2 ^ 42 < 2 ^ 64
       landing-room v k = omega (arith, c .ahead p (omega arith), low p h)
 
       pub landing-step : (v : ℕ) → v ≡ landBy w region list p (getD s class 0 % 2 ^ 42 / 2 ^ 20) → Landing (set s p (getD s p 0 + v * 2 ^ 42)) (p + 1)

@@ -1,39 +1,36 @@
 -- The passes together: what they leave pending at each place is the normal form of the copies and then the caller's changes. Assumes nothing.
-use Prim.Native.Nat.{ℕ, zero, suc, _+_, _-_, _*_, _/_, _%_, _≤_, _<_, _^_}
+use Prim.Native.Nat.{ℕ, zero, suc, _+_, _*_, _/_, _%_, _≤_, _<_, _^_}
 use mathlib.Core.Path.{_≡_, refl, sym, ap, _∙_}
-use mathlib.Core.Bool.{Bool, true, false, not, cond, _&&_}
+use mathlib.Core.Bool.{Bool, not, cond, _&&_}
 use mathlib.Core.List.{List, [], _∷_, _++_, map, flatMap, map-append}
 use native.Mathlib.Omega.{arith}
 use native.Mathlib.Numerals.{add-one}
-use native.Mathlib.Nat.{mul-comm, mul-le-mul-right, le-div-iff-mul-le, mod-eq-of-lt, div-lt-iff-lt-mul, mod-lt}
+use native.Mathlib.Nat.{mul-comm, mul-le-mul-right}
 use native.Mathlib.Decide.{ℕ-discrete}
 use lib.Arith.{digits-lt, digits-div, digits-mod}
 use lib.Dec.{eqb}
-use lib.IntN.{ℤ, pos}
+use lib.IntN.{ℤ}
 use lib.ListN.{length, take, getD, length-map}
 use lib.Seq.{getD-take, ext-getD}
-use mir.Syntax.{w16}
-use mir.Val.{SFits}
 use borrow.Author.Tests.{eq-eqb, ne-eqb}
 use Rattle.lists.specs.Lists.{range}
 use Rattle.lists.proofs.Collect.{flatMap-append, flatMap-one}
 use Rattle.selection.specs.declared.Selection.{Selection}
 use Rattle.selection.specs.Selection.{contains}
 use Rattle.edits.specs.Change.{Change, packed, unpacked, place}
-use Rattle.changes.specs.Normal.{keyOf, kept, changing, normalizeOf}
+use Rattle.changes.specs.Normal.{keyOf, kept, changing}
 use Rattle.changes.specs.Order.{All}
 use Rattle.changes.specs.Laws.{On, atPlace, firstLast}
-use Rattle.changes.proofs.Order.{all-append, all-at}
-use Rattle.tiling.specs.Cells.{Tiled, cellCount, codeOf, firstCells, firstCell}
-use Rattle.tiling.specs.Extract.{Extracted, extractOf}
+use Rattle.changes.proofs.Order.{all-append}
+use Rattle.tiling.specs.Cells.{cellCount, codeOf, firstCells}
+use Rattle.tiling.specs.Extract.{extractOf}
 use Rattle.tiling.proofs.Rows.{getD-map, length-first, first-next, first-at}
 use Rattle.tiling.proofs.Corners.{across, area}
-use Rattle.mirroring.specs.Mirror.{cellAt, copiesOf, mirrorChanges, mirrored}
-use Rattle.mirroring.specs.Marks.{cellOfPlace, classBy, classOf, run, placeAt, markBy, markedBy, marked, landBy, landed, pendingBy, pending, emitted, emittedAll, elsewhere, Listed, Coded, Classes, Marks, Words, Mirrorable}
-use Rattle.mirroring.proofs.Runs.{run-hit, run-miss, run-none, mark-small, marked-parts, marked-class, marked-mark}
-use Rattle.mirroring.proofs.Landing.{land-small}
+use Rattle.mirroring.specs.Mirror.{copiesOf, mirrorChanges, mirrored}
+use Rattle.mirroring.specs.Marks.{cellOfPlace, classBy, classOf, run, placeAt, markBy, markedBy, marked, landBy, landed, pendingBy, pending, emitted, emittedAll, Listed, Coded, Classes, Marks, Mirrorable}
+use Rattle.mirroring.proofs.Runs.{mark-small, marked-class, marked-mark}
 use Rattle.mirroring.proofs.Places.{flat-same, keyAt, key-place, key-same, normal-gathered}
-use Rattle.mirroring.proofs.AtPlace.{copies, own, waitingAt, copyTo, all-waiting, waiting-landed}
+use Rattle.mirroring.proofs.AtPlace.{copies, own, copyTo, all-waiting, waiting-landed}
 use Rattle.mirroring.proofs.Written.{emitted-is}
 use Rattle.mirroring.proofs.Coordinates.{place-cell, class-in}
 use Rattle.mirroring.proofs.Copies.{kept-append, all-flat, copies-at, copies-on}
@@ -42,21 +39,6 @@ pub map-flat : {A : Type 0} (f : Change → ℕ) (g : A → List Change) (l : Li
 unfolding flatMap
 map-flat f g [] = refl
 map-flat f g (x ∷ l) = map-append f (g x) (flatMap g l) ∙ ap (map f (g x) ++_) (map-flat f g l)
-
-pending-small : (c v : ℕ) → pendingBy c v < 2 ^ 60
-unfolding pendingBy
-pending-small c v = pick (eqb (v / 2 ^ 42 % 2) 1)
-  where
-    pick : (b : Bool) → cond b (v % 2 ^ 44 + c / 2 ^ 48 % 2 ^ 16 * 2 ^ 44) (c / 2 ^ 32 % 2 ^ 16 + 3 * 2 ^ 42 + c / 2 ^ 48 % 2 ^ 16 * 2 ^ 44) < 2 ^ 60
-    pick true = omega arith
-    pick false = omega arith
-
-run-small : (key : ℕ → ℕ) (list : List ℕ) (p v i : ℕ) → v < 2 ^ 60 → run key (λ j. pendingBy (getD list j 0)) p v i < 2 ^ 60
-run-small key list p v zero h = rw (run-none key (λ j. pendingBy (getD list j 0)) p v) h
-run-small key list p v (suc i) h = elim (ℕ-discrete (key i) p) [
-  | yes e ↦ rw (run-hit key (λ j. pendingBy (getD list j 0)) p v i e) (pending-small (getD list i 0) (run key (λ j. pendingBy (getD list j 0)) p v i))
-  | no e ↦ rw (run-miss key (λ j. pendingBy (getD list j 0)) p v i e) (run-small key list p v i h)
-]
 
 module _ (w h t : ℕ) (l : List ℤ) (list : List ℕ) (region : Selection) (m : Mirrorable w h t l list) where
   abbrev n : ℕ
@@ -201,15 +183,9 @@ module _ (w h t : ℕ) (l : List ℤ) (list : List ℕ) (region : Selection) (m 
 
     -- the number of p, before the caller's changes
     module _ (base v : ℕ) (low : base < 2 ^ 42) (is : v ≡ base + landBy w region list p (run key (markBy w list) (classOf w t l p) 0 n) * 2 ^ 42) where
-      number-small : v < 2 ^ 60
-      number-small = rw is (omega (arith, land-small w region list p (run key (markBy w list) (classOf w t l p) 0 n)))
-
-      pub after-small : run (placeAt w list) (λ j. pendingBy (getD list j 0)) p v n < 2 ^ 60
-      after-small = run-small (placeAt w list) list p v n number-small
-
       pub after-emitted : emitted w l p (run (placeAt w list) (λ j. pendingBy (getD list j 0)) p v n) ≡ map packed (kept changing (firstLast (atPlace (keyAt w p) raw)))
       after-emitted =
-          emitted-is w l p (run (placeAt w list) (λ j. pendingBy (getD list j 0)) p v n) (m .fits p) after-small
+          emitted-is w l p (run (placeAt w list) (λ j. pendingBy (getD list j 0)) p v n) (m .fits p)
           ∙ ap (λ (x : List Change). map packed (kept changing x))
           (all-waiting w l list key (classOf w t l p) p R n at-p v (rw is (waiting-landed w l list key (classOf w t l p) p R region base (run key (markBy w list) (classOf w t l p) 0 n) low refl)) ∙ ap firstLast (sym raw-at))
 
@@ -253,9 +229,6 @@ module _ (w h t : ℕ) (l : List ℤ) (list : List ℕ) (region : Selection) (m 
           four : (p : ℕ) → p < N → getD s₄ p 0 ≡ run (placeAt w list) (λ j. pendingBy (getD list j 0)) p (getD s₃ p 0) n
           unfolding pending
           four p b = e₄ p (rw long₃ b)
-
-          pub words : Words s₄
-          words = record { small = λ p b. let k : p < N = rw long₄ at b in rw (four p k) (after-small key key-is p k (getD s₂ p 0) (getD s₃ p 0) (two-low p k) (three p k)) }
 
           pub whole : emittedAll w l s₄ ≡ map packed (mirrored w h t l region (map unpacked list))
           unfolding emittedAll mirrored

@@ -1,5 +1,5 @@
 -- A pass over a list that changes one number an element, and the marks that such a pass leaves. Assumes nothing.
-use Prim.Native.Nat.{ℕ, zero, suc, _+_, _-_, _*_, _/_, _%_, _≤_, _<_, _^_}
+use Prim.Native.Nat.{ℕ, zero, suc, _+_, _*_, _/_, _%_, _≤_, _<_, _^_}
 use mathlib.Core.Path.{_≡_, refl, sym, ap, _∙_}
 use mathlib.Core.Bool.{Bool, true, false, cond}
 use mathlib.Core.List.{List}
@@ -9,7 +9,7 @@ use native.Mathlib.Decide.{ℕ-discrete}
 use lib.ListN.{length, getD, set, length-set}
 use lib.Seq.{getD-set-same, getD-set-other}
 use borrow.Author.Tests.{eq-eqb, ne-eqb}
-use Rattle.mirroring.specs.Marks.{run, placeAt, elsewhere, markBy, markedBy, pendingBy}
+use Rattle.mirroring.specs.Marks.{run, placeAt, elsewhere, markBy, markedBy}
 
 -- one element more
 module _ (key : ℕ → ℕ) (f : ℕ → ℕ → ℕ) (p v i : ℕ) where

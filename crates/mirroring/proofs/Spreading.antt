@@ -1,16 +1,14 @@
 -- The classes, written from the last place on over codes that were read; and that a class is a place. Assumes nothing.
-use Prim.Native.Nat.{ℕ, zero, suc, _+_, _-_, _*_, _/_, _%_, _≤_, _<_, _^_}
-use mathlib.Core.Path.{_≡_, refl, sym, ap, _∙_}
-use mathlib.Core.Bool.{Bool, true, false}
+use Prim.Native.Nat.{ℕ, _-_, _*_, _/_, _%_, _≤_, _<_}
+use mathlib.Core.Path.{_≡_, refl, ap, _∙_}
 use mathlib.Core.List.{List}
 use native.Mathlib.Omega.{arith}
-use native.Mathlib.Nat.{div-le-self, mul-le-mul, mul-le-mul-left, mod-lt, div-add-mod', mul-one, one-mul}
+use native.Mathlib.Nat.{div-le-self, mul-le-mul, mul-le-mul-left, div-add-mod', mul-one}
 use native.Mathlib.Decide.{ℕ-discrete}
 use lib.ListN.{length, getD, set, length-set}
 use lib.Seq.{getD-set-same, getD-set-other}
-use Rattle.tiling.specs.Tile.{turned, flipAt}
-use Rattle.mirroring.specs.Mirror.{cellAt, rowIn, columnIn}
-use Rattle.mirroring.specs.Marks.{cellOfPlace, classBy, Coded}
+use Rattle.mirroring.specs.Mirror.{cellAt}
+use Rattle.mirroring.specs.Marks.{cellOfPlace, classBy}
 
 -- a cell's number is at most that of its places
 pub cell-le : (w t p : ℕ) → cellOfPlace w t p ≤ p

@@ -1,6 +1,6 @@
 -- What is written of a number is what it has pending, where old and new differ, as one number. Assumes nothing.
 use Prim.Native.Nat.{ℕ, _+_, _*_, _/_, _%_, _<_, _^_}
-use mathlib.Core.Path.{_≡_, refl, sym, ap, _∙_}
+use mathlib.Core.Path.{_≡_, refl, sym}
 use mathlib.Core.Bool.{Bool, true, false, not, cond}
 use mathlib.Core.List.{List, [], _∷_, map}
 use native.Mathlib.Omega.{arith}
@@ -8,17 +8,16 @@ use lib.Dec.{eqb}
 use lib.IntN.{ℤ, pos}
 use lib.ListN.{getD}
 use mir.Syntax.{w16}
-use mir.Val.{Fits, SFits, toZ, ofZ}
+use mir.Val.{SFits, toZ, ofZ}
 use mir.ValLaws.{ofZ-toZ, toZ-ofZ, ofZ-fits}
-use Rattle.ints.specs.Ints.{eqZ}
-use Rattle.edits.specs.Change.{Change, packed}
+use Rattle.edits.specs.Change.{packed}
 use Rattle.changes.specs.Normal.{kept, changing}
 use Rattle.changes.specs.Between.{differenceOf}
 use Rattle.changes.proofs.Packing.{eqZ-bits}
-use Rattle.mirroring.specs.Marks.{oldIn, emitted}
+use Rattle.mirroring.specs.Marks.{newBits, oldIn, emitted}
 use Rattle.mirroring.proofs.AtPlace.{waitingAt}
 
-module _ (w : ℕ) (l : List ℤ) (p v : ℕ) (fits : SFits w16 (getD l p (pos 0))) (small : v < 2 ^ 60) where
+module _ (w : ℕ) (l : List ℤ) (p v : ℕ) (fits : SFits w16 (getD l p (pos 0))) where
   abbrev bits : ℕ
   bits = oldIn (ofZ w16 (getD l p (pos 0))) v
 
@@ -38,16 +37,16 @@ module _ (w : ℕ) (l : List ℤ) (p v : ℕ) (fits : SFits w16 (getD l p (pos 0
       pick true = refl
       pick false = sym (toZ-ofZ w16 (getD l p (pos 0)) fits)
 
-  numbered : packed (record { x = p % w; y = p / w; old = toZ w16 bits; new = toZ w16 (v / 2 ^ 44) }) ≡ p % w + p / w * 2 ^ 16 + bits * 2 ^ 32 + v / 2 ^ 44 * 2 ^ 48
+  numbered : packed (record { x = p % w; y = p / w; old = toZ w16 bits; new = toZ w16 (newBits v) }) ≡ p % w + p / w * 2 ^ 16 + bits * 2 ^ 32 + newBits v * 2 ^ 48
   unfolding packed
-  numbered = rw (ofZ-toZ w16 bits (record { fits = bits-small }), ofZ-toZ w16 (v / 2 ^ 44) (record { fits = omega arith }))
+  numbered = rw (ofZ-toZ w16 bits (record { fits = bits-small }), ofZ-toZ w16 (newBits v) (record { fits = omega arith }))
 
-  one : differenceOf (p % w + p / w * 2 ^ 16) bits (v / 2 ^ 44) ≡ map packed (kept changing (record { x = p % w; y = p / w; old = toZ w16 bits; new = toZ w16 (v / 2 ^ 44) } ∷ []))
+  one : differenceOf (p % w + p / w * 2 ^ 16) bits (newBits v) ≡ map packed (kept changing (record { x = p % w; y = p / w; old = toZ w16 bits; new = toZ w16 (newBits v) } ∷ []))
   unfolding differenceOf kept changing
-  one = rw (eqZ-bits bits (v / 2 ^ 44) bits-small (omega arith)) (pick (eqb bits (v / 2 ^ 44)))
+  one = rw (eqZ-bits bits (newBits v) bits-small (omega arith)) (pick (eqb bits (newBits v)))
     where
-      pick : (b : Bool) → cond b [] ((p % w + p / w * 2 ^ 16 + bits * 2 ^ 32 + v / 2 ^ 44 * 2 ^ 48) ∷ [])
-          ≡ map packed (cond (not b) (record { x = p % w; y = p / w; old = toZ w16 bits; new = toZ w16 (v / 2 ^ 44) } ∷ []) [])
+      pick : (b : Bool) → cond b [] ((p % w + p / w * 2 ^ 16 + bits * 2 ^ 32 + newBits v * 2 ^ 48) ∷ [])
+          ≡ map packed (cond (not b) (record { x = p % w; y = p / w; old = toZ w16 bits; new = toZ w16 (newBits v) } ∷ []) [])
       pick true = refl
       pick false = rw numbered
 
@@ -55,6 +54,6 @@ module _ (w : ℕ) (l : List ℤ) (p v : ℕ) (fits : SFits w16 (getD l p (pos 0
   unfolding emitted waitingAt kept
   emitted-is = rw bits-old (pick (eqb (v / 2 ^ 42 % 2) 1))
     where
-      pick : (b : Bool) → cond b (differenceOf (p % w + p / w * 2 ^ 16) bits (v / 2 ^ 44)) [] ≡ map packed (kept changing (cond b (record { x = p % w; y = p / w; old = toZ w16 bits; new = toZ w16 (v / 2 ^ 44) } ∷ []) []))
+      pick : (b : Bool) → cond b (differenceOf (p % w + p / w * 2 ^ 16) bits (newBits v)) [] ≡ map packed (kept changing (cond b (record { x = p % w; y = p / w; old = toZ w16 bits; new = toZ w16 (newBits v) } ∷ []) []))
       pick true = one
       pick false = refl

@@ -2,9 +2,9 @@
 --
 -- Two places are one pixel of one tile where they have the same class: the place of that pixel in the first cell. The number of place p has
 -- p's class (20 bits); above it the mark of the class p: 0, or the position + 1 of its last change, times 2, and 1 where its changes are at several
--- places (22 bits); above it whether a change is pending at p, whether its old is the caller's (else it is the sheet's), and its new (16 bits).
+-- places (22 bits); above it whether a change is pending at p and whether its old is the caller's (else it is the sheet's); and, as in a change, above
+-- 48 bits its new.
 use Prim.Native.Nat.{ℕ, zero, suc, _+_, _-_, _*_, _/_, _%_, _≤_, _<_, _^_}
-use mathlib.Core.Path.{_≡_}
 use mathlib.Core.Bool.{Bool, not, cond, _&&_, _||_}
 use mathlib.Core.List.{List, [], flatMap}
 use lib.Dec.{leb, eqb}
@@ -18,7 +18,7 @@ use Rattle.selection.specs.Selection.{contains}
 use Rattle.edits.specs.Change.{unpacked, place}
 use Rattle.changes.specs.Between.{differenceOf}
 use Rattle.tiling.specs.Tile.{turned, flipAt}
-use Rattle.tiling.specs.Cells.{Tiled, codeOf, cellCount, firstCells}
+use Rattle.tiling.specs.Cells.{Tiled, codeOf}
 use Rattle.mirroring.specs.Mirror.{cellAt, columnIn, rowIn}
 
 -- ---- classes
@@ -70,14 +70,14 @@ marked w list s p = run (λ j. getD s (placeAt w list j) 0) (markedBy w list) p 
 
 -- ---- copies: the last new of p's class lands on p, where the class has a change elsewhere and the region contains p
 unfoldable pub landBy : ℕ → Selection → List ℕ → ℕ → ℕ → ℕ
-landBy w region list p m = cond (contains region (p % w) (p / w) && elsewhere w list m p) (1 + newBits (getD list (lastIn m) 0) * 4) 0
+landBy w region list p m = cond (contains region (p % w) (p / w) && elsewhere w list m p) (1 + newBits (getD list (lastIn m) 0) * 64) 0
 
 unfoldable pub landed : ℕ → Selection → List ℕ → List ℕ → ℕ → ℕ
 landed w region list s p = getD s p 0 + landBy w region list p (getD s (getD s p 0 % 2 ^ 20) 0 / 2 ^ 20) * 2 ^ 42
 
 -- ---- the caller's changes: where one is pending its new is replaced, else the change is
 unfoldable pub pendingBy : ℕ → ℕ → ℕ
-pendingBy c v = cond (eqb (v / 2 ^ 42 % 2) 1) (v % 2 ^ 44 + newBits c * 2 ^ 44) (oldBits c + 3 * 2 ^ 42 + newBits c * 2 ^ 44)
+pendingBy c v = cond (eqb (v / 2 ^ 42 % 2) 1) (v % 2 ^ 48 + newBits c * 2 ^ 48) (oldBits c + 3 * 2 ^ 42 + newBits c * 2 ^ 48)
 
 unfoldable pub pending : ℕ → List ℕ → List ℕ → ℕ → ℕ
 pending w list s p = run (placeAt w list) (λ j. pendingBy (getD list j 0)) p (getD s p 0) (length list)
@@ -87,7 +87,7 @@ unfoldable pub oldIn : ℕ → ℕ → ℕ
 oldIn own v = cond (eqb (v / 2 ^ 43 % 2) 1) (v % 2 ^ 16) own
 
 unfoldable pub emitted : ℕ → List ℤ → ℕ → ℕ → List ℕ
-emitted w l p v = cond (eqb (v / 2 ^ 42 % 2) 1) (differenceOf (p % w + p / w * 2 ^ 16) (oldIn (ofZ w16 (getD l p (pos 0))) v) (v / 2 ^ 44)) []
+emitted w l p v = cond (eqb (v / 2 ^ 42 % 2) 1) (differenceOf (p % w + p / w * 2 ^ 16) (oldIn (ofZ w16 (getD l p (pos 0))) v) (newBits v)) []
 
 unfoldable pub emittedAll : ℕ → List ℤ → List ℕ → List ℕ
 emittedAll w l s = flatMap (λ p. emitted w l p (getD s p 0)) (range 0 (length s))
@@ -113,9 +113,6 @@ pub record Classes (s : List ℕ) : Type 0 where
 pub record Marks (list s : List ℕ) : Type 0 where
   pub within : (p : ℕ) → p < length s → getD s p 0 % 2 ^ 20 < length s
   pub most : (p : ℕ) → p < length s → getD s p 0 / 2 ^ 20 < 2 * length list + 2
-
-pub record Words (s : List ℕ) : Type 0 where
-  pub small : (p : ℕ) → p < length s → getD s p 0 < 2 ^ 60
 
 -- of all steps: a sheet that is cut into tiles, and changes on it
 pub record Mirrorable (w h t : ℕ) (l : List ℤ) (list : List ℕ) : Type 0 where

@@ -1,11 +1,8 @@
 // The class of each place, from the codes of the cells.
 ghost use mathlib.Core.Path.{_≡_};
-ghost use mathlib.Core.Bool.{Bool, true, false};
 ghost use Prim.Native.Nat.{ℕ, _+_, _*_, _/_, _%_, _≤_, _<_, _^_};
-ghost use lib.Dec.{eqb};
 ghost use lib.ListN.{length, getD};
 ghost use Rattle.tiling.specs.Tile.{turned, flipAt};
-ghost use Rattle.mirroring.specs.Mirror.{cellAt, columnIn, rowIn};
 ghost use Rattle.mirroring.specs.Marks.{cellOfPlace, classBy, Coded};
 
 // i counted from the other side, where a flip asks for it.

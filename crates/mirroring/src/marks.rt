@@ -72,7 +72,7 @@ pub(crate) fn mark_all(w: usize, list: &[u64], s: &mut [u64])
 // What lands on place p, whose class has mark m: nothing, or the new of the class's last change.
 fn land_by(w: usize, region: Selection, list: &[u64], p: usize, m: u64) -> u64
     requires { ⌜ (0 < w) × (m < 2 * length (now list) + 2) × ((j : ℕ) → j < length (now list) → placeAt w (now list) j < 2 ^ 20) ⌝ }
-    ensures { λ r. ⌜ (r ≡ landBy w region (now (list .entry)) p m) × (r < 2 ^ 18) ⌝ }
+    ensures { λ r. ⌜ (r ≡ landBy w region (now (list .entry)) p m) × (r < 2 ^ 22) ⌝ }
 {
     if !region.contains(p % w, p / w) {
         return 0;
@@ -81,7 +81,7 @@ fn land_by(w: usize, region: Selection, list: &[u64], p: usize, m: u64) -> u64
         return 0;
     }
     let last = (m / 2 - 1) as usize;
-    1 + new_bits(list[last]) * 4
+    1 + new_bits(list[last]) * 64
 }
 
 // The copies, each at the place that it lands on.

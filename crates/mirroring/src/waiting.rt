@@ -10,16 +10,15 @@ ghost use mir.Val.{ofZ};
 ghost use Rattle.changes.specs.Normal.{Front};
 ghost use Rattle.changes.specs.Between.{differenceOf};
 ghost use Rattle.changes.specs.Keys.{Put};
-ghost use Rattle.mirroring.specs.Marks.{pendingBy, pending, oldIn, emitted, emittedAll, Listed, Words};
+ghost use Rattle.mirroring.specs.Marks.{pendingBy, pending, oldIn, emitted, emittedAll, Listed};
 
-// The units in which a number counts what is pending, that its old is the caller's, and its new.
+// The units in which a number counts what is pending, and that its old is the caller's.
 const PENDING: u64 = 4_398_046_511_104;
 
 const OWN: u64 = 8_796_093_022_208;
 
-const NEXT: u64 = 17_592_186_044_416;
-
-// The units in which a change counts its row, its old and its new; and the values of one part.
+// The units in which a change counts its row, its old and its new, and a number its new as well; and the values of one
+// part.
 const ROW: u64 = 65_536;
 
 const OLD: u64 = 4_294_967_296;
@@ -30,12 +29,12 @@ const PART: u64 = 65_536;
 
 // The change c over what is pending in v: its new alone, where a change is pending.
 fn pend_by(c: u64, v: u64) -> u64
-    ensures { λ r. ⌜ (r ≡ pendingBy c v) × (r < 2 ^ 60) ⌝ }
+    ensures { λ r. ⌜ r ≡ pendingBy c v ⌝ }
 {
     if v / PENDING % 2 == 1 {
-        return v % NEXT + new_bits(c) * NEXT;
+        return v % NEW + new_bits(c) * NEW;
     }
-    c / OLD % PART + 3 * PENDING + new_bits(c) * NEXT
+    c / OLD % PART + 3 * PENDING + new_bits(c) * NEW
 }
 
 // The caller's changes, in order.
@@ -77,21 +76,21 @@ fn put_change(s: &mut [u64], m: usize, place: u64, old: u64, new: u64) -> usize
 
 // What is pending at place p, written at m; answers the next place.
 fn put_pending(w: usize, indices: &[i16], p: usize, s: &mut [u64], m: usize) -> usize
-    requires { ⌜ (0 < w) × (w ≤ 1024) × (p < length (now indices)) × (p < length (now s)) × (m ≤ p) × (p < 1024 * w) × (getD (now s) p 0 < 2 ^ 60) ⌝ }
+    requires { ⌜ (0 < w) × (w ≤ 1024) × (p < length (now indices)) × (p < length (now s)) × (m ≤ p) × (p < 1024 * w) ⌝ }
     ensures { λ r. ⌜ Put (now (s .entry)) m (emitted w (now (indices .entry)) p (getD (now (s .entry)) p 0)) (m + 1) (now (s .exit)) r ⌝ }
 {
     let v = s[p];
     if v / PENDING % 2 == 1 {
         let place = (p % w) as u64 + (p / w) as u64 * ROW;
         let old = old_in(indices[p], v);
-        return put_change(s, m, place, old, v / NEXT);
+        return put_change(s, m, place, old, new_bits(v));
     }
     m
 }
 
 // What is pending, row by row, written to the front of s, over numbers that were read; answers how many they are.
 pub(crate) fn emit(w: usize, indices: &[i16], s: &mut [u64]) -> usize
-    requires { ⌜ (0 < w) × (w ≤ 1024) × (length (now s) ≤ 1024 * w) × (length (now s) ≡ length (now indices)) × Words (now s) ⌝ }
+    requires { ⌜ (0 < w) × (w ≤ 1024) × (length (now s) ≤ 1024 * w) × (length (now s) ≡ length (now indices)) ⌝ }
     ensures { λ r. ⌜ Front (emittedAll w (now (indices .entry)) (now (s .entry))) (now (s .exit)) r ⌝ }
 {
     let mut m: usize = 0;

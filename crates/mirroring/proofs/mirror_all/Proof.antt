@@ -1,11 +1,11 @@
 -- `mirror_all`: one step after the other. Assumes nothing.
-use lib.ListN.{length, getD}
-use native.Mathlib.Nat.{mul-comm, mul-le-mul-right}
 use mathlib.Core.Path.{_≡_, sym, _∙_}
+use native.Mathlib.Nat.{mul-comm, mul-le-mul-right}
 use Prim.Native.Nat.{ℕ, _*_, _<_}
+use lib.ListN.{length, getD}
 use Rattle.mirroring.specs.Marks.{classOf}
 use Rattle.tiling.proofs.Corners.{count-small}
-use Rattle.mirroring.proofs.Mirrored.{wide, listed, class-by, coded, classes, marks, words, whole}
+use Rattle.mirroring.proofs.Mirrored.{wide, listed, class-by, coded, classes, marks, whole}
 use borrow.Author.Needs.{needs}
 use Rattle.mirroring.proofs.mirror_all.Statement.{statement}
 use Rattle.mirroring.proofs.mirror_all.Tie as tie
@@ -34,33 +34,35 @@ e1 : (c : tie.After-spread) → let a = c .before .before .before .before .befor
 e1 c p b = c .spread .ensures p (rw (l0 (c .before .before .before .before)) b) ∙ class-by _ _ _ _ _ (c .before .before .before .before .before .before .before .before .args .region) (c .before .before .before .before .before .before .before .before .pre .0) _ (l0 (c .before .before .before .before)) (c .before .before .before .before .first-cells .ensures) p b
 
 spread-requires : tie.Need-spread-requires
-spread-requires c κs = coded _ _ _ _ _ (c .before .before .before .before .before .before .before .args .region) (c .before .before .before .before .before .before .before .pre .0) _ (l0 (c .before .before .before)) (c .before .before .before .first-cells .ensures)
+spread-requires c κs = let o = c .before .before .before .before .before .before .before in coded _ _ _ _ _ (o .args .region) (o .pre .0) _ (l0 (c .before .before .before)) (c .before .before .before .first-cells .ensures)
 
 mark-all-requires : tie.Need-mark-all-requires
-mark-all-requires c κs = (listed _ _ _ _ _ (c .before .before .before .before .before .before .before .before .before .before .before .args .region) (c .before .before .before .before .before .before .before .before .before .before .before .pre .0) _ (l1 (c .before .before .before)), classes _ _ _ _ _ (c .before .before .before .before .before .before .before .before .before .before .before .args .region) (c .before .before .before .before .before .before .before .before .before .before .before .pre .0) _ (l1 (c .before .before .before)) (e1 (c .before .before .before)))
+mark-all-requires c κs = let o = c .before .before .before .before .before .before .before .before .before .before .before in (listed _ _ _ _ _ (o .args .region) (o .pre .0) _ (l1 (c .before .before .before)), classes _ _ _ _ _ (o .args .region) (o .pre .0) _ (l1 (c .before .before .before)) (e1 (c .before .before .before)))
 
 land-all-requires : tie.Need-land-all-requires
-land-all-requires c κs = (wide _ _ _ _ _ (c .before .before .before .before .before .before .before .before .before .before .before .before .before .before .before .args .region) (c .before .before .before .before .before .before .before .before .before .before .before .before .before .before .before .pre .0), listed _ _ _ _ _ (c .before .before .before .before .before .before .before .before .before .before .before .before .before .before .before .args .region) (c .before .before .before .before .before .before .before .before .before .before .before .before .before .before .before .pre .0) _ (l2 (c .before .before .before)), marks _ _ _ _ _ (c .before .before .before .before .before .before .before .before .before .before .before .before .before .before .before .args .region) (c .before .before .before .before .before .before .before .before .before .before .before .before .before .before .before .pre .0) _ (l1 (c .before .before .before .before .before .before .before)) (e1 (c .before .before .before .before .before .before .before)) _ (l2 (c .before .before .before)) (c .before .before .before .mark-all .ensures))
+land-all-requires c κs = let o = c .before .before .before .before .before .before .before .before .before .before .before .before .before .before .before in let a = c .before .before .before .before .before .before .before in (wide _ _ _ _ _ (o .args .region) (o .pre .0), listed _ _ _ _ _ (o .args .region) (o .pre .0) _ (l2 (c .before .before .before)), marks _ _ _ _ _ (o .args .region) (o .pre .0) _ (l1 a) (e1 a) _ (l2 (c .before .before .before)) (c .before .before .before .mark-all .ensures))
 
 pend-all-requires : tie.Need-pend-all-requires
-pend-all-requires c κs = listed _ _ _ _ _ (c .before .before .before .before .before .before .before .before .before .before .before .before .before .before .before .before .before .before .before .args .region) (c .before .before .before .before .before .before .before .before .before .before .before .before .before .before .before .before .before .before .before .pre .0) _ (l3 (c .before .before .before))
+pend-all-requires c κs = let o = c .before .before .before .before .before .before .before .before .before .before .before .before .before .before .before .before .before .before .before in listed _ _ _ _ _ (o .args .region) (o .pre .0) _ (l3 (c .before .before .before))
 
 emit-requires : tie.Need-emit-requires
 emit-requires c κs =
-    let m = c .before .before .before .before .before .before .before .before .before .before .before .before .before .before .before .before .before .before .before .before .before .before .before .pre .0 in
-    let s = l4 (c .before .before .before) in (
-      wide _ _ _ _ _ (c .before .before .before .before .before .before .before .before .before .before .before .before .before .before .before .before .before .before .before .before .before .before .before .args .region) (c .before .before .before .before .before .before .before .before .before .before .before .before .before .before .before .before .before .before .before .before .before .before .before .pre .0),
-      m .tiled .w-small,
-      rw (s, mul-comm (c .before .before .before .before .before .before .before .before .before .before .before .before .before .before .before .before .before .before .before .before .before .before .before .args .w) (c .before .before .before .before .before .before .before .before .before .before .before .before .before .before .before .before .before .before .before .before .before .before .before .args .h)) (mul-le-mul-right (c .before .before .before .before .before .before .before .before .before .before .before .before .before .before .before .before .before .before .before .before .before .before .before .args .w) (m .tiled .h-small)),
-      s ∙ sym (m .tiled .long),
-      words _ _ _ _ _ (c .before .before .before .before .before .before .before .before .before .before .before .before .before .before .before .before .before .before .before .before .before .before .before .args .region) (c .before .before .before .before .before .before .before .before .before .before .before .before .before .before .before .before .before .before .before .before .before .before .before .pre .0) _ (l1 (c .before .before .before .before .before .before .before .before .before .before .before .before .before .before .before)) (e1 (c .before .before .before .before .before .before .before .before .before .before .before .before .before .before .before)) _ (l2 (c .before .before .before .before .before .before .before .before .before .before .before)) (c .before .before .before .before .before .before .before .before .before .before .before .mark-all .ensures) _ (l3 (c .before .before .before .before .before .before .before)) (c .before .before .before .before .before .before .before .land-all .ensures) _ (l4 (c .before .before .before)) (c .before .before .before .pend-all .ensures),
-    )
+    let o = c .before .before .before .before .before .before .before .before .before .before .before .before .before .before .before .before .before .before .before .before .before .before .before in
+    let d = o .pre .0 .tiled in
+    let s = l4 (c .before .before .before) in
+    (wide _ _ _ _ _ (o .args .region) (o .pre .0), d .w-small, rw (s, mul-comm (o .args .w) (o .args .h)) (mul-le-mul-right (o .args .w) (d .h-small)), s ∙ sym (d .long))
 
 same-length : tie.Need-same-length
 same-length c = search needs
 
 returns : tie.Need-returns
-returns c = rw (whole _ _ _ _ _ (c .before .before .before .before .before .before .before .before .before .before .before .before .before .before .before .before .before .before .before .before .before .before .before .before .before .before .args .region) (c .before .before .before .before .before .before .before .before .before .before .before .before .before .before .before .before .before .before .before .before .before .before .before .before .before .before .pre .0) _ (l1 (c .before .before .before .before .before .before .before .before .before .before .before .before .before .before .before .before .before .before)) (e1 (c .before .before .before .before .before .before .before .before .before .before .before .before .before .before .before .before .before .before)) _ (l2 (c .before .before .before .before .before .before .before .before .before .before .before .before .before .before)) (c .before .before .before .before .before .before .before .before .before .before .before .before .before .before .mark-all .ensures) _ (l3 (c .before .before .before .before .before .before .before .before .before .before)) (c .before .before .before .before .before .before .before .before .before .before .land-all .ensures) _ (l4 (c .before .before .before .before .before .before)) (c .before .before .before .before .before .before .pend-all .ensures)) at (c .before .before .emit .ensures)
+returns c =
+    let o = c .before .before .before .before .before .before .before .before .before .before .before .before .before .before .before .before .before .before .before .before .before .before .before .before .before .before in
+    let a = c .before .before .before .before .before .before .before .before .before .before .before .before .before .before .before .before .before .before in
+    let b = c .before .before .before .before .before .before .before .before .before .before .before .before .before .before in
+    let d = c .before .before .before .before .before .before .before .before .before .before in
+    let f = c .before .before .before .before .before .before in
+    rw (whole _ _ _ _ _ (o .args .region) (o .pre .0) _ (l1 a) (e1 a) _ (l2 b) (b .mark-all .ensures) _ (l3 d) (d .land-all .ensures) _ (l4 f) (f .pend-all .ensures)) at (c .before .before .emit .ensures)
 
 pub mirror-all-spec : {M : Type 1} → statement M
 mirror-all-spec =

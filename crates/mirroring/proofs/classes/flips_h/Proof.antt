@@ -1,6 +1,5 @@
 -- `flips_h`: by the four orders. Assumes nothing.
 use Rattle.mirroring.proofs.Flips.{flip-h}
-use borrow.Author.Needs.{needs}
 use Rattle.mirroring.proofs.classes.flips_h.Statement.{statement}
 use Rattle.mirroring.proofs.classes.flips_h.Tie as tie
 

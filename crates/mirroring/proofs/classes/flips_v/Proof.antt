@@ -1,6 +1,5 @@
 -- `flips_v`: by the four orders. Assumes nothing.
 use Rattle.mirroring.proofs.Flips.{flip-v}
-use borrow.Author.Needs.{needs}
 use Rattle.mirroring.proofs.classes.flips_v.Statement.{statement}
 use Rattle.mirroring.proofs.classes.flips_v.Tie as tie
 

@@ -2,8 +2,7 @@
 use Prim.Native.Nat.{_-_}
 use native.Mathlib.Omega.{arith}
 use mathlib.Core.Path.{refl}
-use Rattle.mirroring.proofs.Spreading.{Spreading, spreading-start, spreading-step, spreading-end}
-use Rattle.mirroring.proofs.Spreading.{code-is}
+use Rattle.mirroring.proofs.Spreading.{Spreading, spreading-start, spreading-step, spreading-end, code-is}
 use borrow.Author.Needs.{needs}
 use Rattle.mirroring.proofs.classes.spread.Statement.{statement}
 use Rattle.mirroring.proofs.classes.spread.Tie as tie

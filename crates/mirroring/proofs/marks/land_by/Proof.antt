@@ -5,7 +5,7 @@ use Prim.Native.Nat.{_/_, _%_, _≤_}
 use borrow.Author.Tests.{not-true, not-false}
 use native.Mathlib.Omega.{arith}
 use Rattle.selection.specs.Selection.{contains}
-use Rattle.mirroring.proofs.Landing.{some-mark, land-outside, land-none, land-one, land-small}
+use Rattle.mirroring.proofs.Landing.{some-mark, land-outside, land-none, land-one}
 use borrow.Author.Needs.{needs}
 use Rattle.mirroring.proofs.marks.land_by.Statement.{statement}
 use Rattle.mirroring.proofs.marks.land_by.Tie as tie

@@ -2,7 +2,6 @@
 use Prim.Native.Nat.{_-_}
 use lib.ListN.{length}
 use native.Mathlib.Omega.{arith}
-use Rattle.mirroring.proofs.Emitting.{emitting-read}
 use Rattle.mirroring.proofs.Emitting.{Emitting, emitting-start, emitting-step, emitting-end}
 use Rattle.changes.proofs.Fronts.{front-of}
 use borrow.Author.Needs.{needs}
@@ -23,7 +22,7 @@ put-pending-requires c κs =
     let p = c .before .before .before .before .pre in
     let i = c .before .before .loop .inv in
     let t = c .before .loop-test .taken in
-    (p .0, p .1, omega (arith, i .long, p .3), t, i .low, omega (arith, i .long, p .2), rw (emitting-read _ _ _ _ _ _ i) (p .4 .small _ (omega (arith, i .long))))
+    (p .0, p .1, omega (arith, i .long, p .3), t, i .low, omega (arith, i .long, p .2))
 
 add-p : tie.Need-add-p Inv-loop μ-loop
 add-p c = search needs

@@ -58,7 +58,7 @@ loop-less : tie.Need-loop-less Inv-loop μ-loop
 loop-less c = search needs
 
 loop-again : tie.Need-loop-again Inv-loop μ-loop
-loop-again c = (omega (arith, c .before .before .before .before .before .loop-test .taken), running-step _ _ _ _ _ (c .before .before .before .before .before .before .loop .inv .1) _ _ (c .before .before .before .place-of .ensures) (at (c .before .before .before)) (c .pend-by .ensures .0))
+loop-again c = (omega (arith, c .before .before .before .before .before .loop-test .taken), running-step _ _ _ _ _ (c .before .before .before .before .before .before .loop .inv .1) _ _ (c .before .before .before .place-of .ensures) (at (c .before .before .before)) (c .pend-by .ensures))
 
 same-length : tie.Need-same-length Inv-loop μ-loop
 same-length c = search needs

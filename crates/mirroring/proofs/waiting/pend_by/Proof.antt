@@ -1,6 +1,5 @@
 -- `pend_by`: by the test. Assumes nothing.
 use borrow.Author.Tests.{eq-eqb, ne-eqb}
-use native.Mathlib.Omega.{arith}
 use Rattle.mirroring.specs.Marks.{pendingBy}
 use borrow.Author.Needs.{needs}
 use Rattle.mirroring.proofs.waiting.pend_by.Statement.{statement}
@@ -17,7 +16,7 @@ add-result c = search needs
 
 returns : tie.Need-returns
 unfolding pendingBy
-returns c = (rw (c .new-bits .ensures .0, eq-eqb _ _ (c .before .if1 .taken)), omega (arith, c .new-bits .ensures .1))
+returns c = rw (c .new-bits .ensures .0, eq-eqb _ _ (c .before .if1 .taken))
 
 mul-result-2 : tie.Need-mul-result-2
 mul-result-2 c = search needs
@@ -36,7 +35,7 @@ add-result-3 c = search needs
 
 returns-2 : tie.Need-returns-2
 unfolding pendingBy
-returns-2 c = (rw (c .new-bits2 .ensures .0, ne-eqb _ _ (c .before .if1 .left)), omega (arith, c .new-bits2 .ensures .1))
+returns-2 c = rw (c .new-bits2 .ensures .0, ne-eqb _ _ (c .before .if1 .left))
 
 pub pend-by-spec : {M : Type 1} → statement M
 pend-by-spec =

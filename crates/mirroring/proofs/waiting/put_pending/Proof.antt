@@ -1,15 +1,15 @@
 -- `put_pending`: by the test. Assumes nothing.
-use lib.ListN.{getD}
-use mir.Syntax.{w16}
-use mir.Val.{ofZ}
-use native.Mathlib.Omega.{arith}
-use lib.IntN.{pos}
-use Prim.Native.Nat.{_+_, _*_, _/_, _%_, _<_}
-use mathlib.Core.Path.{_≡_, refl}
 use native.Mathlib.Nat.{mod-lt, div-lt-iff-lt-mul}
-use Rattle.ints.proofs.Back.{back}
+use Prim.Native.Nat.{_+_, _*_, _/_, _%_, _<_}
+use lib.IntN.{pos}
+use native.Mathlib.Omega.{arith}
+use mathlib.Core.Path.{_≡_, refl}
+use mir.Syntax.{w16}
+use lib.ListN.{getD}
+use mir.Val.{ofZ}
 use Rattle.mirroring.specs.Marks.{oldIn}
 use Rattle.mirroring.proofs.Emitting.{put-none, emitted-some, emitted-none}
+use Rattle.ints.proofs.Back.{back}
 use borrow.Author.Needs.{needs}
 use Rattle.mirroring.proofs.waiting.put_pending.Statement.{statement}
 use Rattle.mirroring.proofs.waiting.put_pending.Tie as tie
@@ -50,14 +50,17 @@ old-in-requires c κs = search needs
 old : (c : tie.After-old-in) → let a = c .before .before .before .before .before .args in c .old-in .result ≡ oldIn (ofZ w16 (getD (a .indices .now) (a .p) (pos 0))) (getD (a .s .now) (a .p) 0)
 old c = let a = c .before .before .before .before .before .args in rw (back w16 (getD (a .indices .now) (a .p) (pos 0)) (c .before .old-in-arg .given)) at (c .old-in .ensures .0)
 
+new-bits-requires : tie.Need-new-bits-requires
+new-bits-requires c κs = search needs
+
 put-change-requires : tie.Need-put-change-requires
-put-change-requires c κs = let p = c .before .before .before .before .before .before .pre in (omega (arith, p .3, p .4), (omega (arith, row (c .before .before .before .before .before .before), column (c .before .before .before .before .before .before)), c .before .old-in .ensures .1, omega (arith, p .6)))
+put-change-requires c κs = let p = c .before .before .before .before .before .before .before .pre in (omega (arith, p .3, p .4), (omega (arith, row (c .before .before .before .before .before .before .before), column (c .before .before .before .before .before .before .before)), c .before .before .old-in .ensures .1, c .new-bits .ensures .1))
 
 same-length : tie.Need-same-length
 same-length c = search needs
 
 returns : tie.Need-returns
-returns c = let a = c .before .before .before .before .before .before .before .before .before .args in rw (emitted-some (a .w) (a .indices .now) (a .p) (getD (a .s .now) (a .p) 0) (a .p % a .w + a .p / a .w * 65536) (c .before .before .before .before .old-in .result) (c .before .before .before .before .before .before .if1 .taken) refl (old (c .before .before .before .before))) at (c .before .before .put-change .ensures)
+returns c = let a = c .before .before .before .before .before .before .before .before .before .before .args in rw (c .before .before .before .new-bits .ensures .0, emitted-some (a .w) (a .indices .now) (a .p) (getD (a .s .now) (a .p) 0) (a .p % a .w + a .p / a .w * 65536) (c .before .before .before .before .before .old-in .result) (c .before .before .before .before .before .before .before .if1 .taken) refl (old (c .before .before .before .before .before))) at (c .before .before .put-change .ensures)
 
 returns-2 : tie.Need-returns-2
 returns-2 c = rw (← emitted-none _ _ _ _ (c .if1 .left)) (put-none _ _)
@@ -75,6 +78,7 @@ put-pending-spec =
     mul-old-in
     shared-slice-copy-out-old-in
     old-in-requires
+    new-bits-requires
     put-change-requires
     same-length
     returns
