@@ -1,6 +1,6 @@
 // Per-tile editing: `mirror_tiles` of tools.rs. A list of changes is lent as one number of 64 bits a change, and so
 // is the scratch, whose contents are free before and after the call.
-use changes::hand_out;
+use changes::copy_out;
 use limits::Counted;
 use limits::LIST_TOO_LONG;
 use limits::MAX_CHANGES;
@@ -16,7 +16,8 @@ use selection::region;
 use sheet::check;
 ghost use mathlib.Core.Path.{_≡_};
 ghost use mathlib.Core.List.{map};
-ghost use lib.ListN.{length};
+ghost use Prim.Native.Nat.{_≤_};
+ghost use lib.ListN.{length, take};
 ghost use Rattle.limits.specs.Answer.{filled};
 ghost use Rattle.lists.specs.Lists.{some};
 ghost use Rattle.sheet.specs.Sheet.{sheetOf};
@@ -109,6 +110,18 @@ fn prepare(
         return Stage::Refused(NO_SPACE);
     }
     Stage::Canvas(s)
+}
+
+// The first n of a buffer over the front of out, or 16 where out has fewer places, and then nothing is written.
+fn hand_out(buffer: &[u64], n: usize, out: &mut [u64]) -> Counted
+    requires { ⌜ n ≤ length (now buffer) ⌝ }
+    ensures { λ r. ⌜ filled r (now (out .exit)) ≡ handed (take n (now (buffer .entry))) (now (out .entry)) ⌝ }
+{
+    if out.len() < n {
+        return Counted::Refused(NO_SPACE);
+    }
+    copy_out(buffer, n, out);
+    Counted::Count(n)
 }
 
 // The list with its copies, or as it is, over the front of out; 16 where that has fewer places, and then nothing is
