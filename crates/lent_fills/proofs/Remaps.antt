@@ -1,15 +1,13 @@
 -- `remove_entry` and `merge_entries` with scratch: what they list, that it is no more than the sheet has pixels, and what they answer. Assumes nothing.
 use mathlib.Core.Path.{_≡_, refl, sym, ap, _∙_}
-use mathlib.Core.Bool.{Bool, true, false, cond}
-use mathlib.Core.List.{List, [], _∷_, _++_, map}
-use Prim.Native.Nat.{ℕ, suc, _<_, _≤_}
+use mathlib.Core.List.{List, _++_, map}
+use Prim.Native.Nat.{ℕ, _<_, _≤_}
 use native.Mathlib.Omega.{arith}
 use borrow.Author.Tests.{lt-ltb, le-ltb}
 use lib.IntN.{ℤ, pos}
 use lib.ListN.{length, take, drop, length-map}
 use Rattle.limits.specs.Checks.{Check, firstOf}
 use Rattle.lists.specs.Lists.{over}
-use Rattle.ints.specs.Ints.{eqZ}
 use Rattle.sheet.specs.Sheet.{Sheet}
 use Rattle.sheet.specs.Document.{rgbAt}
 use Rattle.edits.specs.declared.Edit.the-variants.{PaletteRemove}
@@ -17,11 +15,13 @@ use Rattle.edits.specs.Change.{packed}
 use Rattle.changes.specs.Listed.{InScratch}
 use Rattle.changes.proofs.InScratch.{scratch-none, scratch-then}
 use Rattle.structs.specs.Struct.{least}
+use Rattle.pixels.specs.Listing.{placesFrom}
+use Rattle.pixels.proofs.Places.{places-few}
 use Rattle.palette.specs.declared.Removal.{Removal}
 use Rattle.palette.specs.declared.Removal.the-variants as removal
 use Rattle.palette.specs.Colours.{noLab}
 use Rattle.palette.specs.Nearest.{otherChecks, nearestOther}
-use Rattle.palette.specs.Removal.{placesFrom, remapOf, Remapped, remapped, removeTo, removeEntryOf, mergeChecks, mergeEntriesOf}
+use Rattle.palette.specs.Removal.{remapOf, Remapped, remapped, removeTo, removeEntryOf, mergeChecks, mergeEntriesOf}
 use Rattle.palette.proofs.Answers.{remap-length, remove-refused, remove-past, remove-short, remove-done}
 use Rattle.lent_fills.specs.Scratch.{removalCount, noRemoval, needingRemap}
 use Rattle.lent_fills.proofs.Listing.{Lists, listed-in, none-same}
@@ -39,30 +39,21 @@ none-refused : (n : ℕ) → noRemoval (removal.Refused n) ≡ removal.Refused n
 unfolding noRemoval
 none-refused n = refl
 
-places-few : (i p : ℕ) (l : List ℤ) → length (placesFrom i p l) ≤ length l
-unfolding placesFrom
-places-few i p [] = omega arith
-places-few i p (z ∷ l) = go (eqZ z (pos i)) (places-few i (suc p) l)
-  where
-    go : (b : Bool) → length (placesFrom i (suc p) l) ≤ length l → length (cond b (p ∷ placesFrom i (suc p) l) (placesFrom i (suc p) l)) ≤ length (z ∷ l)
-    go true k = omega arith
-    go false k = omega arith
-
 module _ (checks : List Check) (w : ℕ) (palette : List ℕ) (l : List ℤ) (i target : ℕ) where
   abbrev ns : List ℕ
   ns = map packed (remapOf w l i target)
 
-  long : length ns ≡ length (placesFrom i 0 l)
+  long : length ns ≡ length (placesFrom (pos i) 0 l)
   long = length-map (remapOf w l i target) packed ∙ remap-length w l i target
 
   abbrev made : Removal
-  made = removal.Made (PaletteRemove i (rgbAt palette i) noLab) (length (placesFrom i 0 l))
+  made = removal.Made (PaletteRemove i (rgbAt palette i) noLab) (length (placesFrom (pos i) 0 l))
 
   listing : Listing (removeTo checks w palette l i target) ns (firstOf checks) made
   listing = record {
     refuses = λ z out. remove-refused w palette l i target out checks (firstOf checks) refl z;
     short = λ z out h. remove-short w palette l i target out (omega (arith, long)) ∙ remove-past w palette l i target out checks z;
-    lists = λ z out h. remove-done w palette l i target out (length (placesFrom i 0 l)) (rgbAt palette i) noLab (over ns out) refl (omega (arith, long)) refl refl refl ∙ remove-past w palette l i target out checks z;
+    lists = λ z out h. remove-done w palette l i target out (length (placesFrom (pos i) 0 l)) (rgbAt palette i) noLab (over ns out) refl (omega (arith, long)) refl refl refl ∙ remove-past w palette l i target out checks z;
     counts = sym long;
   }
 
@@ -84,7 +75,7 @@ module _ (checks : List Check) (w : ℕ) (palette : List ℕ) (l : List ℤ) (i 
     unfolding needingRemap
     remap-in {r} {f} s m places h k q d =
         scratch-then (listed-in remapped (λ f. f .answer) (λ f. f .list) (λ r f. refl) (λ r f. refl) removalCount removal.Refused (λ k. refl) listing s f r m places q
-        (λ z. omega (arith, long, places-few i 0 l)) (rw is at d))
+        (λ z. omega (arith, long, places-few (pos i) 0 l)) (rw is at d))
         (λ out after j p. rw (le-ltb room (length l) h, is) p)
 
 pub remove-is : (s : Sheet) (i : ℕ) → removeEntryOf s i ≡ removeTo (otherChecks s i) (s .w) (s .palette) (s .indices) i (nearestOther (s .lab) (s .k) i)
