@@ -244,30 +244,25 @@ fn over_sheet(c: usize, d: &Deck) -> Vec<u64> {
         3 => sheets::get_at(case, x, coordinate(d[20])),
         4 => sheets::counts(case, 2),
         5 => {
-            let (w, h) = sides(if once_in(d[26], 8) { d[26] >> 8 } else { d[8] });
+            let (w, h) = sides(if once_in(d[26], 8) { d[27] } else { d[8] });
             let k = pick(d[31], 4);
-            let mut indices = indices_of(d[25], k, 6);
-            if once_in(d[28], 8) {
-                indices[0] = 3;
-            }
             let base = Sheet {
                 w,
                 h,
-                k,
+                k: if once_in(d[26], 2) { 2 } else { k },
                 palette: bytes_of(d[12], STORAGE),
                 lab: Vec::new(),
-                indices,
+                indices: indices_of(d[25], k, 6),
             };
             sheets::diff_mask(case, &base, 7)
         }
         6 => {
-            let lab = pixelforge::color::rgb8_to_lab(&bytes_of(d[30], 3));
+            let lab = pixelforge::color::rgb8_to_lab(&colour(d));
             sheets::nearest_index(lab.try_into().unwrap(), &case.sheet.lab, case.sheet.k)
         }
         7 => drawn::eyedropper(case, x, coordinate(d[20])),
         8 | 9 => {
-            let mut points = dealt(d[25], 4, near);
-            points[0] = x;
+            let points = [x, y, near(d[21]), near(d[22])];
             if c == 8 {
                 drawn::pencil(case, a, &points, size, i, 6, 4)
             } else {
@@ -341,13 +336,13 @@ fn loose(c: usize, d: &Deck) -> Vec<u64> {
             rgb[1],
             rgb[2],
         ],
-        index: pick(d[22], 4),
+        index: pick(d[20], 4),
         lab: [0.0; 3],
     };
     let list = |seed: u64, n: usize| dealt(seed, n, change);
     let normal = || list_of(&normalize(changes_of(&list(d[25], 4))));
     let [expected, _] = match c {
-        26 => sheets::rgb8_to_lab([d[12] as u8, d[13] as u8, d[14] as u8]),
+        26 => sheets::rgb8_to_lab(rgb),
         27 => sheets::cbrt(RADICANDS[pick(d[12], 12)]),
         28 => sheets::all(w, h),
         29 => sheets::from_corners([x, y, near(d[21]), coordinate(d[22])], w, h),
@@ -374,13 +369,24 @@ fn loose(c: usize, d: &Deck) -> Vec<u64> {
         36 => sheets::bresenham([x, near(d[20]), near(d[21]), near(d[22])], 11),
         37 => sheets::normalize(&list(d[25], 5), 5, 4),
         38 => sheets::pixels(d[24] as u8, &list(d[25], 5), 5, 4),
-        39 => sheets::is_empty(&edit, &[0][usize::from(!once_in(d[26], 2))..]),
+        39 => {
+            // beside a list of one change, and none
+            let [one, _] = sheets::is_empty(&edit, &[0]);
+            let [mut none, _] = sheets::is_empty(&edit, &[]);
+            none.insert(1, one[1]);
+            [none, Vec::new()]
+        }
         40 => sheets::kind(&edit),
         41 => {
             let front = normal();
             sheets::extend(&over(&front, 5, WORD), front.len(), &list(d[24], 3), 7)
         }
-        42 => sheets::stroke(d[24] as u8, &list(d[25], 4)),
+        42 => sheets::stroke(
+            d[24] as u8,
+            &(0..pick(d[20], 4) as u64)
+                .map(|x| x | 1 << 48)
+                .collect::<Vec<u64>>(),
+        ),
         _ => {
             // any well-formed sheet: the call looks at none
             let case = Case::new(sheet(&deck(1), (3, 2)));
@@ -408,7 +414,7 @@ fn told(no: u8, st: &State) -> Vec<u64> {
 /// One call of a history, after which the state is what is expected.
 fn step(c: usize, d: &Deck, st: &mut State) -> Vec<u64> {
     if once_in(d[29], 40) {
-        st.journal[pick(d[30], 120)] = d[31] as u8;
+        st.journal[pick(d[30], 120)] = d[25] as u8;
     }
     let rgb = colour(d);
     let flat = |kind: u8| Flat {
@@ -416,10 +422,10 @@ fn step(c: usize, d: &Deck, st: &mut State) -> Vec<u64> {
         index: pick(d[20], 4),
         lab: [0.0; 3],
     };
-    let p = permitted(d, once_in(d[28], 4));
+    let p = permitted(d, once_in(d[28], 3));
     let [expected, _] = match c {
         45 => {
-            let kind = kind(d[9]);
+            let kind = kind(d[23]);
             let list = if kind == 4 {
                 let (from, into) = (pick(d[20], 4), pick(d[21], 4));
                 match rust_palette::merge_entries(&journal::document(&st.sheet), from, into) {
@@ -427,7 +433,7 @@ fn step(c: usize, d: &Deck, st: &mut State) -> Vec<u64> {
                     Err(_) => Vec::new(),
                 }
             } else {
-                dealt(d[22], pick(d[23], 4), change)
+                dealt(d[25], pick(d[24], 5), change)
             };
             let doc = journal::document(&st.sheet);
             let (no, after, _) =
@@ -465,12 +471,10 @@ fn step(c: usize, d: &Deck, st: &mut State) -> Vec<u64> {
             },
         ),
         _ => {
-            let list = dealt(d[22], 2, change);
-            let (no, after) = histories::replayed(&st.sheet, &p, &flat(kind(d[9])), &list, 6);
+            let list = dealt(d[25], 2, change);
+            let (no, after) = histories::replayed(&st.sheet, &p, &flat(kind(d[23])), &list, 6);
             st.sheet = after;
-            let mut words = vec![no.into(), st.sheet.k as u64];
-            st.sheet.words(&mut words);
-            return words;
+            return told(no, st);
         }
     };
     expected

@@ -146,16 +146,41 @@ fn before(n: usize) -> i16 {
     }
 }
 
+// A colour.
+pub fn colour(seed: u64) -> [u8; 3] {
+    let mut rgb = [0u8; 3];
+    fill_bytes(seed, &mut rgb);
+    rgb
+}
+
+// Two colours.
+pub fn colours(seed: u64) -> [u8; 6] {
+    let mut list = [0u8; 6];
+    fill_bytes(seed, &mut list);
+    list
+}
+
+// How many indices a palette of k entries has, for a k up to 3.
+fn values(k: usize) -> usize
+    ensures { λ r. ⌜ 0 < r ⌝ }
+{
+    match k {
+        0 => 1,
+        1 => 2,
+        2 => 3,
+        _ => 4,
+    }
+}
+
 // Indices from -1 to k - 1, for a k up to 3.
 pub fn fill_indices(seed: u64, k: usize, out: &mut [i16])
-    requires { ⌜ k < 4 ⌝ }
     ensures { λ _. ⌜ length (now (out .exit)) ≡ length (now (out .entry)) ⌝ }
 {
     let mut x = seed;
     let mut i: usize = 0;
     while i < out.len() {
         x = next(x);
-        out[i] = before(pick(x, k + 1));
+        out[i] = before(pick(x, values(k)));
         i += 1;
     }
 }

@@ -1,26 +1,23 @@
 // Inputs dealt from a seed, and fingerprints of answers, for the program `sample`; compare/sample.rs has the same in Rust. Of
 // these functions it is proved that they are safe and end, and what their callers need of a length or a bound.
 mod dealt;
+mod hands;
 mod prints;
 
-pub use dealt::byte;
-pub use dealt::coordinate;
+pub use dealt::colour;
+pub use dealt::colours;
 pub use dealt::deck;
 pub use dealt::fill_bytes;
 pub use dealt::fill_indices;
 pub use dealt::fill_list;
 pub use dealt::fill_points;
 pub use dealt::height;
-pub use dealt::index;
-pub use dealt::kind;
 pub use dealt::mix;
-pub use dealt::near;
-pub use dealt::once_in;
 pub use dealt::pick;
-pub use dealt::selection;
-pub use dealt::side;
 pub use dealt::width;
-pub use prints::Told;
+pub use hands::Hand;
+pub use hands::deal;
+pub use prints::Outcome;
 pub use prints::mix_answer;
 pub use prints::mix_bytes;
 pub use prints::mix_counts;
@@ -34,3 +31,4 @@ pub use prints::mix_points;
 pub use prints::mix_sizes;
 pub use prints::mix_triple;
 pub use prints::mix_words;
+pub use prints::told;

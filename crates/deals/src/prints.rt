@@ -2,9 +2,13 @@
 use crate::dealt::mix;
 
 // A call's number, and the fingerprint of all that it answered and left.
-pub struct Told {
+pub struct Outcome {
     pub number: u8,
     pub print: u64,
+}
+
+pub fn told(no: u8, print: u64) -> Outcome {
+    Outcome { number: no, print }
 }
 
 pub fn mix_number(no: u8) -> u64 {

@@ -11,7 +11,9 @@ mod palettes;
 mod steps;
 mod strokes;
 
-use deals::Told;
+use deals::Hand;
+use deals::Outcome;
+use deals::deal;
 use deals::deck;
 use deals::fill_bytes;
 use deals::fill_indices;
@@ -26,34 +28,74 @@ const HISTORIES: u64 = 24;
 
 const STEPS: u64 = 60;
 
+// Makes an index stray, now and then.
+fn spoil_index(wrong: usize, indices: &mut [i16]) {
+    if wrong == 0 {
+        if 0 < indices.len() {
+            indices[0] = 3;
+        }
+    }
+}
+
+// Makes a LAB number infinite, now and then.
+fn spoil_lab(wrong: usize, lab: &mut [f64]) {
+    if wrong == 1 {
+        if 0 < lab.len() {
+            lab[0] = 1e300 * 1e300;
+        }
+    }
+}
+
+// The palette count, or one past the limit.
+fn entries(wrong: usize, k: usize) -> usize {
+    if wrong == 2 { 256 } else { k }
+}
+
+fn over(
+    c: usize,
+    a: Hand,
+    w: usize,
+    h: usize,
+    k: usize,
+    palette: &[u8],
+    lab: &[f64],
+    indices: &[i16],
+) -> Outcome {
+    match c {
+        0..=7 => looks::answer(c, a, w, h, k, palette, lab, indices),
+        8..=19 => strokes::answer(c, a, w, h, k, palette, lab, indices),
+        _ => palettes::answer(c, a, w, h, k, palette, lab, indices),
+    }
+}
+
 // A call over a sheet of six pixels with up to 3 entries, which is now and then damaged.
-fn over_sheet(c: usize, d: &[u64; 32]) -> Told {
+fn over_sheet(c: usize, d: &[u64; 32]) -> Outcome {
     let w = width(d[8]);
     let h = height(d[8]);
     let k = pick(d[10], 4);
+    let wrong = pick(d[11], 24);
     let mut palette = [0u8; 765];
     let mut lab = [0.0f64; 765];
     let mut indices = [0i16; 6];
     fill_bytes(d[12], &mut palette);
     fill_indices(d[13], k, &mut indices);
     exports::call_new(w, h, k, &palette, &mut lab, &indices);
-    let wrong = pick(d[11], 24);
-    let stray = if wrong == 0 { 3 } else { indices[0] };
-    indices[0] = stray;
-    let unfit = if wrong == 1 { 1e300 * 1e300 } else { lab[0] };
-    lab[0] = unfit;
-    let many = if wrong == 2 { 256 } else { k };
-    if c < 8 {
-        return looks::answer(c, d, w, h, many, &palette, &lab, &indices);
-    }
-    if c < 20 {
-        return strokes::answer(c, d, w, h, many, &palette, &lab, &indices);
-    }
-    palettes::answer(c, d, w, h, many, &palette, &lab, &indices)
+    spoil_index(wrong, &mut indices);
+    spoil_lab(wrong, &mut lab);
+    over(
+        c,
+        deal(d),
+        w,
+        h,
+        entries(wrong, k),
+        &palette,
+        &lab,
+        &indices,
+    )
 }
 
 // Writes a line.
-fn print_line(c: usize, t: Told) {
+fn print_line(c: usize, t: Outcome) {
     names::print_name(c);
     io::write_all(1, b" ");
     io::print_decimal(1, t.number as u64);
@@ -68,7 +110,7 @@ fn print_answer(c: usize, seed: u64) {
     if c < 26 {
         print_line(c, over_sheet(c, &d));
     } else {
-        print_line(c, loose::answer(c, &d));
+        print_line(c, loose::answer(c, deal(&d)));
     }
 }
 
@@ -91,25 +133,7 @@ fn print_calls() {
     }
 }
 
-// One call of a history.
-fn print_step(
-    seed: u64,
-    w: usize,
-    h: usize,
-    palette: &mut [u8],
-    lab: &mut [f64],
-    indices: &mut [i16],
-    journal: &mut [u8],
-    state: &mut [usize; 6],
-) {
-    let d = deck(seed);
-    let c = steps::call_of(d[8]);
-    print_line(
-        c,
-        steps::step(c, &d, w, h, palette, lab, indices, journal, state),
-    );
-}
-
+// The calls of a history after its first.
 fn print_steps(
     seed: u64,
     w: usize,
@@ -122,15 +146,11 @@ fn print_steps(
 ) {
     let mut i: u64 = 1;
     while i < STEPS {
-        print_step(
-            std::num::wrapping_add_u64(seed, i),
-            w,
-            h,
-            palette,
-            lab,
-            indices,
-            journal,
-            state,
+        let d = deck(std::num::wrapping_add_u64(seed, i));
+        let c = steps::call_of(d[8]);
+        print_line(
+            c,
+            steps::step(c, deal(&d), w, h, palette, lab, indices, journal, state),
         );
         i += 1;
     }

@@ -1,45 +1,26 @@
 // The calls of palette.rs.
-use deals::Told;
-use deals::fill_bytes;
+use deals::Hand;
+use deals::Outcome;
+use deals::colour;
+use deals::colours;
 use deals::mix_answer;
 use deals::mix_bytes;
 use deals::mix_edit;
 use deals::mix_words;
-use deals::once_in;
-use deals::pick;
-
-fn told(no: u8, print: u64) -> Told {
-    Told { number: no, print }
-}
-
-// A colour: the palette's first, or another.
-pub(crate) fn colour(d: &[u64; 32]) -> [u8; 3] {
-    let mut rgb = [0u8; 3];
-    let seed = if once_in(d[30], 2) { d[12] } else { d[30] };
-    fill_bytes(seed, &mut rgb);
-    rgb
-}
-
-// Two permitted colours; the first may be the one that `colour` gives.
-pub(crate) fn permitted(d: &[u64; 32]) -> [u8; 6] {
-    let mut list = [0u8; 6];
-    let seed = if once_in(d[31], 2) { d[30] } else { d[12] };
-    fill_bytes(seed, &mut list);
-    list
-}
+use deals::told;
 
 fn fixed_choices(
-    d: &[u64; 32],
+    a: Hand,
     w: usize,
     h: usize,
     k: usize,
     palette: &[u8],
     lab: &[f64],
     indices: &[i16],
-) -> Told {
+) -> Outcome {
     let mut r = [7777usize; 5];
     let mut used = [0x5au8; 3];
-    let list = permitted(d);
+    let list = colours(a.listed);
     let no = exports::call_fixed_choices(
         w,
         h,
@@ -47,7 +28,7 @@ fn fixed_choices(
         palette,
         lab,
         indices,
-        !once_in(d[28], 3),
+        !a.limited,
         &list,
         &mut used,
         &mut r,
@@ -56,19 +37,19 @@ fn fixed_choices(
 }
 
 fn set_color(
-    d: &[u64; 32],
+    a: Hand,
     w: usize,
     h: usize,
     k: usize,
     palette: &[u8],
     lab: &[f64],
     indices: &[i16],
-) -> Told {
+) -> Outcome {
     let mut r = [7777usize; 5];
     let mut bytes = [0x5au8; 8];
     let mut doubles = [1.5f64; 3];
-    let list = permitted(d);
-    let rgb = colour(d);
+    let list = colours(a.listed);
+    let rgb = colour(a.colour);
     let no = exports::call_set_color(
         w,
         h,
@@ -76,9 +57,9 @@ fn set_color(
         palette,
         lab,
         indices,
-        once_in(d[28], 3),
+        a.limited,
         &list,
-        pick(d[20], 4),
+        a.from,
         &rgb,
         &mut bytes,
         &mut doubles,
@@ -88,19 +69,19 @@ fn set_color(
 }
 
 fn add_color(
-    d: &[u64; 32],
+    a: Hand,
     w: usize,
     h: usize,
     k: usize,
     palette: &[u8],
     lab: &[f64],
     indices: &[i16],
-) -> Told {
+) -> Outcome {
     let mut r = [7777usize; 5];
     let mut bytes = [0x5au8; 8];
     let mut doubles = [1.5f64; 3];
-    let list = permitted(d);
-    let rgb = colour(d);
+    let list = colours(a.listed);
+    let rgb = colour(a.colour);
     let no = exports::call_add_color(
         w,
         h,
@@ -108,7 +89,7 @@ fn add_color(
         palette,
         lab,
         indices,
-        once_in(d[28], 3),
+        a.limited,
         &list,
         &rgb,
         &mut bytes,
@@ -119,14 +100,14 @@ fn add_color(
 }
 
 fn remove_entry(
-    d: &[u64; 32],
+    a: Hand,
     w: usize,
     h: usize,
     k: usize,
     palette: &[u8],
     lab: &[f64],
     indices: &[i16],
-) -> Told {
+) -> Outcome {
     let mut r = [7777usize; 5];
     let mut bytes = [0x5au8; 8];
     let mut doubles = [1.5f64; 3];
@@ -138,7 +119,7 @@ fn remove_entry(
         palette,
         lab,
         indices,
-        pick(d[20], 4),
+        a.from,
         &mut list,
         &mut bytes,
         &mut doubles,
@@ -151,14 +132,14 @@ fn remove_entry(
 }
 
 fn merge_entries(
-    d: &[u64; 32],
+    a: Hand,
     w: usize,
     h: usize,
     k: usize,
     palette: &[u8],
     lab: &[f64],
     indices: &[i16],
-) -> Told {
+) -> Outcome {
     let mut r = [7777usize; 5];
     let mut bytes = [0x5au8; 8];
     let mut doubles = [1.5f64; 3];
@@ -170,8 +151,8 @@ fn merge_entries(
         palette,
         lab,
         indices,
-        pick(d[20], 4),
-        pick(d[21], 4),
+        a.from,
+        a.into,
         &mut list,
         &mut bytes,
         &mut doubles,
@@ -184,35 +165,35 @@ fn merge_entries(
 }
 
 fn nearest_other(
-    d: &[u64; 32],
+    a: Hand,
     w: usize,
     h: usize,
     k: usize,
     palette: &[u8],
     lab: &[f64],
     indices: &[i16],
-) -> Told {
+) -> Outcome {
     let mut r = [7777usize; 5];
-    let no = exports::call_nearest_other(w, h, k, palette, lab, indices, pick(d[20], 4), &mut r);
+    let no = exports::call_nearest_other(w, h, k, palette, lab, indices, a.from, &mut r);
     told(no, mix_answer(no, &r))
 }
 
 pub(crate) fn answer(
     c: usize,
-    d: &[u64; 32],
+    a: Hand,
     w: usize,
     h: usize,
     k: usize,
     palette: &[u8],
     lab: &[f64],
     indices: &[i16],
-) -> Told {
+) -> Outcome {
     match c {
-        20 => fixed_choices(d, w, h, k, palette, lab, indices),
-        21 => set_color(d, w, h, k, palette, lab, indices),
-        22 => add_color(d, w, h, k, palette, lab, indices),
-        23 => nearest_other(d, w, h, k, palette, lab, indices),
-        24 => remove_entry(d, w, h, k, palette, lab, indices),
-        _ => merge_entries(d, w, h, k, palette, lab, indices),
+        20 => fixed_choices(a, w, h, k, palette, lab, indices),
+        21 => set_color(a, w, h, k, palette, lab, indices),
+        22 => add_color(a, w, h, k, palette, lab, indices),
+        23 => nearest_other(a, w, h, k, palette, lab, indices),
+        24 => remove_entry(a, w, h, k, palette, lab, indices),
+        _ => merge_entries(a, w, h, k, palette, lab, indices),
     }
 }

@@ -1,11 +1,9 @@
 // The calls of a history in a journal of 120 bytes.
-use crate::palettes::colour;
-use crate::palettes::permitted;
-use deals::Told;
-use deals::byte;
+use crate::loose::edit;
+use deals::Hand;
+use deals::Outcome;
+use deals::colours;
 use deals::fill_list;
-use deals::kind;
-use deals::mix;
 use deals::mix_answer;
 use deals::mix_bytes;
 use deals::mix_doubles;
@@ -13,12 +11,8 @@ use deals::mix_edit;
 use deals::mix_indices;
 use deals::mix_number;
 use deals::mix_sizes;
-use deals::once_in;
 use deals::pick;
-
-fn told(no: u8, print: u64) -> Told {
-    Told { number: no, print }
-}
+use deals::told;
 
 // Which call is made: mostly a push, an undo or a redo.
 pub(crate) fn call_of(x: u64) -> usize {
@@ -38,12 +32,8 @@ pub(crate) fn call_of(x: u64) -> usize {
 }
 
 // The number, and the palette count and the handle.
-pub(crate) fn told_state(no: u8, state: &[usize; 6]) -> Told {
+pub(crate) fn told_state(no: u8, state: &[usize; 6]) -> Outcome {
     told(no, mix_sizes(mix_number(no), state))
-}
-
-fn mix_sheet(h: u64, palette: &[u8], lab: &[f64], indices: &[i16]) -> u64 {
-    mix_indices(mix_doubles(mix_bytes(h, palette), lab), indices)
 }
 
 // The number, and all that is lent.
@@ -54,21 +44,15 @@ fn told_all(
     indices: &[i16],
     journal: &[u8],
     state: &[usize; 6],
-) -> Told {
-    let h = mix_sizes(mix_number(no), state);
-    told(no, mix_bytes(mix_sheet(h, palette, lab, indices), journal))
+) -> Outcome {
+    let head = mix_sizes(mix_number(no), state);
+    let sheet = mix_indices(mix_doubles(mix_bytes(head, palette), lab), indices);
+    told(no, mix_bytes(sheet, journal))
 }
 
-// An edit of a kind, with a colour.
-fn edit(d: &[u64; 32], k: u8) -> [u8; 8] {
-    let c = colour(d);
-    [k, byte(d[24]), byte(d[25]), 0, 0, c[0], c[1], c[2]]
-}
-
-// Writes a list, and answers how many changes it has: of a removal the one that `merge_entries` makes, else a dealt one.
-fn fill_edit(
-    d: &[u64; 32],
-    k: u8,
+// Writes the list that `merge_entries` makes, and answers how many changes it has.
+fn fill_removal(
+    a: Hand,
     w: usize,
     h: usize,
     entries: usize,
@@ -80,25 +64,39 @@ fn fill_edit(
     let mut r = [0usize; 5];
     let mut bytes = [0u8; 8];
     let mut doubles = [0.0f64; 3];
-    if k == 4 {
-        exports::call_merge_entries(
-            w,
-            h,
-            entries,
-            palette,
-            lab,
-            indices,
-            pick(d[20], 4),
-            pick(d[21], 4),
-            list,
-            &mut bytes,
-            &mut doubles,
-            &mut r,
-        );
-        return r[1];
+    exports::call_merge_entries(
+        w,
+        h,
+        entries,
+        palette,
+        lab,
+        indices,
+        a.from,
+        a.into,
+        list,
+        &mut bytes,
+        &mut doubles,
+        &mut r,
+    );
+    r[1]
+}
+
+// Writes a list, and answers how many changes it has: a removal's is that of `merge_entries`.
+fn fill_edit(
+    a: Hand,
+    w: usize,
+    h: usize,
+    entries: usize,
+    palette: &[u8],
+    lab: &[f64],
+    indices: &[i16],
+    list: &mut [u64],
+) -> usize {
+    if a.kind == 4 {
+        return fill_removal(a, w, h, entries, palette, lab, indices, list);
     }
-    fill_list(d[22], list);
-    pick(d[23], 4)
+    fill_list(a.seed, list);
+    a.size
 }
 
 // The first n changes of a list, or all of them.
@@ -106,9 +104,8 @@ fn front(list: &[u64], n: usize) -> &[u64] {
     if n <= list.len() { &list[..n] } else { list }
 }
 
-// Pushes an edit with a list.
-fn push_list(
-    d: &[u64; 32],
+fn push(
+    a: Hand,
     w: usize,
     h: usize,
     palette: &mut [u8],
@@ -116,70 +113,29 @@ fn push_list(
     indices: &mut [i16],
     journal: &mut [u8],
     state: &mut [usize; 6],
-    k: u8,
-    list: &[u64],
 ) -> u8 {
+    let mut list = [0u64; 6];
     let mut scratch = [0u8; 6];
     let doubles = [0.0f64; 3];
-    let bytes = edit(d, k);
-    let colours = permitted(d);
+    let bytes = edit(a);
+    let permitted = colours(a.listed);
+    let n = fill_edit(a, w, h, state[0], palette, lab, indices, &mut list);
     exports::call_push(
         w,
         h,
         palette,
         lab,
         indices,
-        once_in(d[28], 4),
-        &colours,
+        a.limited,
+        &permitted,
         &bytes,
-        pick(d[20], 4),
+        a.from,
         &doubles,
-        list,
+        front(&list, n),
         journal,
         &mut scratch,
         state,
     )
-}
-
-fn push(
-    d: &[u64; 32],
-    w: usize,
-    h: usize,
-    palette: &mut [u8],
-    lab: &mut [f64],
-    indices: &mut [i16],
-    journal: &mut [u8],
-    state: &mut [usize; 6],
-) -> Told {
-    let mut list = [0u64; 6];
-    let k = kind(d[9]);
-    let n = fill_edit(d, k, w, h, state[0], palette, lab, indices, &mut list);
-    let no = push_list(
-        d,
-        w,
-        h,
-        palette,
-        lab,
-        indices,
-        journal,
-        state,
-        k,
-        front(&list, n),
-    );
-    told_all(no, palette, lab, indices, journal, state)
-}
-
-fn undo(
-    w: usize,
-    h: usize,
-    palette: &mut [u8],
-    lab: &mut [f64],
-    indices: &mut [i16],
-    journal: &[u8],
-    state: &mut [usize; 6],
-) -> Told {
-    let no = exports::call_undo(w, h, palette, lab, indices, journal, state);
-    told_all(no, palette, lab, indices, journal, state)
 }
 
 fn redo(
@@ -190,55 +146,46 @@ fn redo(
     indices: &mut [i16],
     journal: &[u8],
     state: &mut [usize; 6],
-) -> Told {
+) -> u8 {
     let mut scratch = [0u8; 6];
-    let no = exports::call_redo(w, h, palette, lab, indices, journal, &mut scratch, state);
-    told_all(no, palette, lab, indices, journal, state)
-}
-
-fn wide(x: usize) -> u64 {
-    x as u64
+    exports::call_redo(w, h, palette, lab, indices, journal, &mut scratch, state)
 }
 
 // Two changes, or an edit of the palette beside them, replayed.
 fn replay(
-    d: &[u64; 32],
+    a: Hand,
     w: usize,
     h: usize,
     palette: &mut [u8],
     lab: &mut [f64],
     indices: &mut [i16],
     state: &mut [usize; 6],
-) -> Told {
+) -> u8 {
     let mut list = [0u64; 2];
     let mut scratch = [0u8; 6];
     let doubles = [0.0f64; 3];
-    let bytes = edit(d, kind(d[9]));
-    let colours = permitted(d);
-    fill_list(d[22], &mut list);
-    let no = exports::call_replay(
+    let bytes = edit(a);
+    let permitted = colours(a.listed);
+    fill_list(a.seed, &mut list);
+    exports::call_replay(
         w,
         h,
         palette,
         lab,
         indices,
-        once_in(d[28], 4),
-        &colours,
+        a.limited,
+        &permitted,
         &bytes,
-        pick(d[20], 4),
+        a.from,
         &doubles,
         &list,
         &mut scratch,
         state,
-    );
-    told(
-        no,
-        mix_sheet(mix(mix_number(no), wide(state[0])), palette, lab, indices),
     )
 }
 
 // What is asked of the journal and the handle.
-fn asked(c: usize, journal: &[u8], state: &[usize; 6]) -> Told {
+fn asked(c: usize, journal: &[u8], state: &[usize; 6]) -> Outcome {
     let mut r = [7777usize; 5];
     let no = match c {
         49 => exports::call_is_dirty(journal, state, &mut r),
@@ -248,41 +195,37 @@ fn asked(c: usize, journal: &[u8], state: &[usize; 6]) -> Told {
     told(no, mix_answer(no, &r))
 }
 
-fn shown(c: usize, d: &[u64; 32], journal: &[u8], state: &[usize; 6]) -> Told {
+fn shown(c: usize, a: Hand, journal: &[u8], state: &[usize; 6]) -> Outcome {
     let mut r = [7777usize; 5];
     let mut bytes = [0x5au8; 8];
     let mut doubles = [1.5f64; 3];
-    let at = if once_in(d[20], 2) {
-        0
-    } else {
-        pick(d[21], 60)
-    };
     let no = match c {
         52 => exports::call_next_undo(journal, state, &mut bytes, &mut doubles, &mut r),
         53 => exports::call_next_redo(journal, state, &mut bytes, &mut doubles, &mut r),
-        _ => exports::call_applied(journal, state, at, &mut bytes, &mut doubles, &mut r),
+        _ => exports::call_applied(journal, state, a.at, &mut bytes, &mut doubles, &mut r),
     };
     told(no, mix_edit(mix_answer(no, &r), &bytes, &doubles))
 }
 
-fn mark_saved(journal: &[u8], state: &mut [usize; 6]) -> Told {
+fn mark_saved(journal: &[u8], state: &mut [usize; 6]) -> Outcome {
     let no = exports::call_mark_saved(journal, state);
     told_state(no, state)
 }
 
 // Changes a byte of the journal, now and then.
-fn damage(d: &[u64; 32], journal: &mut [u8]) {
-    let at = pick(d[30], 120);
-    if once_in(d[29], 40) {
+fn damage(a: Hand, journal: &mut [u8]) {
+    let at = a.place;
+    if a.hit {
         if at < journal.len() {
-            journal[at] = byte(d[31]);
+            journal[at] = a.byte;
         }
     }
 }
 
-pub(crate) fn step(
+// A call that may change the sheet: a push, an undo, a redo or a replay.
+fn change(
     c: usize,
-    d: &[u64; 32],
+    a: Hand,
     w: usize,
     h: usize,
     palette: &mut [u8],
@@ -290,15 +233,41 @@ pub(crate) fn step(
     indices: &mut [i16],
     journal: &mut [u8],
     state: &mut [usize; 6],
-) -> Told {
-    damage(d, journal);
+) -> u8 {
     match c {
-        45 => push(d, w, h, palette, lab, indices, journal, state),
-        46 => undo(w, h, palette, lab, indices, journal, state),
+        45 => push(a, w, h, palette, lab, indices, journal, state),
+        46 => exports::call_undo(w, h, palette, lab, indices, journal, state),
         47 => redo(w, h, palette, lab, indices, journal, state),
+        _ => replay(a, w, h, palette, lab, indices, state),
+    }
+}
+
+// A call that looks at the journal and the handle.
+fn look(c: usize, a: Hand, journal: &[u8], state: &mut [usize; 6]) -> Outcome {
+    match c {
         48 => mark_saved(journal, state),
         49..=51 => asked(c, journal, state),
-        52..=54 => shown(c, d, journal, state),
-        _ => replay(d, w, h, palette, lab, indices, state),
+        _ => shown(c, a, journal, state),
     }
+}
+
+pub(crate) fn step(
+    c: usize,
+    a: Hand,
+    w: usize,
+    h: usize,
+    palette: &mut [u8],
+    lab: &mut [f64],
+    indices: &mut [i16],
+    journal: &mut [u8],
+    state: &mut [usize; 6],
+) -> Outcome {
+    damage(a, journal);
+    if 47 < c {
+        if c < 55 {
+            return look(c, a, journal, state);
+        }
+    }
+    let no = change(c, a, w, h, palette, lab, indices, journal, state);
+    told_all(no, palette, lab, indices, journal, state)
 }

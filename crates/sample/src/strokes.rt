@@ -1,43 +1,34 @@
 // The drawing tools.
-use deals::Told;
-use deals::coordinate;
+use deals::Hand;
+use deals::Outcome;
 use deals::fill_bytes;
 use deals::fill_indices;
-use deals::fill_points;
-use deals::height;
-use deals::index;
 use deals::mix_answer;
 use deals::mix_bytes;
 use deals::mix_indices;
 use deals::mix_part;
 use deals::mix_words;
-use deals::near;
-use deals::once_in;
-use deals::pick;
-use deals::selection;
-use deals::width;
+use deals::told;
 
-fn told(no: u8, print: u64) -> Told {
-    Told { number: no, print }
+// Two points, the first perhaps far.
+fn path(a: Hand) -> [i32; 4] {
+    [a.x, a.y, a.to_x, a.to_y]
 }
 
 fn pencil(
-    d: &[u64; 32],
+    a: Hand,
     w: usize,
     h: usize,
     k: usize,
     palette: &[u8],
     lab: &[f64],
     indices: &[i16],
-) -> Told {
+) -> Outcome {
     let mut r = [7777usize; 5];
     let mut scratch = [0u64; 6];
     let mut out = [0x5a5a_5a5a_5a5a_5a5au64; 4];
-    let mut points = [0i32; 4];
-    fill_points(d[25], &mut points);
-    let start = coordinate(d[19]);
-    points[0] = start;
-    let s = selection(d);
+    let points = path(a);
+    let s = a.s;
     let no = exports::call_pencil(
         w,
         h,
@@ -45,11 +36,11 @@ fn pencil(
         palette,
         lab,
         indices,
-        once_in(d[14], 3),
+        a.whole,
         &s,
         &points,
-        pick(d[24], 5),
-        index(d[23]),
+        a.size,
+        a.index,
         &mut scratch,
         &mut out,
         &mut r,
@@ -58,22 +49,19 @@ fn pencil(
 }
 
 fn eraser(
-    d: &[u64; 32],
+    a: Hand,
     w: usize,
     h: usize,
     k: usize,
     palette: &[u8],
     lab: &[f64],
     indices: &[i16],
-) -> Told {
+) -> Outcome {
     let mut r = [7777usize; 5];
     let mut scratch = [0u64; 6];
     let mut out = [0x5a5a_5a5a_5a5a_5a5au64; 4];
-    let mut points = [0i32; 4];
-    fill_points(d[25], &mut points);
-    let start = coordinate(d[19]);
-    points[0] = start;
-    let s = selection(d);
+    let points = path(a);
+    let s = a.s;
     let no = exports::call_eraser(
         w,
         h,
@@ -81,10 +69,10 @@ fn eraser(
         palette,
         lab,
         indices,
-        once_in(d[14], 3),
+        a.whole,
         &s,
         &points,
-        pick(d[24], 5),
+        a.size,
         &mut scratch,
         &mut out,
         &mut r,
@@ -93,18 +81,18 @@ fn eraser(
 }
 
 fn line(
-    d: &[u64; 32],
+    a: Hand,
     w: usize,
     h: usize,
     k: usize,
     palette: &[u8],
     lab: &[f64],
     indices: &[i16],
-) -> Told {
+) -> Outcome {
     let mut r = [7777usize; 5];
     let mut scratch = [0u64; 6];
     let mut out = [0x5a5a_5a5a_5a5a_5a5au64; 4];
-    let s = selection(d);
+    let s = a.s;
     let no = exports::call_line(
         w,
         h,
@@ -112,14 +100,14 @@ fn line(
         palette,
         lab,
         indices,
-        once_in(d[14], 3),
+        a.whole,
         &s,
-        coordinate(d[19]),
-        near(d[20]),
-        near(d[21]),
-        coordinate(d[22]),
-        pick(d[24], 5),
-        index(d[23]),
+        a.x,
+        a.y,
+        a.to_x,
+        a.far_to_y,
+        a.size,
+        a.index,
         &mut scratch,
         &mut out,
         &mut r,
@@ -128,18 +116,18 @@ fn line(
 }
 
 fn rectangle(
-    d: &[u64; 32],
+    a: Hand,
     w: usize,
     h: usize,
     k: usize,
     palette: &[u8],
     lab: &[f64],
     indices: &[i16],
-) -> Told {
+) -> Outcome {
     let mut r = [7777usize; 5];
     let mut scratch = [0u64; 6];
     let mut out = [0x5a5a_5a5a_5a5a_5a5au64; 4];
-    let s = selection(d);
+    let s = a.s;
     let no = exports::call_rectangle(
         w,
         h,
@@ -147,14 +135,14 @@ fn rectangle(
         palette,
         lab,
         indices,
-        once_in(d[14], 3),
+        a.whole,
         &s,
-        coordinate(d[19]),
-        near(d[20]),
-        near(d[21]),
-        near(d[22]),
-        once_in(d[26], 2),
-        index(d[23]),
+        a.x,
+        a.y,
+        a.to_x,
+        a.to_y,
+        a.even,
+        a.index,
         &mut scratch,
         &mut out,
         &mut r,
@@ -163,18 +151,18 @@ fn rectangle(
 }
 
 fn flood_fill(
-    d: &[u64; 32],
+    a: Hand,
     w: usize,
     h: usize,
     k: usize,
     palette: &[u8],
     lab: &[f64],
     indices: &[i16],
-) -> Told {
+) -> Outcome {
     let mut r = [7777usize; 5];
     let mut scratch = [0u64; 6];
     let mut out = [0x5a5a_5a5a_5a5a_5a5au64; 4];
-    let s = selection(d);
+    let s = a.s;
     let no = exports::call_flood_fill(
         w,
         h,
@@ -182,11 +170,11 @@ fn flood_fill(
         palette,
         lab,
         indices,
-        once_in(d[14], 3),
+        a.whole,
         &s,
-        coordinate(d[19]),
-        near(d[20]),
-        index(d[23]),
+        a.x,
+        a.y,
+        a.index,
         &mut scratch,
         &mut out,
         &mut r,
@@ -195,17 +183,17 @@ fn flood_fill(
 }
 
 fn replace_color(
-    d: &[u64; 32],
+    a: Hand,
     w: usize,
     h: usize,
     k: usize,
     palette: &[u8],
     lab: &[f64],
     indices: &[i16],
-) -> Told {
+) -> Outcome {
     let mut r = [7777usize; 5];
     let mut out = [0x5a5a_5a5a_5a5a_5a5au64; 4];
-    let s = selection(d);
+    let s = a.s;
     let no = exports::call_replace_color(
         w,
         h,
@@ -213,10 +201,10 @@ fn replace_color(
         palette,
         lab,
         indices,
-        once_in(d[14], 3),
+        a.whole,
         &s,
-        index(d[31]),
-        index(d[23]),
+        a.other,
+        a.index,
         &mut out,
         &mut r,
     );
@@ -224,17 +212,17 @@ fn replace_color(
 }
 
 fn fill_global(
-    d: &[u64; 32],
+    a: Hand,
     w: usize,
     h: usize,
     k: usize,
     palette: &[u8],
     lab: &[f64],
     indices: &[i16],
-) -> Told {
+) -> Outcome {
     let mut r = [7777usize; 5];
     let mut out = [0x5a5a_5a5a_5a5a_5a5au64; 4];
-    let s = selection(d);
+    let s = a.s;
     let no = exports::call_fill_global(
         w,
         h,
@@ -242,11 +230,11 @@ fn fill_global(
         palette,
         lab,
         indices,
-        once_in(d[14], 3),
+        a.whole,
         &s,
-        coordinate(d[19]),
-        near(d[20]),
-        index(d[23]),
+        a.x,
+        a.y,
+        a.index,
         &mut out,
         &mut r,
     );
@@ -254,19 +242,19 @@ fn fill_global(
 }
 
 fn move_selection(
-    d: &[u64; 32],
+    a: Hand,
     w: usize,
     h: usize,
     k: usize,
     palette: &[u8],
     lab: &[f64],
     indices: &[i16],
-) -> Told {
+) -> Outcome {
     let mut r = [7777usize; 5];
     let mut scratch = [0u64; 6];
     let mut out = [0x5a5a_5a5a_5a5a_5a5au64; 4];
     let mut moved = [7777u16; 4];
-    let s = selection(d);
+    let s = a.s;
     let no = exports::call_move_selection(
         w,
         h,
@@ -275,8 +263,8 @@ fn move_selection(
         lab,
         indices,
         &s,
-        coordinate(d[19]),
-        near(d[20]),
+        a.x,
+        a.y,
         &mut scratch,
         &mut out,
         &mut moved,
@@ -286,20 +274,20 @@ fn move_selection(
 }
 
 fn paste(
-    d: &[u64; 32],
+    a: Hand,
     w: usize,
     h: usize,
     k: usize,
     palette: &[u8],
     lab: &[f64],
     indices: &[i16],
-) -> Told {
+) -> Outcome {
     let mut r = [7777usize; 5];
     let mut scratch = [0u64; 6];
     let mut out = [0x5a5a_5a5a_5a5a_5a5au64; 4];
     let mut placed = [7777u16; 4];
     let mut clip = [0i16; 6];
-    fill_indices(d[25], 3, &mut clip);
+    fill_indices(a.seed, 3, &mut clip);
     let no = exports::call_paste(
         w,
         h,
@@ -307,11 +295,11 @@ fn paste(
         palette,
         lab,
         indices,
-        width(d[21]),
-        height(d[21]),
+        a.w,
+        a.h,
         &clip,
-        coordinate(d[19]),
-        near(d[20]),
+        a.x,
+        a.y,
         &mut scratch,
         &mut out,
         &mut placed,
@@ -321,17 +309,17 @@ fn paste(
 }
 
 fn copy(
-    d: &[u64; 32],
+    a: Hand,
     w: usize,
     h: usize,
     k: usize,
     palette: &[u8],
     lab: &[f64],
     indices: &[i16],
-) -> Told {
+) -> Outcome {
     let mut r = [7777usize; 5];
     let mut out = [0x5a5ai16; 5];
-    let s = selection(d);
+    let s = a.s;
     let no = exports::call_copy(
         w,
         h,
@@ -339,7 +327,7 @@ fn copy(
         palette,
         lab,
         indices,
-        once_in(d[14], 3),
+        a.whole,
         &s,
         &mut out,
         &mut r,
@@ -348,18 +336,18 @@ fn copy(
 }
 
 fn clip_rgba(
-    d: &[u64; 32],
+    a: Hand,
     w: usize,
     h: usize,
     k: usize,
     palette: &[u8],
     lab: &[f64],
     indices: &[i16],
-) -> Told {
+) -> Outcome {
     let mut r = [7777usize; 5];
     let mut out = [0x5au8; 25];
     let mut clip = [0i16; 6];
-    fill_indices(d[25], 3, &mut clip);
+    fill_indices(a.seed, 3, &mut clip);
     let no = exports::call_clip_rgba(
         w,
         h,
@@ -367,8 +355,8 @@ fn clip_rgba(
         palette,
         lab,
         indices,
-        width(d[21]),
-        height(d[21]),
+        a.w,
+        a.h,
         &clip,
         &mut out,
         &mut r,
@@ -377,18 +365,18 @@ fn clip_rgba(
 }
 
 fn snap_rgba(
-    d: &[u64; 32],
+    a: Hand,
     w: usize,
     h: usize,
     k: usize,
     palette: &[u8],
     lab: &[f64],
     indices: &[i16],
-) -> Told {
+) -> Outcome {
     let mut r = [7777usize; 5];
     let mut out = [0x5a5ai16; 5];
     let mut rgba = [0u8; 25];
-    fill_bytes(d[25], &mut rgba);
+    fill_bytes(a.seed, &mut rgba);
     let no = exports::call_snap_rgba(
         w,
         h,
@@ -397,8 +385,8 @@ fn snap_rgba(
         lab,
         indices,
         &rgba,
-        width(d[21]),
-        height(d[21]),
+        a.w,
+        a.h,
         &mut out,
         &mut r,
     );
@@ -407,26 +395,26 @@ fn snap_rgba(
 
 pub(crate) fn answer(
     c: usize,
-    d: &[u64; 32],
+    a: Hand,
     w: usize,
     h: usize,
     k: usize,
     palette: &[u8],
     lab: &[f64],
     indices: &[i16],
-) -> Told {
+) -> Outcome {
     match c {
-        8 => pencil(d, w, h, k, palette, lab, indices),
-        9 => eraser(d, w, h, k, palette, lab, indices),
-        10 => line(d, w, h, k, palette, lab, indices),
-        11 => rectangle(d, w, h, k, palette, lab, indices),
-        12 => flood_fill(d, w, h, k, palette, lab, indices),
-        13 => replace_color(d, w, h, k, palette, lab, indices),
-        14 => fill_global(d, w, h, k, palette, lab, indices),
-        15 => move_selection(d, w, h, k, palette, lab, indices),
-        16 => paste(d, w, h, k, palette, lab, indices),
-        17 => copy(d, w, h, k, palette, lab, indices),
-        18 => clip_rgba(d, w, h, k, palette, lab, indices),
-        _ => snap_rgba(d, w, h, k, palette, lab, indices),
+        8 => pencil(a, w, h, k, palette, lab, indices),
+        9 => eraser(a, w, h, k, palette, lab, indices),
+        10 => line(a, w, h, k, palette, lab, indices),
+        11 => rectangle(a, w, h, k, palette, lab, indices),
+        12 => flood_fill(a, w, h, k, palette, lab, indices),
+        13 => replace_color(a, w, h, k, palette, lab, indices),
+        14 => fill_global(a, w, h, k, palette, lab, indices),
+        15 => move_selection(a, w, h, k, palette, lab, indices),
+        16 => paste(a, w, h, k, palette, lab, indices),
+        17 => copy(a, w, h, k, palette, lab, indices),
+        18 => clip_rgba(a, w, h, k, palette, lab, indices),
+        _ => snap_rgba(a, w, h, k, palette, lab, indices),
     }
 }

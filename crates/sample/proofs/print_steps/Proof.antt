@@ -18,8 +18,23 @@ loop-holds c = search needs
 wrapping-add-u64-requires : tie.Need-wrapping-add-u64-requires Inv-loop μ-loop
 wrapping-add-u64-requires c κs = search needs
 
-print-step-requires : tie.Need-print-step-requires Inv-loop μ-loop
-print-step-requires c κs = search needs
+deck-requires : tie.Need-deck-requires Inv-loop μ-loop
+deck-requires c κs = search needs
+
+array-read-call-of : tie.Need-array-read-call-of Inv-loop μ-loop
+array-read-call-of c = search needs
+
+call-of-requires : tie.Need-call-of-requires Inv-loop μ-loop
+call-of-requires c κs = search needs
+
+deal-requires : tie.Need-deal-requires Inv-loop μ-loop
+deal-requires c κs = search needs
+
+step-requires : tie.Need-step-requires Inv-loop μ-loop
+step-requires c κs = search needs
+
+print-line-requires : tie.Need-print-line-requires Inv-loop μ-loop
+print-line-requires c κs = search needs
 
 add-i : tie.Need-add-i Inv-loop μ-loop
 add-i c = search needs
@@ -53,7 +68,12 @@ print-steps-spec =
     μ-loop
     loop-holds
     wrapping-add-u64-requires
-    print-step-requires
+    deck-requires
+    array-read-call-of
+    call-of-requires
+    deal-requires
+    step-requires
+    print-line-requires
     add-i
     loop-less
     loop-again

@@ -18,8 +18,8 @@ loop-holds c = search needs
 next-requires : tie.Need-next-requires Inv-loop μ-loop
 next-requires c κs = search needs
 
-add-pick : tie.Need-add-pick Inv-loop μ-loop
-add-pick c = search needs
+values-requires : tie.Need-values-requires Inv-loop μ-loop
+values-requires c κs = search needs
 
 pick-requires : tie.Need-pick-requires Inv-loop μ-loop
 pick-requires c κs = search needs
@@ -56,7 +56,7 @@ fill-indices-spec =
     μ-loop
     loop-holds
     next-requires
-    add-pick
+    values-requires
     pick-requires
     before-requires
     mul-t10
