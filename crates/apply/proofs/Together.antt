@@ -12,7 +12,7 @@ use Rattle.cielab.specs.Convert.{labOf}
 use Rattle.edits.specs.declared.Edit.{Edit}
 use Rattle.edits.specs.declared.Edit.the-variants.{Pixels, PaletteSet, PaletteAdd, PaletteRemove}
 use Rattle.edits.specs.Change.{Change, painted}
-use Rattle.edits.specs.Checks.{Permitted, pixelChecks, remapChecks, ownChecks}
+use Rattle.edits.specs.Checks.{Permitted, ownChecks}
 use Rattle.edits.specs.Apply.{withIndices, redone}
 use Rattle.apply.specs.Apart.{headChecks, changeChecks, leftChecks, paintedBy}
 

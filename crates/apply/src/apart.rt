@@ -24,7 +24,7 @@ ghost use lib.ListN.{length};
 ghost use Rattle.limits.specs.Checks.{firstOf};
 ghost use Rattle.limits.specs.declared.Lab.{Lab};
 ghost use Rattle.cielab.specs.Convert.{labOf};
-ghost use Rattle.sheet.specs.Sheet.{Sheet, sheetOf};
+ghost use Rattle.sheet.specs.Sheet.{sheetOf};
 ghost use Rattle.edits.specs.declared.Edit.the-variants.{PaletteRemove};
 ghost use Rattle.edits.specs.Change.{Change};
 ghost use Rattle.edits.specs.Checks.{Permitted, permittedOf};

@@ -12,7 +12,7 @@ use Rattle.limits.proofs.First.{past}
 use Rattle.sheet.specs.Sheet.{Sheet}
 use Rattle.edits.specs.declared.Edit.{Edit}
 use Rattle.edits.specs.declared.Edit.the-variants.{Pixels, PaletteSet, PaletteAdd, PaletteRemove}
-use Rattle.edits.specs.Change.{Change, unpacked, place}
+use Rattle.edits.specs.Change.{Change, place}
 use Rattle.edits.specs.Checks.{pixelChecks, remapChecks}
 use Rattle.apply.specs.Apart.{changeChecks, Markable}
 use Rattle.pixels.proofs.Inside.{inside}

@@ -21,7 +21,7 @@ use Rattle.records.specs.Bytes.{splice}
 use Rattle.records.specs.Fit.{rowsOf}
 use Rattle.records.specs.Record.{changeBytes, recordLength, recordOf}
 use Rattle.records.specs.Frame.{within, around}
-use Rattle.records.proofs.Changes.{length-change, length-changes}
+use Rattle.records.proofs.Changes.{length-changes}
 use Rattle.records.proofs.Splice.{splice-none, splice-then}
 use Rattle.records.proofs.Framing.{around-within}
 use Rattle.structs.specs.declared.Change.{Change}

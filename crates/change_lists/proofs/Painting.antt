@@ -10,7 +10,7 @@ use Rattle.edits.specs.declared.Edit.{Edit}
 use Rattle.edits.specs.declared.Edit.the-variants.{Pixels, PaletteSet, PaletteAdd, PaletteRemove}
 use Rattle.edits.specs.Change.{Change, place, newOf}
 use Rattle.structs.specs.declared.Change as structs
-use Rattle.change_lists.specs.Walk.{told, toldAll, none, whenNone, paintOne, Paintable, AllPaintable}
+use Rattle.change_lists.specs.Walk.{told, toldAll, none, paintOne, Paintable, AllPaintable}
 use Rattle.change_lists.proofs.Checking.{kept}
 use Rattle.change_lists.proofs.Told.{told-inside}
 

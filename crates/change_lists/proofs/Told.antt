@@ -1,7 +1,7 @@
 -- The changes that the core reads of a list of structs, one by one. Assumes nothing.
 use mathlib.Core.Path.{_≡_, refl}
 use mathlib.Core.Bool.{false}
-use mathlib.Core.List.{List, [], _∷_, map}
+use mathlib.Core.List.{List, [], _∷_}
 use Prim.Native.Nat.{ℕ, zero, suc, _<_}
 use native.Mathlib.Nat.{le-of-suc-le-suc, not-suc-le-zero}
 use borrow.Author.Tests.{leb-false}
@@ -9,7 +9,7 @@ use lib.ListN.{length, getD, length-map}
 use Rattle.lists.specs.Lists.{some}
 use Rattle.lists.proofs.Scan.{some-none}
 use Rattle.edits.specs.Change as flat
-use Rattle.edits.specs.Change.{unpacked, place}
+use Rattle.edits.specs.Change.{place}
 use Rattle.pixels.specs.Inside.{past}
 use Rattle.structs.specs.declared.Change.{Change}
 use Rattle.structs.specs.Struct.{packedOf}

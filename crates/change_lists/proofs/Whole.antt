@@ -2,7 +2,7 @@
 -- its bytes in the record. Assumes nothing.
 use mathlib.Core.Path.{_≡_, refl, sym, ap, _∙_}
 use mathlib.Core.Bool.{Bool}
-use mathlib.Core.List.{List, [], _∷_, _++_, map, flatMap}
+use mathlib.Core.List.{List, [], _∷_, _++_, flatMap}
 use Prim.Native.Nat.{ℕ, zero, suc, _+_, _*_, _<_, _≤_}
 use native.Mathlib.Numerals.{add-one}
 use native.Mathlib.Omega.{arith}
@@ -18,14 +18,12 @@ use Rattle.sheet.specs.Sheet.{Sheet}
 use Rattle.edits.specs.declared.Edit.{Edit}
 use Rattle.edits.specs.declared.Edit.the-variants.{Pixels, PaletteSet, PaletteAdd, PaletteRemove}
 use Rattle.edits.specs.Change as flat
-use Rattle.edits.specs.Change.{unpacked, place, painted, newOf, filledIn}
-use Rattle.edits.specs.Checks.{remapChecks}
+use Rattle.edits.specs.Change.{unpacked, place, painted, newOf}
 use Rattle.apply.specs.Apart.{changeChecks, ClearFor, MarksFor, paintedBy}
 use Rattle.apply.proofs.Together.{or-assoc, or-none}
 use Rattle.apply.proofs.Marking.{Marking, marking-none, marking-next, marking-all}
 use Rattle.structs.specs.declared.Change.{Change}
-use Rattle.structs.specs.Struct.{packedOf}
-use Rattle.change_lists.specs.Walk.{told, packedAll, toldAll, none, whenNone, checkUpto, markOne, markUpto, paintOne, paintUpto, putOne, putUpto}
+use Rattle.change_lists.specs.Walk.{told, packedAll, toldAll, none, checkUpto, markOne, markUpto, paintOne, paintUpto}
 use Rattle.change_lists.proofs.Checking.{move-inside, or-zero}
 use Rattle.change_lists.proofs.Told.{told-length, told-at, packed-at}
 

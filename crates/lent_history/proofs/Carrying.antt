@@ -2,14 +2,13 @@
 -- Assumes nothing.
 use mathlib.Core.Path.{_≡_, refl, sym, ap, _∙_}
 use mathlib.Core.Bool.{Bool, true, false}
-use mathlib.Core.List.{List, [], _∷_, _++_, map}
-use Prim.Native.Nat.{ℕ, zero, suc, _+_, _*_, _<_, _≤_}
+use mathlib.Core.List.{List, [], _∷_, _++_}
+use Prim.Native.Nat.{ℕ, zero, suc, _+_, _≤_}
 use native.Mathlib.Omega.{arith}
 use lib.IntN.{ℤ}
 use lib.Ieee.{Float}
 use lib.ListN.{length, take, drop, length-map}
 use lib.Seq.{drop-drop}
-use Rattle.limits.specs.Limits.{maxChanges, maxJournal}
 use Rattle.limits.specs.Checks.{refusedOr}
 use Rattle.lists.specs.Lists.{some, over}
 use Rattle.ints.proofs.Back.{never}
@@ -19,10 +18,10 @@ use Rattle.edits.specs.declared.Edit.{Edit}
 use Rattle.edits.specs.declared.Edit.the-variants.{Pixels, PaletteSet, PaletteAdd, PaletteRemove}
 use Rattle.edits.specs.Change as flat
 use Rattle.edits.specs.Apply.{noPixels, filledEdit, filledChanges, redone}
-use Rattle.apply.specs.Redoable.{EntryIn, Redoable}
+use Rattle.apply.specs.Redoable.{Redoable}
 use Rattle.apply.proofs.Redoing.{pixels-fit, entry-in}
 use Rattle.apply.proofs.Together.{done-apart}
-use Rattle.records.specs.Fit.{Writable, rowsOf}
+use Rattle.records.specs.Fit.{Writable}
 use Rattle.records.specs.Record.{recordLength, recordOf}
 use Rattle.records.specs.Frame.{within, around, Framed}
 use Rattle.records.proofs.OnTheSheet.{rows-fill}
@@ -34,7 +33,7 @@ use Rattle.change_lists.proofs.Whole.{painted-all}
 use Rattle.change_lists.proofs.Journaled.{put-all, whole-record}
 use Rattle.ledger.specs.declared.Handle.{Handle}
 use Rattle.ledger.specs.Handle.{afterPush}
-use Rattle.ledger.specs.Calls.{refused, still, done}
+use Rattle.ledger.specs.Calls.{done}
 use Rattle.ledger.specs.Journal.{State, written, pushed}
 use Rattle.ledger.proofs.Soundness.{sound-facts}
 use Rattle.editing.specs.Editing.{Given, givenOf, editing}

@@ -1,16 +1,15 @@
 -- The steps of `push` over a list of structs, put together: its number. Assumes nothing.
 use mathlib.Core.Path.{_≡_, refl, sym, ap, _∙_}
 use mathlib.Core.Bool.{Bool, true, false, cond}
-use mathlib.Core.List.{List, [], _∷_, map, flatMap}
+use mathlib.Core.List.{List, [], _∷_, flatMap}
 use Prim.Native.Nat.{ℕ, zero, suc, _+_, _*_, _^_, _<_, _≤_}
 use native.Mathlib.Omega.{arith}
 use borrow.Author.Tests.{eqb-true, ltb-true, ltb-false}
-use lib.Dec.{ltb, eqb}
+use lib.Dec.{ltb}
 use lib.IntN.{ℤ, pos}
 use lib.Ieee.{Float}
 use lib.ListN.{length, replicate, length-replicate}
 use Rattle.limits.specs.Limits.{maxChanges, maxJournal}
-use Rattle.limits.specs.Numbers.{journalFull}
 use Rattle.limits.specs.Checks.{orElse, firstOf, refusedOr}
 use Rattle.ints.proofs.Back.{never}
 use Rattle.sheet.specs.Sheet.{Sheet, sheetOf}
@@ -20,8 +19,8 @@ use Rattle.edits.specs.Change as flat
 use Rattle.edits.specs.Checks.{permittedOf, ownChecks}
 use Rattle.edits.specs.Apply.{noPixels}
 use Rattle.pixels.specs.Inside.{bare}
-use Rattle.apply.specs.Apart.{headChecks, changeChecks, leftChecks, Markable, MarksFor}
-use Rattle.apply.proofs.Together.{or-assoc, or-none}
+use Rattle.apply.specs.Apart.{changeChecks, leftChecks, Markable, MarksFor}
+use Rattle.apply.proofs.Together.{or-assoc}
 use Rattle.records.specs.Record.{recordLength}
 use Rattle.structs.specs.declared.Change.{Change}
 use Rattle.change_lists.specs.Walk.{packedAll, toldAll, checkUpto, markUpto, Checkable}
@@ -33,7 +32,7 @@ use Rattle.ledger.specs.Calls.{refused, still, done}
 use Rattle.ledger.specs.Journal.{State, entryChecks, pushChecks, pushOf, pushed}
 use Rattle.ledger.proofs.Soundness.{sound-facts}
 use Rattle.editing.specs.Editing.{Given, givenOf, editing}
-use Rattle.editing.specs.Calls.{stateOf, Standing, Acceptable}
+use Rattle.editing.specs.Calls.{stateOf, Standing}
 use Rattle.editing.proofs.PushChecks.{pushes-own, pushes-full, pushes-fine}
 use Rattle.lent_history.specs.Phases.{pushNumber, pushedOr, Readied, Begun, Numbered, nonePut, fullNumber}
 use Rattle.lent_history.proofs.Replaying.{first-kept, head-markable, list-decides, bare-each, bare-left}

@@ -1,38 +1,36 @@
 -- The steps of `replay` over a list of structs, put together: the number is that of the first check, and the edit is done as the core does it. Assumes nothing.
 use mathlib.Core.Path.{_≡_, refl, sym, ap, _∙_}
-use mathlib.Core.Bool.{Bool, true, false}
-use mathlib.Core.List.{List, [], _∷_, flatMap}
-use Prim.Native.Nat.{ℕ, zero, suc, _+_, _*_, _<_, _≤_}
+use mathlib.Core.Bool.{Bool, true}
+use mathlib.Core.List.{List, [], flatMap}
+use Prim.Native.Nat.{ℕ, zero, suc, _*_, _≤_}
 use native.Mathlib.Omega.{arith}
 use borrow.Author.Tests.{leb-false}
-use lib.Dec.{leb}
 use lib.IntN.{ℤ}
 use lib.Ieee.{Float}
 use lib.ListN.{length}
-use Rattle.limits.specs.Checks.{Check, _when_, orElse, firstOf, refusedOr}
+use Rattle.limits.specs.Checks.{orElse, firstOf, refusedOr}
 use Rattle.limits.proofs.First.{past}
 use Rattle.cielab.specs.Convert.{labOf}
 use Rattle.sheet.specs.Sheet.{Sheet, sheetOf}
-use Rattle.sheet.specs.Checks.{WellFormed, Limits}
+use Rattle.sheet.specs.Checks.{Limits}
 use Rattle.edits.specs.declared.Edit.{Edit}
 use Rattle.edits.specs.declared.Edit.the-variants.{Pixels, PaletteSet, PaletteAdd, PaletteRemove}
 use Rattle.edits.specs.Change as flat
-use Rattle.edits.specs.Change.{outside}
 use Rattle.edits.specs.Checks.{Permitted, pixelChecks, misdirected, remapChecks, ownChecks}
-use Rattle.edits.specs.Apply.{withIndices, redone}
+use Rattle.edits.specs.Apply.{redone}
 use Rattle.pixels.specs.Inside.{bare}
-use Rattle.apply.specs.Apart.{headChecks, changeChecks, leftChecks, Markable, ClearFor, MarksFor, Finishable, paintedBy}
+use Rattle.apply.specs.Apart.{headChecks, changeChecks, leftChecks, Markable, MarksFor, Finishable}
 use Rattle.apply.specs.Redoable.{Redoable}
 use Rattle.apply.proofs.Redoing.{pixels-fit, set-fits, add-fits, remove-fits}
 use Rattle.apply.proofs.Together.{or-assoc, own-apart, done-apart}
 use Rattle.structs.specs.declared.Change.{Change}
-use Rattle.change_lists.specs.Walk.{toldAll, checkUpto, markUpto, paintOne, paintUpto, Checkable, AllPaintable}
+use Rattle.change_lists.specs.Walk.{toldAll, checkUpto, markUpto, paintUpto, Checkable, AllPaintable}
 use Rattle.change_lists.proofs.Checking.{first-zero}
 use Rattle.change_lists.proofs.Painting.{refused-unpainted}
 use Rattle.change_lists.proofs.Whole.{checked-all, marked-all, painted-all}
 use Rattle.ledger.specs.Calls.{refused, done}
 use Rattle.editing.specs.Replay.{replayChecks, replayOf}
-use Rattle.lent_history.specs.Phases.{Ready, Opened, doneOr}
+use Rattle.lent_history.specs.Phases.{Opened, doneOr}
 
 -- ---- a number other than 0 stands
 pub first-kept : (n m : ℕ) → (n ≡ 0 → ⊥) → orElse n m ≡ n

@@ -1,5 +1,7 @@
-// The history's calls as makers hold them: the handle and the palette count are lent. Each is thin over the call
-// of the same name that takes and returns them by value, and its contract is that call's own equation.
+// The history's calls as makers hold them: the handle and the palette count are lent, and a list of changes is a
+// slice of structs, read where it lies. The contract of each is the equation of the call of the same name that takes
+// them by value: `undo`, `redo` and `mark_saved` are thin over that call; `push` and `replay` go through their list
+// by themselves, with the steps before and after it beside.
 mod moving;
 mod op;
 mod pushing;

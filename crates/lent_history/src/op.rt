@@ -15,7 +15,7 @@ use sheet::check;
 use sheet::permitted_no;
 use structs::Change;
 ghost use mathlib.Core.Path.{_≡_};
-ghost use mathlib.Core.List.{List, [], map};
+ghost use mathlib.Core.List.{List, []};
 ghost use Prim.Native.Nat.{ℕ, _*_};
 ghost use lib.ListN.{length};
 ghost use Rattle.limits.specs.Checks.{orElse, firstOf};

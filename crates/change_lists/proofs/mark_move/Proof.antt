@@ -1,5 +1,5 @@
 -- `mark_move`: a change that is not refused stands in the picture, so that it has a mark. Assumes nothing.
-use mathlib.Core.Path.{_≡_, sym, _∙_}
+use mathlib.Core.Path.{sym, _∙_}
 use Prim.Native.Nat.{_<_}
 use native.Mathlib.Omega.{arith}
 use lib.ListN.{length}

@@ -1,5 +1,5 @@
 -- `finish`: refused, still, or recorded and done. Assumes nothing.
-use mathlib.Core.Path.{sym, ap, _∙_}
+use mathlib.Core.Path.{sym, _∙_}
 use mathlib.Core.List.{[]}
 use native.Mathlib.Omega.{arith}
 use Rattle.editing.proofs.Answers.{leaves-refused, leaves-still}

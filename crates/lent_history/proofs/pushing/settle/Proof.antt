@@ -1,5 +1,5 @@
 -- `settle`: the number so far and 13, then 14. Assumes nothing.
-use mathlib.Core.Path.{sym, ap, _∙_}
+use mathlib.Core.Path.{sym}
 use borrow.Author.Tests.{lt-ltb, le-ltb}
 use Rattle.lent_history.proofs.Replaying.{first-kept}
 use Rattle.lent_history.proofs.PushSteps.{empty-is, end-small}
