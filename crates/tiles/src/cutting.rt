@@ -129,6 +129,7 @@ pub fn extract(
     scratch: &mut [u64],
 ) -> Extraction
     ensures { λ r. ⌜ left r (now (tiles .exit)) (now (map .exit)) ≡ extractCall (sheetOf w h k (now (palette .entry)) (now (lab .entry)) (now (indices .entry))) t (length (now (scratch .entry))) (now (tiles .entry)) (now (map .entry)) ⌝ }
+    ensures { λ _. ⌜ length (now (scratch .exit)) ≡ length (now (scratch .entry)) ⌝ }
 {
     let no = check(w, h, k, palette, lab, indices);
     if no != 0 {

@@ -22,28 +22,28 @@ fine : (c : tie.Else5) → let a = c .before .before .before .before .before .be
 fine c = let a = c .before .before .before .before .before .before .before .before .before .before .args in tiled (sheetOf (a .w) (a .h) (a .k) (a .palette .now) (a .lab .now) (a .indices .now)) (a .t) 0 (a .tiles .now) (a .map .now) (past (c .before .before .before .before)) (c .before .before .before .if2 .left) (c .before .before .if3 .left) (c .before .if4 .left)
 
 returns : tie.Need-returns
-returns c = extract-sheet _ _ _ _ _ _ (c .before .check .ensures) (c .if1 .taken)
+returns c = (extract-sheet _ _ _ _ _ _ (c .before .check .ensures) (c .if1 .taken), search needs)
 
 returns-2 : tie.Need-returns-2
-returns-2 c = extract-none _ _ _ _ _ (past (c .before)) (c .if2 .taken)
+returns-2 c = (extract-none _ _ _ _ _ (past (c .before)) (c .if2 .taken), search needs)
 
 rem-if3 : tie.Need-rem-if3
 rem-if3 c = search needs
 
 returns-3 : tie.Need-returns-3
-returns-3 c = extract-wide _ _ _ _ _ (past (c .before .before)) (c .before .if2 .left) (c .if3 .taken)
+returns-3 c = (extract-wide _ _ _ _ _ (past (c .before .before)) (c .before .if2 .left) (c .if3 .taken), search needs)
 
 rem-if4 : tie.Need-rem-if4
 rem-if4 c = search needs
 
 returns-4 : tie.Need-returns-4
-returns-4 c = extract-high _ _ _ _ _ (past (c .before .before .before)) (c .before .before .if2 .left) (c .before .if3 .left) (c .if4 .taken)
+returns-4 c = (extract-high _ _ _ _ _ (past (c .before .before .before)) (c .before .before .if2 .left) (c .before .if3 .left) (c .if4 .taken), search needs)
 
 mul-if5 : tie.Need-mul-if5
 mul-if5 c = omega (arith, past (c .before .before .before) .limits .cells)
 
 returns-5 : tie.Need-returns-5
-returns-5 c = extract-scratch _ _ _ _ _ (past (c .before .before .before .before)) (c .before .before .before .if2 .left) (c .before .before .if3 .left) (c .before .if4 .left) (c .if5 .taken)
+returns-5 c = (extract-scratch _ _ _ _ _ (past (c .before .before .before .before)) (c .before .before .before .if2 .left) (c .before .before .if3 .left) (c .before .if4 .left) (c .if5 .taken), search needs)
 
 div-n : tie.Need-div-n
 div-n c = search needs
@@ -77,7 +77,7 @@ same-length-3 : tie.Need-same-length-3
 same-length-3 c = search needs
 
 returns-6 : tie.Need-returns-6
-returns-6 c = extract-done _ _ _ _ _ (past (c .before .before .before .before .before .before .before .before .before .before .before .before .before)) (c .before .before .before .before .before .before .before .before .before .before .before .before .if2 .left) (c .before .before .before .before .before .before .before .before .before .before .before .if3 .left) (c .before .before .before .before .before .before .before .before .before .before .if4 .left) (c .before .before .before .before .before .before .before .before .before .if5 .left) (c .before .before .before .before .before .extract-in .ensures)
+returns-6 c = (extract-done _ _ _ _ _ (past (c .before .before .before .before .before .before .before .before .before .before .before .before .before)) (c .before .before .before .before .before .before .before .before .before .before .before .before .if2 .left) (c .before .before .before .before .before .before .before .before .before .before .before .if3 .left) (c .before .before .before .before .before .before .before .before .before .before .if4 .left) (c .before .before .before .before .before .before .before .before .before .if5 .left) (c .before .before .before .before .before .extract-in .ensures), search needs)
 
 pub extract-spec : {M : Type 1} → statement M
 extract-spec =
