@@ -1,6 +1,3 @@
-pub mod Again
-pub mod AsShared
-pub mod Lent
 pub mod Told
 pub mod Checking
 pub mod Painting

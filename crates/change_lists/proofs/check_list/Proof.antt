@@ -60,8 +60,7 @@ use Rattle.structs.specs.declared.Change.{Change}
 use Rattle.structs.proofs.Change as T
 use Rattle.structs.proofs.Change.Laws as T′
 use Rattle.structs.proofs.While.{tests}
-use Rattle.change_lists.proofs.Again.{LentAgain}
-use Rattle.change_lists.proofs.Lent.{lend-mut, back-mut}
+use Rattle.structs.proofs.Lending.{LentAgain, lend-mut, back-mut}
 use Rattle.change_lists.proofs.check_one as one
 use Rattle.change_lists.proofs.check_one.Symbol as one-def
 use Rattle.change_lists.proofs.check_one.Symbol.{name as #change-lists·check-one}
@@ -198,7 +197,7 @@ module _ {M : Type 1} (𝓤 : URA M) (H : Heap 𝓤) (A : Atoms 𝓤) (W : Given
         land ! (from ! (stop !)) (store ! 23 refl (uint-lawful 𝓤 H A W w8 .typed r _ is .0)) $ rewrite ! 23 (λ (u : Val). ‵ (fat fullShare (tyInt w8) l₁₀ 0 u)) (ap only (is .0)) refl $ drop ! $
         move ! (2 ∷ []) $ split ! $ move ! (1 ∷ []) $ split ! $
         lft-end ! tt $
-        move ! (0 ∷ 5 ∷ 3 ∷ []) $ use3 W (later (‵ (MutSlice (named 1) κ₁ u8 .own (record { ptr = (marks-b, marks-o); name = marks-γ; now = (z .1 .1 .1 .1 .1 .1 .1 .0) }) (sliceVal (marks-b, marks-o) (length marks) ∷ [])) ⊛ ‵ (flft κ₁ q₁))) (back-mut u8 κ₁ (ν ∷ []) q₁ marks-γ marks-b marks-o 𝓤 H A W (named 1) (named 0) (after (i .0)) (length marks) (i .1 .1 .0) δ (z .1 .1 .1 .1 .1 .1 .1 .0) marks-room l) $ await ! tt $ split ! $
+        move ! (0 ∷ 5 ∷ 3 ∷ []) $ use3 W (later (‵ (MutSlice (named 1) κ₁ u8 .own (record { ptr = (marks-b, marks-o); name = marks-γ; now = (z .1 .1 .1 .1 .1 .1 .1 .0) }) (sliceVal (marks-b, marks-o) (length marks) ∷ [])) ⊛ ‵ (flft κ₁ q₁))) (back-mut u8 κ₁ (ν ∷ []) q₁ marks-γ marks-b marks-o 𝓤 H A W (named 1) (named 0) (after (i .0)) (length marks) (i .1 .1 .0) δ (z .1 .1 .1 .1 .1 .1 .1 .0)) $ await ! tt $ split ! $
         -- what it left is what the next turn begins with
         rewrite ! 0 (λ (y : List ℕ). ‵ (MutSlice (named 1) κ₁ u8 .own (record { ptr = (marks-b, marks-o); name = marks-γ; now = y }) (sliceVal (marks-b, marks-o) (length marks) ∷ []))) (stepped e .1) refl $
         rewrite ! 0 (λ (k : ℕ). ‵ (MutSlice (named 1) κ₁ u8 .own (record { ptr = (marks-b, marks-o); name = marks-γ; now = after k }) (sliceVal (marks-b, marks-o) (length marks) ∷ []))) (sym (add-one (i .0))) refl $

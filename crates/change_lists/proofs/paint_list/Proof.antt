@@ -57,8 +57,7 @@ use Rattle.structs.specs.declared.Change.{Change}
 use Rattle.structs.proofs.Change as T
 use Rattle.structs.proofs.Change.Laws as T′
 use Rattle.structs.proofs.While.{tests}
-use Rattle.change_lists.proofs.Again.{LentAgain}
-use Rattle.change_lists.proofs.Lent.{lend-mut, back-mut}
+use Rattle.structs.proofs.Lending.{LentAgain, lend-mut, back-mut}
 use Rattle.change_lists.proofs.paint_one as one
 use Rattle.change_lists.proofs.paint_one.Symbol as one-def
 use Rattle.change_lists.proofs.paint_one.Symbol.{name as #change-lists·paint-one}
@@ -191,7 +190,7 @@ module _ {M : Type 1} (𝓤 : URA M) (H : Heap 𝓤) (A : Atoms 𝓤) (W : Given
         land ! (from ! (stop !)) (init ! 15 refl (subst (λ (y : Val). T (hasTy tyUnit y) × WT y) (sym (ap only is)) (tt, tt))) $
         move ! (2 ∷ []) $ split ! $
         lft-end ! tt $
-        move ! (0 ∷ 4 ∷ 2 ∷ []) $ use3 W (later (‵ (MutSlice (named 0) κ₀ i16 .own (record { ptr = (indices-b, indices-o); name = indices-γ; now = (z .1 .1 .0) }) (sliceVal (indices-b, indices-o) (length indices) ∷ [])) ⊛ ‵ (flft κ₀ q₀))) (back-mut i16 κ₀ (ν ∷ []) q₀ indices-γ indices-b indices-o 𝓤 H A W (named 0) (named 0) (after (i .0)) (length indices) (i .1 .1 .0) δ (z .1 .1 .0) indices-room l) $ await ! tt $ split ! $
+        move ! (0 ∷ 4 ∷ 2 ∷ []) $ use3 W (later (‵ (MutSlice (named 0) κ₀ i16 .own (record { ptr = (indices-b, indices-o); name = indices-γ; now = (z .1 .1 .0) }) (sliceVal (indices-b, indices-o) (length indices) ∷ [])) ⊛ ‵ (flft κ₀ q₀))) (back-mut i16 κ₀ (ν ∷ []) q₀ indices-γ indices-b indices-o 𝓤 H A W (named 0) (named 0) (after (i .0)) (length indices) (i .1 .1 .0) δ (z .1 .1 .0)) $ await ! tt $ split ! $
         -- what it left is what the next turn begins with
         rewrite ! 0 (λ (y : List ℤ). ‵ (MutSlice (named 0) κ₀ i16 .own (record { ptr = (indices-b, indices-o); name = indices-γ; now = y }) (sliceVal (indices-b, indices-o) (length indices) ∷ []))) (stepped e) refl $
         rewrite ! 0 (λ (k : ℕ). ‵ (MutSlice (named 0) κ₀ i16 .own (record { ptr = (indices-b, indices-o); name = indices-γ; now = after k }) (sliceVal (indices-b, indices-o) (length indices) ∷ []))) (sym (add-one (i .0))) refl $

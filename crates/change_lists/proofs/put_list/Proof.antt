@@ -57,8 +57,7 @@ use Rattle.structs.specs.declared.Change.{Change}
 use Rattle.structs.proofs.Change as T
 use Rattle.structs.proofs.Change.Laws as T′
 use Rattle.structs.proofs.While.{tests}
-use Rattle.change_lists.proofs.Again.{LentAgain}
-use Rattle.change_lists.proofs.Lent.{lend-mut, back-mut}
+use Rattle.structs.proofs.Lending.{LentAgain, lend-mut, back-mut}
 use Rattle.change_lists.proofs.put_one as one
 use Rattle.change_lists.proofs.put_one.Symbol as one-def
 use Rattle.change_lists.proofs.put_one.Symbol.{name as #change-lists·put-one}
@@ -192,7 +191,7 @@ module _ {M : Type 1} (𝓤 : URA M) (H : Heap 𝓤) (A : Atoms 𝓤) (W : Given
         land ! (from ! (stop !)) (init ! 16 refl (subst (λ (y : Val). T (hasTy tyUnit y) × WT y) (sym (ap only is)) (tt, tt))) $
         move ! (2 ∷ []) $ split ! $ move ! (1 ∷ []) $ split ! $
         move ! (2 ∷ []) $ lft-end ! tt $
-        move ! (0 ∷ 5 ∷ 3 ∷ []) $ use3 W (later (‵ (MutSlice (named 0) κ₀ u8 .own (record { ptr = (journal-b, journal-o); name = journal-γ; now = (z .1 .1 .0) }) (sliceVal (journal-b, journal-o) (length journal) ∷ [])) ⊛ ‵ (flft κ₀ q₀))) (back-mut u8 κ₀ (ν ∷ []) q₀ journal-γ journal-b journal-o 𝓤 H A W (named 0) (named 0) (after (i .0)) (length journal) (i .1 .1 .0) δ (z .1 .1 .0) journal-room l) $ await ! tt $ split ! $
+        move ! (0 ∷ 5 ∷ 3 ∷ []) $ use3 W (later (‵ (MutSlice (named 0) κ₀ u8 .own (record { ptr = (journal-b, journal-o); name = journal-γ; now = (z .1 .1 .0) }) (sliceVal (journal-b, journal-o) (length journal) ∷ [])) ⊛ ‵ (flft κ₀ q₀))) (back-mut u8 κ₀ (ν ∷ []) q₀ journal-γ journal-b journal-o 𝓤 H A W (named 0) (named 0) (after (i .0)) (length journal) (i .1 .1 .0) δ (z .1 .1 .0)) $ await ! tt $ split ! $
         -- what it left is what the next turn begins with
         rewrite ! 0 (λ (y : List ℕ). ‵ (MutSlice (named 0) κ₀ u8 .own (record { ptr = (journal-b, journal-o); name = journal-γ; now = y }) (sliceVal (journal-b, journal-o) (length journal) ∷ []))) (stepped e) refl $
         rewrite ! 0 (λ (k : ℕ). ‵ (MutSlice (named 0) κ₀ u8 .own (record { ptr = (journal-b, journal-o); name = journal-γ; now = after k }) (sliceVal (journal-b, journal-o) (length journal) ∷ []))) (sym (add-one (i .0))) refl $

@@ -48,8 +48,7 @@ use Rattle.edits.proofs.Edit.Laws as Edit-T′
 use Rattle.structs.specs.declared.Change.{Change}
 use Rattle.structs.proofs.Change as Change-T
 use Rattle.structs.proofs.Change.Laws as Change-T′
-use Rattle.change_lists.proofs.Again.{LentAgain}
-use Rattle.change_lists.proofs.Lent.{lend-mut, back-mut}
+use Rattle.structs.proofs.Lending.{LentAgain, lend-mut, back-mut}
 use Rattle.history.specs.declared.Replayed.{Replayed}
 use Rattle.history.proofs.Replayed as Replayed-T
 use Rattle.history.proofs.Replayed.Laws as Replayed-T′
@@ -164,7 +163,7 @@ module _ {M : Type 1} (𝓤 : URA M) (H : Heap 𝓤) (A : Atoms 𝓤) (W : Given
         land ! (from ! (stop !)) (init ! 27 refl (subst (λ (y : Val). T (hasTy tyUnit y) × WT y) (sym (ap only is₁)) (tt, tt))) $
         move ! (2 ∷ []) $ split ! $ move ! (1 ∷ []) $ split ! $
         move ! (2 ∷ []) $ lft-end ! tt $
-        move ! (0 ∷ 5 ∷ 4 ∷ []) $ use3 W (later (‵ (MutSlice (named 2) κ₂ i16 .own (record { ptr = (indices-b, indices-o); name = indices-γ; now = (z₁ .1 .1 .0) }) (sliceVal (indices-b, indices-o) (length indices) ∷ [])) ⊛ ‵ (flft κ₂ q₂))) (back-mut i16 κ₂ (ν₁-indices ∷ []) q₂ indices-γ indices-b indices-o 𝓤 H A W (named 2) (named 0) (indices) (length indices) (refl) δ₁-indices (z₁ .1 .1 .0) indices-room l₁-indices) $ await ! tt $ split ! $
+        move ! (0 ∷ 5 ∷ 4 ∷ []) $ use3 W (later (‵ (MutSlice (named 2) κ₂ i16 .own (record { ptr = (indices-b, indices-o); name = indices-γ; now = (z₁ .1 .1 .0) }) (sliceVal (indices-b, indices-o) (length indices) ∷ [])) ⊛ ‵ (flft κ₂ q₂))) (back-mut i16 κ₂ (ν₁-indices ∷ []) q₂ indices-γ indices-b indices-o 𝓤 H A W (named 2) (named 0) (indices) (length indices) (refl) δ₁-indices (z₁ .1 .1 .0)) $ await ! tt $ split ! $
         -- `finish_replay`
         assigns ! (addr ! (from ! (fld ! refl (hop ! (look-in ! 38 (sub ! 0 refl (whole !))) (stop !))))) (from ! (stop !)) (init ! 22 refl (tt, tt)) $
         assigns ! (agg ! (and-then ! (load ! (from ! (stop !)) (look ! 22 refl)) (and-then ! (load ! (from ! (fld ! refl (stop !))) (look-in ! 38 (sub ! 1 refl (whole !)))) (no-more !)))) (from ! (stop !)) (init ! 20 refl (tt, (tt, (record { fits = palette-room .0 }, tt)))) $

@@ -48,9 +48,7 @@ use Rattle.edits.proofs.Edit.Laws as Edit-T′
 use Rattle.structs.specs.declared.Change.{Change}
 use Rattle.structs.proofs.Change as Change-T
 use Rattle.structs.proofs.Change.Laws as Change-T′
-use Rattle.change_lists.proofs.Again.{LentAgain}
-use Rattle.change_lists.proofs.AsShared.{LentShared}
-use Rattle.change_lists.proofs.Lent.{lend-mut, back-mut, lend-shr, back-shr}
+use Rattle.structs.proofs.Lending.{LentAgain, LentShared, lend-mut, back-mut, lend-shr, back-shr}
 use Rattle.limits.specs.Checks.{orElse, firstOf}
 use Rattle.sheet.specs.Sheet.{sheetOf}
 use Rattle.edits.specs.Change as flat
@@ -186,7 +184,7 @@ module _ {M : Type 1} (𝓤 : URA M) (H : Heap 𝓤) (A : Atoms 𝓤) (W : Given
         land ! (from ! (stop !)) (init ! 27 refl (uint-lawful 𝓤 H A W w8 .typed r₁ _ is₁ .0)) $ rewrite ! 27 (λ (u : Val). ‵ (fat fullShare (tyInt w8) l₁₃ 0 u)) (ap only (is₁ .0)) refl $ drop ! $
         move ! (2 ∷ []) $ split ! $ move ! (1 ∷ []) $ split ! $ move ! (1 ∷ []) $ split ! $ move ! (1 ∷ []) $ split ! $ move ! (1 ∷ []) $ split ! $
         lft-end ! tt $
-        move ! (0 ∷ 8 ∷ 6 ∷ []) $ use3 W (later (‵ (MutSlice (named 5) κ₅ u8 .own (record { ptr = (marks-b, marks-o); name = marks-γ; now = (z₁ .1 .1 .1 .1 .1 .1 .1 .1 .1 .1 .0) }) (sliceVal (marks-b, marks-o) (length marks) ∷ [])) ⊛ ‵ (flft κ₅ q₅))) (back-mut u8 κ₅ (ν₁-marks ∷ []) q₅ marks-γ marks-b marks-o 𝓤 H A W (named 5) (named 0) (marks) (length marks) (refl) δ₁-marks (z₁ .1 .1 .1 .1 .1 .1 .1 .1 .1 .1 .0) marks-room l₁-marks) $ await ! tt $ split ! $
+        move ! (0 ∷ 8 ∷ 6 ∷ []) $ use3 W (later (‵ (MutSlice (named 5) κ₅ u8 .own (record { ptr = (marks-b, marks-o); name = marks-γ; now = (z₁ .1 .1 .1 .1 .1 .1 .1 .1 .1 .1 .0) }) (sliceVal (marks-b, marks-o) (length marks) ∷ [])) ⊛ ‵ (flft κ₅ q₅))) (back-mut u8 κ₅ (ν₁-marks ∷ []) q₅ marks-γ marks-b marks-o 𝓤 H A W (named 5) (named 0) (marks) (length marks) (refl) δ₁-marks (z₁ .1 .1 .1 .1 .1 .1 .1 .1 .1 .1 .0)) $ await ! tt $ split ! $
         -- `check_list`
         assigns ! (addr ! (from ! (fld ! refl (hop ! (look-in ! 34 (sub ! 0 refl (whole !))) (stop !))))) (from ! (stop !)) (init ! 22 refl (tt, tt)) $
         assigns ! (agg ! (and-then ! (load ! (from ! (stop !)) (look ! 22 refl)) (and-then ! (load ! (from ! (fld ! refl (stop !))) (look-in ! 34 (sub ! 1 refl (whole !)))) (no-more !)))) (from ! (stop !)) (init ! 20 refl (tt, (tt, (record { fits = marks-room .0 }, tt)))) $
@@ -206,7 +204,7 @@ module _ {M : Type 1} (𝓤 : URA M) (H : Heap 𝓤) (A : Atoms 𝓤) (W : Given
         land ! (from ! (stop !)) (init ! 29 refl (uint-lawful 𝓤 H A W w8 .typed r₂ _ is₂ .0)) $ rewrite ! 29 (λ (u : Val). ‵ (fat fullShare (tyInt w8) l₁₄ 0 u)) (ap only (is₂ .0)) refl $ drop ! $
         move ! (2 ∷ []) $ split ! $ move ! (1 ∷ []) $ split ! $ move ! (1 ∷ []) $ split ! $
         move ! (2 ∷ []) $ lft-end ! tt $
-        move ! (0 ∷ 6 ∷ 5 ∷ []) $ use3 W (later (‵ (MutSlice (named 5) κ₅ u8 .own (record { ptr = (marks-b, marks-o); name = marks-γ; now = (z₂ .1 .1 .1 .1 .1 .1 .1 .0) }) (sliceVal (marks-b, marks-o) (length marks) ∷ [])) ⊛ ‵ (flft κ₅ q₅))) (back-mut u8 κ₅ (ν₂-marks ∷ []) q₅ marks-γ marks-b marks-o 𝓤 H A W (named 5) (named 0) (z₁ .1 .1 .1 .1 .1 .1 .1 .1 .1 .1 .0) (length marks) (l₁-marks) δ₂-marks (z₂ .1 .1 .1 .1 .1 .1 .1 .0) marks-room l₂-marks) $ await ! tt $ split ! $
+        move ! (0 ∷ 6 ∷ 5 ∷ []) $ use3 W (later (‵ (MutSlice (named 5) κ₅ u8 .own (record { ptr = (marks-b, marks-o); name = marks-γ; now = (z₂ .1 .1 .1 .1 .1 .1 .1 .0) }) (sliceVal (marks-b, marks-o) (length marks) ∷ [])) ⊛ ‵ (flft κ₅ q₅))) (back-mut u8 κ₅ (ν₂-marks ∷ []) q₅ marks-γ marks-b marks-o 𝓤 H A W (named 5) (named 0) (z₁ .1 .1 .1 .1 .1 .1 .1 .1 .1 .1 .0) (length marks) (l₁-marks) δ₂-marks (z₂ .1 .1 .1 .1 .1 .1 .1 .0)) $ await ! tt $ split ! $
         -- `left_after`
         assigns ! (addr ! (from ! (fld ! refl (hop ! (look-in ! 36 (sub ! 0 refl (whole !))) (stop !))))) (from ! (stop !)) (init ! 20 refl (tt, tt)) $
         assigns ! (agg ! (and-then ! (load ! (from ! (stop !)) (look ! 20 refl)) (and-then ! (load ! (from ! (fld ! refl (stop !))) (look-in ! 36 (sub ! 1 refl (whole !)))) (no-more !)))) (from ! (stop !)) (init ! 18 refl (tt, (tt, (record { fits = marks-room .0 }, tt)))) $
@@ -224,7 +222,7 @@ module _ {M : Type 1} (𝓤 : URA M) (H : Heap 𝓤) (A : Atoms 𝓤) (W : Given
         land ! (from ! (stop !)) (init ! 59 refl (uint-lawful 𝓤 H A W w8 .typed r₃ _ is₃ .0)) $ rewrite ! 59 (λ (u : Val). ‵ (fat fullShare (tyInt w8) l₀ 0 u)) (ap only (is₃ .0)) refl $ drop ! $
         move ! (1 ∷ []) $ split ! $ move ! (1 ∷ []) $ split ! $
         lft-end ! tt $
-        move ! (0 ∷ 4 ∷ []) $ use2 W (later (‵ (MutSlice (named 5) κ₅ u8 .own (record { ptr = (marks-b, marks-o); name = marks-γ; now = (z₂ .1 .1 .1 .1 .1 .1 .1 .0) }) (sliceVal (marks-b, marks-o) (length marks) ∷ [])) ⊛ ‵ (flft κ₅ q₅))) (back-shr u8 κ₅ (ν₃-marks ∷ []) q₅ marks-γ marks-b marks-o 𝓤 H A W (named 5) (named 0) (z₂ .1 .1 .1 .1 .1 .1 .1 .0) (length marks) (l₂-marks ∙ l₁-marks) marks-room) $ await ! tt $ split ! $
+        move ! (0 ∷ 4 ∷ []) $ use2 W (later (‵ (MutSlice (named 5) κ₅ u8 .own (record { ptr = (marks-b, marks-o); name = marks-γ; now = (z₂ .1 .1 .1 .1 .1 .1 .1 .0) }) (sliceVal (marks-b, marks-o) (length marks) ∷ [])) ⊛ ‵ (flft κ₅ q₅))) (back-shr u8 κ₅ (ν₃-marks ∷ []) q₅ marks-γ marks-b marks-o 𝓤 H A W (named 5) (named 0) (z₂ .1 .1 .1 .1 .1 .1 .1 .0) (length marks) (l₂-marks ∙ l₁-marks)) $ await ! tt $ split ! $
         returns ! (look ! 60 refl) $ forget ! 60 refl $ forget ! 58 refl $ forget ! 56 refl $ forget ! 54 refl $ forget ! 52 refl $ forget ! 50 refl $ forget ! 48 refl $ forget ! 46 refl $ forget ! 44 refl $ forget ! 42 refl $ forget ! 40 refl $ forget ! 38 refl $ forget ! 36 refl $ forget ! 34 refl $ forget ! 32 refl $ forget ! 30 refl $ forget ! 28 refl $ forget ! 26 refl $ forget ! 24 refl $ forget ! 22 refl $ forget ! 20 refl $
         move ! (60 ∷ 61 ∷ []) $ free1 ! $ move ! (58 ∷ 59 ∷ []) $ free1 ! $ move ! (56 ∷ 57 ∷ []) $ free1 ! $ move ! (54 ∷ 55 ∷ []) $ free1 ! $ move ! (52 ∷ 53 ∷ []) $ free1 ! $ move ! (50 ∷ 51 ∷ []) $ free1 ! $ move ! (48 ∷ 49 ∷ []) $ free1 ! $ move ! (46 ∷ 47 ∷ []) $ free1 ! $ move ! (44 ∷ 45 ∷ []) $ free1 ! $ move ! (42 ∷ 43 ∷ []) $ free1 ! $ move ! (40 ∷ 41 ∷ []) $ free1 ! $ move ! (38 ∷ 39 ∷ []) $ free1 ! $ move ! (36 ∷ 37 ∷ []) $ free1 ! $ move ! (34 ∷ 35 ∷ []) $ free1 ! $ move ! (32 ∷ 33 ∷ []) $ free1 ! $ move ! (30 ∷ 31 ∷ []) $ free1 ! $ move ! (28 ∷ 29 ∷ []) $ free1 ! $ move ! (26 ∷ 27 ∷ []) $ free1 ! $ move ! (24 ∷ 25 ∷ []) $ free1 ! $ move ! (22 ∷ 23 ∷ []) $ free1 ! $ move ! (20 ∷ 21 ∷ []) $ free1 ! $ free0 ! $
         keep ! (17 ∷ 13 ∷ 16 ∷ 12 ∷ 5 ∷ 3 ∷ 15 ∷ 11 ∷ 9 ∷ 6 ∷ 0 ∷ 1 ∷ []) $ by ! (exits (r₃) (z₂ .1 .1 .1 .1 .1 .1 .1 .0) (replay-number (length marks) w h k palette lab indices (permittedOf limited permitted) edit list r₁ (z₁ .1 .1 .1 .1 .1 .1 .1 .1 .1 .1 .0) (e₁ (toldAll list) (told-length list)) l₁-marks r₂ r₃ (e₂ .0) (e₃ (toldAll list) (λ z. rw (e₂ .1) (checked-marks (length marks) w h k palette lab indices (permittedOf limited permitted) edit list r₁ (z₁ .1 .1 .1 .1 .1 .1 .1 .1 .1 .1 .0) (e₁ (toldAll list) (told-length list)) l₁-marks r₂ (e₂ .0) z)))) (l₂-marks ∙ l₁-marks) (is₃ .1))))))))))))))))))))))))))))))))))))))))))))))

@@ -49,9 +49,7 @@ use Rattle.edits.proofs.Edit.Laws as Edit-T′
 use Rattle.structs.specs.declared.Change.{Change}
 use Rattle.structs.proofs.Change as Change-T
 use Rattle.structs.proofs.Change.Laws as Change-T′
-use Rattle.change_lists.proofs.Again.{LentAgain}
-use Rattle.change_lists.proofs.AsShared.{LentShared}
-use Rattle.change_lists.proofs.Lent.{lend-mut, back-mut, lend-shr, back-shr}
+use Rattle.structs.proofs.Lending.{LentAgain, LentShared, lend-mut, back-mut, lend-shr, back-shr}
 use Rattle.ledger.specs.declared.Handle.{Handle}
 use Rattle.ledger.proofs.Handle as Handle-T
 use Rattle.ledger.proofs.Handle.Laws as Handle-T′
@@ -197,9 +195,9 @@ module _ {M : Type 1} (𝓤 : URA M) (H : Heap 𝓤) (A : Atoms 𝓤) (W : Given
         land ! (from ! (stop !)) (init ! 40 refl (subst (λ (y : Val). T (hasTy tyUnit y) × WT y) (sym (ap only is₁)) (tt, tt))) $
         move ! (2 ∷ []) $ split ! $ move ! (1 ∷ []) $ split ! $ move ! (1 ∷ []) $ split ! $
         move ! (3 ∷ []) $ lft-end ! tt $
-        move ! (0 ∷ 7 ∷ 5 ∷ []) $ use3 W (later (‵ (MutSlice (named 4) κ₄ u8 .own (record { ptr = (journal-b, journal-o); name = journal-γ; now = (z₁ .1 .1 .0) }) (sliceVal (journal-b, journal-o) (length journal) ∷ [])) ⊛ ‵ (flft κ₄ q₄))) (back-mut u8 κ₄ (ν₁-journal ∷ []) q₄ journal-γ journal-b journal-o 𝓤 H A W (named 4) (named 0) (journal) (length journal) (refl) δ₁-journal (z₁ .1 .1 .0) journal-room l₁-journal) $ await ! tt $ split ! $
+        move ! (0 ∷ 7 ∷ 5 ∷ []) $ use3 W (later (‵ (MutSlice (named 4) κ₄ u8 .own (record { ptr = (journal-b, journal-o); name = journal-γ; now = (z₁ .1 .1 .0) }) (sliceVal (journal-b, journal-o) (length journal) ∷ [])) ⊛ ‵ (flft κ₄ q₄))) (back-mut u8 κ₄ (ν₁-journal ∷ []) q₄ journal-γ journal-b journal-o 𝓤 H A W (named 4) (named 0) (journal) (length journal) (refl) δ₁-journal (z₁ .1 .1 .0)) $ await ! tt $ split ! $
         move ! (4 ∷ []) $ lft-end ! tt $
-        move ! (0 ∷ 6 ∷ []) $ use2 W (later (‵ (MutSlice (named 2) κ₂ i16 .own (record { ptr = (indices-b, indices-o); name = indices-γ; now = (indices) }) (sliceVal (indices-b, indices-o) (length indices) ∷ [])) ⊛ ‵ (flft κ₂ q₂))) (back-shr i16 κ₂ (ν₁-indices ∷ []) q₂ indices-γ indices-b indices-o 𝓤 H A W (named 2) (named 0) (indices) (length indices) (refl) indices-room) $ await ! tt $ split ! $
+        move ! (0 ∷ 6 ∷ []) $ use2 W (later (‵ (MutSlice (named 2) κ₂ i16 .own (record { ptr = (indices-b, indices-o); name = indices-γ; now = (indices) }) (sliceVal (indices-b, indices-o) (length indices) ∷ [])) ⊛ ‵ (flft κ₂ q₂))) (back-shr i16 κ₂ (ν₁-indices ∷ []) q₂ indices-γ indices-b indices-o 𝓤 H A W (named 2) (named 0) (indices) (length indices) (refl)) $ await ! tt $ split ! $
         -- `paint_list`
         assigns ! (addr ! (from ! (fld ! refl (hop ! (look-in ! 56 (sub ! 0 refl (whole !))) (stop !))))) (from ! (stop !)) (init ! 32 refl (tt, tt)) $
         assigns ! (agg ! (and-then ! (load ! (from ! (stop !)) (look ! 32 refl)) (and-then ! (load ! (from ! (fld ! refl (stop !))) (look-in ! 56 (sub ! 1 refl (whole !)))) (no-more !)))) (from ! (stop !)) (init ! 30 refl (tt, (tt, (record { fits = indices-room .0 }, tt)))) $
@@ -218,7 +216,7 @@ module _ {M : Type 1} (𝓤 : URA M) (H : Heap 𝓤) (A : Atoms 𝓤) (W : Given
         land ! (from ! (stop !)) (store ! 43 refl (subst (λ (y : Val). T (hasTy tyUnit y) × WT y) (sym (ap only is₂)) (tt, tt))) $
         move ! (2 ∷ []) $ split ! $ move ! (1 ∷ []) $ split ! $
         move ! (2 ∷ []) $ lft-end ! tt $
-        move ! (0 ∷ 5 ∷ 4 ∷ []) $ use3 W (later (‵ (MutSlice (named 2) κ₂ i16 .own (record { ptr = (indices-b, indices-o); name = indices-γ; now = (z₂ .1 .1 .0) }) (sliceVal (indices-b, indices-o) (length indices) ∷ [])) ⊛ ‵ (flft κ₂ q₂))) (back-mut i16 κ₂ (ν₂-indices ∷ []) q₂ indices-γ indices-b indices-o 𝓤 H A W (named 2) (named 0) (indices) (length indices) (refl) δ₂-indices (z₂ .1 .1 .0) indices-room l₂-indices) $ await ! tt $ split ! $
+        move ! (0 ∷ 5 ∷ 4 ∷ []) $ use3 W (later (‵ (MutSlice (named 2) κ₂ i16 .own (record { ptr = (indices-b, indices-o); name = indices-γ; now = (z₂ .1 .1 .0) }) (sliceVal (indices-b, indices-o) (length indices) ∷ [])) ⊛ ‵ (flft κ₂ q₂))) (back-mut i16 κ₂ (ν₂-indices ∷ []) q₂ indices-γ indices-b indices-o 𝓤 H A W (named 2) (named 0) (indices) (length indices) (refl) δ₂-indices (z₂ .1 .1 .0)) $ await ! tt $ split ! $
         -- `finish`
         assigns ! (addr ! (from ! (fld ! refl (hop ! (look-in ! 62 (sub ! 0 refl (whole !))) (stop !))))) (from ! (stop !)) (init ! 30 refl (tt, tt)) $
         assigns ! (agg ! (and-then ! (load ! (from ! (stop !)) (look ! 30 refl)) (and-then ! (load ! (from ! (fld ! refl (stop !))) (look-in ! 62 (sub ! 1 refl (whole !)))) (no-more !)))) (from ! (stop !)) (init ! 28 refl (tt, (tt, (record { fits = palette-room .0 }, tt)))) $

@@ -48,9 +48,7 @@ use Rattle.edits.proofs.Edit.Laws as Edit-T′
 use Rattle.structs.specs.declared.Change.{Change}
 use Rattle.structs.proofs.Change as Change-T
 use Rattle.structs.proofs.Change.Laws as Change-T′
-use Rattle.change_lists.proofs.Again.{LentAgain}
-use Rattle.change_lists.proofs.AsShared.{LentShared}
-use Rattle.change_lists.proofs.Lent.{lend-mut, back-mut, lend-shr, back-shr}
+use Rattle.structs.proofs.Lending.{LentAgain, LentShared, lend-mut, back-mut, lend-shr, back-shr}
 use Rattle.ledger.specs.declared.Handle.{Handle}
 use Rattle.ledger.proofs.Handle as Handle-T
 use Rattle.ledger.proofs.Handle.Laws as Handle-T′
@@ -194,7 +192,7 @@ module _ {M : Type 1} (𝓤 : URA M) (H : Heap 𝓤) (A : Atoms 𝓤) (W : Given
         land ! (from ! (stop !)) (init ! 28 refl (uint-lawful 𝓤 H A W w8 .typed r₁ _ is₁ .0)) $ rewrite ! 28 (λ (u : Val). ‵ (fat fullShare (tyInt w8) l₁₇ 0 u)) (ap only (is₁ .0)) refl $ drop ! $
         move ! (2 ∷ []) $ split ! $ move ! (1 ∷ []) $ split ! $ move ! (1 ∷ []) $ split ! $ move ! (1 ∷ []) $ split ! $ move ! (1 ∷ []) $ split ! $ move ! (1 ∷ []) $ split ! $
         lft-end ! tt $
-        move ! (0 ∷ 9 ∷ 7 ∷ []) $ use3 W (later (‵ (MutSlice (named 6) κ₆ u8 .own (record { ptr = (marks-b, marks-o); name = marks-γ; now = (z₁ .1 .1 .1 .1 .1 .1 .1 .1 .1 .1 .1 .1 .0) }) (sliceVal (marks-b, marks-o) (length marks) ∷ [])) ⊛ ‵ (flft κ₆ q₆))) (back-mut u8 κ₆ (ν₁-marks ∷ []) q₆ marks-γ marks-b marks-o 𝓤 H A W (named 6) (named 0) (marks) (length marks) (refl) δ₁-marks (z₁ .1 .1 .1 .1 .1 .1 .1 .1 .1 .1 .1 .1 .0) marks-room l₁-marks) $ await ! tt $ split ! $
+        move ! (0 ∷ 9 ∷ 7 ∷ []) $ use3 W (later (‵ (MutSlice (named 6) κ₆ u8 .own (record { ptr = (marks-b, marks-o); name = marks-γ; now = (z₁ .1 .1 .1 .1 .1 .1 .1 .1 .1 .1 .1 .1 .0) }) (sliceVal (marks-b, marks-o) (length marks) ∷ [])) ⊛ ‵ (flft κ₆ q₆))) (back-mut u8 κ₆ (ν₁-marks ∷ []) q₆ marks-γ marks-b marks-o 𝓤 H A W (named 6) (named 0) (marks) (length marks) (refl) δ₁-marks (z₁ .1 .1 .1 .1 .1 .1 .1 .1 .1 .1 .1 .1 .0)) $ await ! tt $ split ! $
         -- `check_list`
         assigns ! (addr ! (from ! (fld ! refl (hop ! (look-in ! 40 (sub ! 0 refl (whole !))) (stop !))))) (from ! (stop !)) (init ! 24 refl (tt, tt)) $
         assigns ! (agg ! (and-then ! (load ! (from ! (stop !)) (look ! 24 refl)) (and-then ! (load ! (from ! (fld ! refl (stop !))) (look-in ! 40 (sub ! 1 refl (whole !)))) (no-more !)))) (from ! (stop !)) (init ! 22 refl (tt, (tt, (record { fits = marks-room .0 }, tt)))) $
@@ -214,7 +212,7 @@ module _ {M : Type 1} (𝓤 : URA M) (H : Heap 𝓤) (A : Atoms 𝓤) (W : Given
         land ! (from ! (stop !)) (init ! 31 refl (uint-lawful 𝓤 H A W w8 .typed r₂ _ is₂ .0)) $ rewrite ! 31 (λ (u : Val). ‵ (fat fullShare (tyInt w8) l₁₈ 0 u)) (ap only (is₂ .0)) refl $ drop ! $
         move ! (2 ∷ []) $ split ! $ move ! (1 ∷ []) $ split ! $ move ! (1 ∷ []) $ split ! $
         move ! (2 ∷ []) $ lft-end ! tt $
-        move ! (0 ∷ 6 ∷ 5 ∷ []) $ use3 W (later (‵ (MutSlice (named 6) κ₆ u8 .own (record { ptr = (marks-b, marks-o); name = marks-γ; now = (z₂ .1 .1 .1 .1 .1 .1 .1 .0) }) (sliceVal (marks-b, marks-o) (length marks) ∷ [])) ⊛ ‵ (flft κ₆ q₆))) (back-mut u8 κ₆ (ν₂-marks ∷ []) q₆ marks-γ marks-b marks-o 𝓤 H A W (named 6) (named 0) (z₁ .1 .1 .1 .1 .1 .1 .1 .1 .1 .1 .1 .1 .0) (length marks) (l₁-marks) δ₂-marks (z₂ .1 .1 .1 .1 .1 .1 .1 .0) marks-room l₂-marks) $ await ! tt $ split ! $
+        move ! (0 ∷ 6 ∷ 5 ∷ []) $ use3 W (later (‵ (MutSlice (named 6) κ₆ u8 .own (record { ptr = (marks-b, marks-o); name = marks-γ; now = (z₂ .1 .1 .1 .1 .1 .1 .1 .0) }) (sliceVal (marks-b, marks-o) (length marks) ∷ [])) ⊛ ‵ (flft κ₆ q₆))) (back-mut u8 κ₆ (ν₂-marks ∷ []) q₆ marks-γ marks-b marks-o 𝓤 H A W (named 6) (named 0) (z₁ .1 .1 .1 .1 .1 .1 .1 .1 .1 .1 .1 .1 .0) (length marks) (l₁-marks) δ₂-marks (z₂ .1 .1 .1 .1 .1 .1 .1 .0)) $ await ! tt $ split ! $
         -- `settle`
         assigns ! (addr ! (from ! (fld ! refl (hop ! (look-in ! 42 (sub ! 0 refl (whole !))) (stop !))))) (from ! (stop !)) (init ! 22 refl (tt, tt)) $
         assigns ! (agg ! (and-then ! (load ! (from ! (stop !)) (look ! 22 refl)) (and-then ! (load ! (from ! (fld ! refl (stop !))) (look-in ! 42 (sub ! 1 refl (whole !)))) (no-more !)))) (from ! (stop !)) (init ! 20 refl (tt, (tt, (record { fits = marks-room .0 }, tt)))) $
@@ -232,7 +230,7 @@ module _ {M : Type 1} (𝓤 : URA M) (H : Heap 𝓤) (A : Atoms 𝓤) (W : Given
         land ! (from ! (stop !)) (init ! 69 refl (uint-lawful 𝓤 H A W w8 .typed r₃ _ is₃ .0)) $ rewrite ! 69 (λ (u : Val). ‵ (fat fullShare (tyInt w8) l₀ 0 u)) (ap only (is₃ .0)) refl $ drop ! $
         move ! (1 ∷ []) $ split ! $ move ! (1 ∷ []) $ split ! $
         lft-end ! tt $
-        move ! (0 ∷ 4 ∷ []) $ use2 W (later (‵ (MutSlice (named 6) κ₆ u8 .own (record { ptr = (marks-b, marks-o); name = marks-γ; now = (z₂ .1 .1 .1 .1 .1 .1 .1 .0) }) (sliceVal (marks-b, marks-o) (length marks) ∷ [])) ⊛ ‵ (flft κ₆ q₆))) (back-shr u8 κ₆ (ν₃-marks ∷ []) q₆ marks-γ marks-b marks-o 𝓤 H A W (named 6) (named 0) (z₂ .1 .1 .1 .1 .1 .1 .1 .0) (length marks) (l₂-marks ∙ l₁-marks) marks-room) $ await ! tt $ split ! $
+        move ! (0 ∷ 4 ∷ []) $ use2 W (later (‵ (MutSlice (named 6) κ₆ u8 .own (record { ptr = (marks-b, marks-o); name = marks-γ; now = (z₂ .1 .1 .1 .1 .1 .1 .1 .0) }) (sliceVal (marks-b, marks-o) (length marks) ∷ [])) ⊛ ‵ (flft κ₆ q₆))) (back-shr u8 κ₆ (ν₃-marks ∷ []) q₆ marks-γ marks-b marks-o 𝓤 H A W (named 6) (named 0) (z₂ .1 .1 .1 .1 .1 .1 .1 .0) (length marks) (l₂-marks ∙ l₁-marks)) $ await ! tt $ split ! $
         returns ! (look ! 70 refl) $ forget ! 70 refl $ forget ! 68 refl $ forget ! 66 refl $ forget ! 64 refl $ forget ! 62 refl $ forget ! 60 refl $ forget ! 58 refl $ forget ! 56 refl $ forget ! 54 refl $ forget ! 52 refl $ forget ! 50 refl $ forget ! 48 refl $ forget ! 46 refl $ forget ! 44 refl $ forget ! 42 refl $ forget ! 40 refl $ forget ! 38 refl $ forget ! 36 refl $ forget ! 34 refl $ forget ! 32 refl $ forget ! 30 refl $ forget ! 28 refl $ forget ! 26 refl $ forget ! 24 refl $ forget ! 22 refl $
         move ! (70 ∷ 71 ∷ []) $ free1 ! $ move ! (68 ∷ 69 ∷ []) $ free1 ! $ move ! (66 ∷ 67 ∷ []) $ free1 ! $ move ! (64 ∷ 65 ∷ []) $ free1 ! $ move ! (62 ∷ 63 ∷ []) $ free1 ! $ move ! (60 ∷ 61 ∷ []) $ free1 ! $ move ! (58 ∷ 59 ∷ []) $ free1 ! $ move ! (56 ∷ 57 ∷ []) $ free1 ! $ move ! (54 ∷ 55 ∷ []) $ free1 ! $ move ! (52 ∷ 53 ∷ []) $ free1 ! $ move ! (50 ∷ 51 ∷ []) $ free1 ! $ move ! (48 ∷ 49 ∷ []) $ free1 ! $ move ! (46 ∷ 47 ∷ []) $ free1 ! $ move ! (44 ∷ 45 ∷ []) $ free1 ! $ move ! (42 ∷ 43 ∷ []) $ free1 ! $ move ! (40 ∷ 41 ∷ []) $ free1 ! $ move ! (38 ∷ 39 ∷ []) $ free1 ! $ move ! (36 ∷ 37 ∷ []) $ free1 ! $ move ! (34 ∷ 35 ∷ []) $ free1 ! $ move ! (32 ∷ 33 ∷ []) $ free1 ! $ move ! (30 ∷ 31 ∷ []) $ free1 ! $ move ! (28 ∷ 29 ∷ []) $ free1 ! $ move ! (26 ∷ 27 ∷ []) $ free1 ! $ move ! (24 ∷ 25 ∷ []) $ free1 ! $ move ! (22 ∷ 23 ∷ []) $ free1 ! $ free0 ! $
         keep ! (19 ∷ 14 ∷ 18 ∷ 13 ∷ 5 ∷ 3 ∷ 17 ∷ 12 ∷ 9 ∷ 6 ∷ 16 ∷ 11 ∷ 0 ∷ 1 ∷ []) $ by ! (exits (r₃) (z₂ .1 .1 .1 .1 .1 .1 .1 .0) (push-number (length marks) w h k palette lab indices journal handle limited permitted edit list r₁ (z₁ .1 .1 .1 .1 .1 .1 .1 .1 .1 .1 .1 .1 .0) (e₁ (packedAll list) (length-map list packedOf)) l₁-marks r₂ r₃ (e₂ .0) (e₃ (toldAll list) (λ z. rw (e₂ .1) (settle-marks (length marks) w h k palette lab indices journal handle limited permitted edit list r₁ (z₁ .1 .1 .1 .1 .1 .1 .1 .1 .1 .1 .1 .1 .0) (e₁ (packedAll list) (length-map list packedOf)) l₁-marks r₂ (e₂ .0) z)))) (l₂-marks ∙ l₁-marks) (is₃ .1))))))))))))))))))))))))))))))))))))))))))))))))))
