@@ -1,5 +1,7 @@
 // Per-tile editing: `mirror_tiles` of tools.rs. A list of changes is lent as one number of 64 bits a change, and so
 // is the scratch, whose contents are free before and after the call.
+mod packed;
+
 use changes::copy_out;
 use limits::Counted;
 use limits::LIST_TOO_LONG;
@@ -8,6 +10,7 @@ use limits::NO_SPACE;
 use limits::OFF_THE_SHEET;
 use lists::either;
 use mirroring::mirror_in;
+pub use packed::mirror_tiles_in;
 use pixels::is_outside;
 use selection::Area;
 use selection::Chosen;
