@@ -4,6 +4,8 @@
 //
 // Two buffers of numbers are lent as scratch; what they hold after a call is free.
 mod op;
+mod strokes;
 
 pub use op::normalize;
 pub use op::pixels;
+pub use strokes::extend;

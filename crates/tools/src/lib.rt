@@ -16,6 +16,7 @@ pub use op::pixels;
 pub use op::pixels_in;
 pub use op::pixels_of;
 pub use strokes::extend;
+pub use strokes::extend_no;
 
 // What a call answers that makes an edit with a list of changes: the edit, and how many they are.
 pub enum Made {

@@ -21,7 +21,7 @@ ghost use Rattle.tools.specs.Stroke.{extendChecks, extendCall};
 
 // The number of the first check of an extension that applies, or 0: 21 of either list, then 16 for a count that
 // the buffer has no places for, and for scratch with fewer places than both lists have changes.
-fn extend_no(count: usize, places: usize, n: usize, room: usize) -> u8
+pub fn extend_no(count: usize, places: usize, n: usize, room: usize) -> u8
     ensures { λ r. ⌜ r ≡ firstOf (extendChecks count places n room) ⌝ }
 {
     if MAX_CHANGES < count {
