@@ -6,6 +6,7 @@ use crate::histories;
 use crate::journal::{self, Handle, State};
 use crate::sheet::*;
 use crate::sheets::{self, Permitted};
+use crate::tiled;
 use pixelforge::editor::op::normalize;
 use pixelforge::editor::palette as rust_palette;
 use pixelforge::editor::History;
@@ -13,7 +14,7 @@ use pixelforge::editor::History;
 const EACH: u64 = 60;
 const HISTORIES: u64 = 24;
 const STEPS: u64 = 60;
-const NAMES: [&str; 56] = [
+const NAMES: [&str; 59] = [
     "check",
     "with_lab",
     "new",
@@ -70,6 +71,9 @@ const NAMES: [&str; 56] = [
     "next_redo",
     "applied",
     "replay",
+    "flip",
+    "extract",
+    "mirror_tiles",
 ];
 
 // As in crates/deals.
@@ -300,7 +304,9 @@ fn over_sheet(c: usize, d: &Deck) -> Vec<u64> {
         22 => sheets::add_color(case, &p, colour(d)),
         23 => sheets::nearest_other(case, from),
         24 => sheets::remove_entry(case, from, 3),
-        _ => sheets::merge_entries(case, from, into, 3),
+        25 => sheets::merge_entries(case, from, into, 3),
+        57 => tiled::extract(case, size, 6, 4, 19),
+        _ => tiled::mirror_tiles(case, a, !once_in(d[29], 40), size, &dealt(d[25], 2, change), 6, 4),
     };
     expected
 }
@@ -495,18 +501,22 @@ fn history(seed: u64) {
     }
 }
 
+fn flip(d: &Deck) -> Vec<u64> {
+    let t = if once_in(d[26], 2) { 2 } else { pick(d[24], 5) };
+    let [expected, _] = tiled::flip(&indices_of(d[25], 3, 4), t, once_in(d[14], 3), once_in(d[28], 3), 5);
+    expected
+}
+
 pub fn print() {
-    for c in 0..44 {
+    for c in 0..47 {
         for i in 0..EACH {
             let d = deck(1000 * c as u64 + i);
-            line(
-                c,
-                &if c < 26 {
-                    over_sheet(c, &d)
-                } else {
-                    loose(c, &d)
-                },
-            );
+            match c {
+                26..=43 => line(c, &loose(c, &d)),
+                44 => line(56, &flip(&d)),
+                45 | 46 => line(c + 12, &over_sheet(c + 12, &d)),
+                _ => line(c, &over_sheet(c, &d)),
+            }
         }
     }
     for i in 0..HISTORIES {

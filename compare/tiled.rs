@@ -10,7 +10,7 @@ use pixelforge::tiles::{self, TileConfig};
 
 const HALVES: u32 = 0x5a5a_5a5a;
 
-fn flip(tile: &[i16], t: usize, h: bool, v: bool, out: usize) -> Pair {
+pub fn flip(tile: &[i16], t: usize, h: bool, v: bool, out: usize) -> Pair {
     let words = |no: u8, r: &[usize], out: &[i16]| {
         let mut words = vec![u64::from(no)];
         sizes(&mut words, r);
@@ -36,7 +36,7 @@ fn divides(s: &Sheet, t: usize) -> bool {
     t != 0 && s.w % t == 0 && s.h % t == 0
 }
 
-fn extract(c: &Case, t: usize, scratch: usize, out: usize, map: usize) -> Pair {
+pub fn extract(c: &Case, t: usize, scratch: usize, out: usize, map: usize) -> Pair {
     let s = &c.sheet;
     let words = |no: u8, r: &[usize], out: &[i16], map: &[u32]| {
         let mut words = vec![u64::from(no)];
@@ -73,7 +73,7 @@ fn extract(c: &Case, t: usize, scratch: usize, out: usize, map: usize) -> Pair {
     [expected, words(no, &r, &unique, &entries)]
 }
 
-fn mirror_tiles(c: &Case, a: Area, on: bool, t: usize, list: &[u64], scratch: usize, out: usize) -> Pair {
+pub fn mirror_tiles(c: &Case, a: Area, on: bool, t: usize, list: &[u64], scratch: usize, out: usize) -> Pair {
     let s = &c.sheet;
     let off = |n: &u64| usize::from(*n as u16) >= s.w || usize::from((*n >> 16) as u16) >= s.h;
     let untouched = !on || list.is_empty() || !divides(s, t);
@@ -142,7 +142,7 @@ pub fn run(t: &mut Table) {
         let c = Case::new(sheet);
         let s = &c.sheet;
         let n = s.w * s.h;
-        let side = if draw.once_in(8) { draw.from(&[0, 1, 5, 2000, usize::MAX]) } else { side };
+        let side = if draw.once_in(8) { draw.from(&[0, 1, 5, 1024, 2000]) } else { side };
         let pair = extract(&c, side, n, n, 3 * n);
         let (tiles, entries) = match pair[0][0] {
             0 => (pair[0][1] as usize * side * side, 3 * pair[0][2] as usize),

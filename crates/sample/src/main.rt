@@ -10,6 +10,7 @@ mod names;
 mod palettes;
 mod steps;
 mod strokes;
+mod tiled;
 
 use deals::Hand;
 use deals::Outcome;
@@ -64,7 +65,8 @@ fn over(
     match c {
         0..=7 => looks::answer(c, a, w, h, k, palette, lab, indices),
         8..=19 => strokes::answer(c, a, w, h, k, palette, lab, indices),
-        _ => palettes::answer(c, a, w, h, k, palette, lab, indices),
+        20..=25 => palettes::answer(c, a, w, h, k, palette, lab, indices),
+        _ => tiled::answer(c, a, w, h, k, palette, lab, indices),
     }
 }
 
@@ -107,10 +109,12 @@ fn print_line(c: usize, t: Outcome) {
 // The line of a call that returns no sheet, on its inputs.
 fn print_answer(c: usize, seed: u64) {
     let d = deck(seed);
-    if c < 26 {
-        print_line(c, over_sheet(c, &d));
-    } else {
-        print_line(c, loose::answer(c, deal(&d)));
+    match c {
+        26..=43 => print_line(c, loose::answer(c, deal(&d))),
+        44 => print_line(56, tiled::flip(deal(&d))),
+        45 => print_line(57, over_sheet(57, &d)),
+        46 => print_line(58, over_sheet(58, &d)),
+        _ => print_line(c, over_sheet(c, &d)),
     }
 }
 
@@ -126,7 +130,7 @@ fn print_call(c: usize, seed: u64) {
 fn print_calls() {
     let mut c: usize = 0;
     let mut seed: u64 = 0;
-    while c < 44 {
+    while c < 47 {
         print_call(c, seed);
         seed = std::num::wrapping_add_u64(seed, 1000);
         c += 1;

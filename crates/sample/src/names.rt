@@ -85,12 +85,22 @@ fn history_name(c: usize) {
     ;
 }
 
+fn tile_name(c: usize) {
+    match c {
+        56 => io::write_all(1, b"flip"),
+        57 => io::write_all(1, b"extract"),
+        _ => io::write_all(1, b"mirror_tiles"),
+    }
+    ;
+}
+
 pub(crate) fn print_name(c: usize) {
     match c {
         0..=7 => sheet_name(c),
         8..=19 => stroke_name(c),
         20..=25 => palette_name(c),
         26..=43 => loose_name(c),
-        _ => history_name(c),
+        44..=55 => history_name(c),
+        _ => tile_name(c),
     }
 }

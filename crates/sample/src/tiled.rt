@@ -1,0 +1,103 @@
+// The calls of tiles.rs, and `mirror_tiles`.
+use deals::Hand;
+use deals::Outcome;
+use deals::fill_indices;
+use deals::fill_list;
+use deals::mix_answer;
+use deals::mix_counts;
+use deals::mix_indices;
+use deals::mix_words;
+use deals::told;
+
+// A tile's side, two half of the time.
+fn tile_side(a: Hand) -> usize {
+    if a.even { 2 } else { a.size }
+}
+
+pub(crate) fn flip(a: Hand) -> Outcome {
+    let mut r = [7777usize; 5];
+    let mut tile = [0i16; 4];
+    let mut out = [0x5a5ai16; 5];
+    fill_indices(a.seed, 3, &mut tile);
+    let no = exports::call_flip(&tile, tile_side(a), a.whole, a.limited, &mut out, &mut r);
+    told(no, mix_indices(mix_answer(no, &r), &out))
+}
+
+fn extract(
+    a: Hand,
+    w: usize,
+    h: usize,
+    k: usize,
+    palette: &[u8],
+    lab: &[f64],
+    indices: &[i16],
+) -> Outcome {
+    let mut r = [7777usize; 5];
+    let mut scratch = [0u64; 6];
+    let mut out = [0x5a5ai16; 4];
+    let mut map = [0x5a5a_5a5au32; 19];
+    let no = exports::call_extract(
+        w,
+        h,
+        k,
+        palette,
+        lab,
+        indices,
+        a.size,
+        &mut out,
+        &mut map,
+        &mut scratch,
+        &mut r,
+    );
+    told(no, mix_counts(mix_indices(mix_answer(no, &r), &out), &map))
+}
+
+fn mirror_tiles(
+    a: Hand,
+    w: usize,
+    h: usize,
+    k: usize,
+    palette: &[u8],
+    lab: &[f64],
+    indices: &[i16],
+) -> Outcome {
+    let mut r = [7777usize; 5];
+    let mut list = [0u64; 2];
+    let mut scratch = [0u64; 6];
+    let mut out = [0x5a5a_5a5a_5a5a_5a5au64; 4];
+    let s = a.s;
+    fill_list(a.seed, &mut list);
+    let no = exports::call_mirror_tiles(
+        w,
+        h,
+        k,
+        palette,
+        lab,
+        indices,
+        a.whole,
+        &s,
+        !a.hit,
+        a.size,
+        &list,
+        &mut scratch,
+        &mut out,
+        &mut r,
+    );
+    told(no, mix_words(mix_answer(no, &r), &out))
+}
+
+pub(crate) fn answer(
+    c: usize,
+    a: Hand,
+    w: usize,
+    h: usize,
+    k: usize,
+    palette: &[u8],
+    lab: &[f64],
+    indices: &[i16],
+) -> Outcome {
+    match c {
+        57 => extract(a, w, h, k, palette, lab, indices),
+        _ => mirror_tiles(a, w, h, k, palette, lab, indices),
+    }
+}
