@@ -90,7 +90,7 @@ module _ (l : List ℤ) (o₀ : List ℕ) where
           rw front (bits-back l (all-at (SFits w16) (pos 0) l (λ j q. c .fits j (omega arith))))
 
 -- ---- an index painted in a picture that is laid out
-map-set : {A B : Type 0} (f : A → B) (l : List A) (i : ℕ) (a : A) → map f (set l i a) ≡ set (map f l) i (f a)
+pub map-set : {A B : Type 0} (f : A → B) (l : List A) (i : ℕ) (a : A) → map f (set l i a) ≡ set (map f l) i (f a)
 map-set f [] i a = refl
 map-set f (x ∷ l) zero a = refl
 map-set f (x ∷ l) (suc i) a = ap (λ r. f x ∷ r) (map-set f l i a)

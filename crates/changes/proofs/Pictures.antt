@@ -51,14 +51,14 @@ nothing w p l m h = rw (drop-of-length-le l h)
 
 module _ (w h : ℕ) (small : w ≤ 2 ^ 16) where
   -- keys in order are places in order
-  later : (c e : Change) → On w h c → On w h e → keyOf c < keyOf e → place w c < place w e
+  pub later : (c e : Change) → On w h c → On w h e → keyOf c < keyOf e → place w c < place w e
   unfolding On keyOf place
   later c e p q k = elim (ℕ-discrete (c .y) (e .y)) [
     | yes y ↦ (let r : c .y * w ≡ e .y * w = ap (λ (z : ℕ). z * w) y in omega arith)
     | no y ↦ (let r : c .y * w + c .x < e .y * w = digits-lt (omega arith) (p .0) in omega arith)
   ]
 
-  all-later : (c : Change) (n : List Change) → On w h c → All (On w h) n → All (λ e. keyOf c < keyOf e) n → All (λ e. place w c < place w e) n
+  pub all-later : (c : Change) (n : List Change) → On w h c → All (On w h) n → All (λ e. keyOf c < keyOf e) n → All (λ e. place w c < place w e) n
   unfolding All
   all-later c [] p a b = tt
   all-later c (e ∷ n) p a b = (later c e p (a .0) (b .0), all-later c n p (a .1) (b .1))

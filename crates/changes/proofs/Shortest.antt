@@ -166,7 +166,7 @@ module _ (w h : ℕ) (small : w ≤ 2 ^ 16) where
       let x : c .x ≡ e .x = sym (digits-mod (c .y) (p .0)) ∙ ap (λ (z : ℕ). z % w) k ∙ digits-mod (e .y) (q .0) in
       n (rw (x, y))
 
-  on-joined : (e c : Change) → On w h e → On w h (joined e c)
+  pub on-joined : (e c : Change) → On w h e → On w h (joined e c)
   unfolding On joined
   on-joined e c p = p
 
@@ -341,15 +341,15 @@ module _ (w h : ℕ) (small : w ≤ 2 ^ 16) where
 
   -- ---- E13
 
-  module _ (l : List ℤ) (size : length l ≡ w * h) (cs : List Change) (on : All (On w h) cs) (olds : FirstOlds w l [] cs) where
-    on-map : (m cs : List Change) → All (On w h) m → All (On w h) cs → All (On w h) (entered m cs)
-    unfolding entered All
-    on-map m [] a b = a
-    on-map m (c ∷ cs) a b = on-map (enter c m) cs (all-enter (On w h) on-joined c m (b .0) a) (b .1)
+  pub on-entered : (m cs : List Change) → All (On w h) m → All (On w h) cs → All (On w h) (entered m cs)
+  unfolding entered All
+  on-entered m [] a b = a
+  on-entered m (c ∷ cs) a b = on-entered (enter c m) cs (all-enter (On w h) on-joined c m (b .0) a) (b .1)
 
+  module _ (l : List ℤ) (size : length l ≡ w * h) (cs : List Change) (on : All (On w h) cs) (olds : FirstOlds w l [] cs) where
     map-on : All (On w h) (entered [] cs)
     unfolding All
-    map-on = on-map [] cs tt on
+    map-on = on-entered [] cs tt on
 
     map-ordered : Ordered (entered [] cs)
     unfolding Ordered

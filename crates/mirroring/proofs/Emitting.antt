@@ -16,9 +16,6 @@ use Rattle.changes.specs.Keys.{Put}
 use Rattle.changes.specs.Between.{differenceOf}
 use Rattle.mirroring.specs.Marks.{newBits, oldIn, emitted, emittedAll}
 
-pub put-none : (l : List ℕ) (m : ℕ) → Put l m [] (m + 1) l m
-put-none l m = record { front = sym (append-nil (take m l)); most = omega arith; behind = refl }
-
 module _ (w : ℕ) (l : List ℤ) (p v : ℕ) where
   pub emitted-some : (place old : ℕ) → v / 2 ^ 42 % 2 ≡ 1 → place ≡ p % w + p / w * 2 ^ 16 → old ≡ oldIn (ofZ w16 (getD l p (pos 0))) v → differenceOf place old (newBits v) ≡ emitted w l p v
   unfolding emitted

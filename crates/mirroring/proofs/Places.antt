@@ -13,7 +13,8 @@ use Rattle.changes.specs.Normal.{keyOf, joined, enter, entered, kept, changing,
 use Rattle.changes.specs.Order.{All}
 use Rattle.changes.specs.Laws.{On, Ordered, atPlace, firstLast}
 use Rattle.changes.proofs.Order.{all-map}
-use Rattle.changes.proofs.Shortest.{all-enter, all-kept, normal-ordered, inside}
+use Rattle.changes.proofs.Shortest.{all-enter, all-kept, normal-ordered, inside, on-entered}
+use Rattle.changes.proofs.Pictures.{all-later}
 use Rattle.changes.proofs.ByPlace.{normal-place}
 
 pub flat-same : {A : Type 0} (f g : ℕ → List A) (i k : ℕ) → ((p : ℕ) → i ≤ p → p < i + k → f p ≡ g p) → flatMap f (range i k) ≡ flatMap g (range i k)
@@ -49,19 +50,6 @@ module _ (w h : ℕ) (wide : 0 < w) (small : w ≤ 2 ^ 16) where
       let b : p / w * w ≡ q / w * w = ap (λ (z : ℕ). z * w) a in
       omega (arith, div-add-mod' p w, div-add-mod' q w)
 
-  -- keys in order are places in order
-  later : (c e : Change) → On w h c → On w h e → keyOf c < keyOf e → place w c < place w e
-  unfolding On keyOf place
-  later c e p q k = elim (ℕ-discrete (c .y) (e .y)) [
-    | yes y ↦ (let r : c .y * w ≡ e .y * w = ap (λ (z : ℕ). z * w) y in omega arith)
-    | no y ↦ (let r : c .y * w + c .x < e .y * w = digits-lt (omega arith) (p .0) in omega arith)
-  ]
-
-  all-later : (c : Change) (n : List Change) → On w h c → All (On w h) n → All (λ e. keyOf c < keyOf e) n → All (λ e. place w c < place w e) n
-  unfolding All
-  all-later c [] p a b = tt
-  all-later c (e ∷ n) p a b = (later c e p (a .0) (b .0), all-later c n p (a .1) (b .1))
-
   other-key : (p : ℕ) (e : Change) → On w h e → (place w e ≡ p → ⊥) → keyAt w p ≡ keyOf e → ⊥
   other-key p e o n q = n (sym (key-same p (place w e) (q ∙ key-place e o)))
 
@@ -77,29 +65,20 @@ module _ (w h : ℕ) (wide : 0 < w) (small : w ≤ 2 ^ 16) where
   gathered zero i (e ∷ m) s o a b = absurd (omega (arith, inside w h small e (a .0), b .0))
   gathered (suc k) i [] s o a b = rw (at-none (keyAt w i) [] tt) (gathered k (suc i) [] (omega arith) tt tt tt)
   gathered (suc k) i (e ∷ m) s o a b = elim (ℕ-discrete (place w e) i) [
-    | yes z ↦ (let behind = all-later e m (a .0) (a .1) (o .0) in
+    | yes z ↦ (let behind = all-later w h small e m (a .0) (a .1) (o .0) in
         let here : atPlace (keyAt w i) (e ∷ m) ≡ e ∷ [] = at-hit (keyAt w i) e m (ap (keyAt w) (sym z) ∙ sym (key-place e (a .0))) ∙ ap (λ (x : List Change). e ∷ x) (at-none (keyAt w i) m (all-other i m (a .1) (all-map (λ f x. omega arith) m behind))) in
         let rest : flatMap (λ p. atPlace (keyAt w p) (e ∷ m)) (range (suc i) k) ≡ flatMap (λ p. atPlace (keyAt w p) m) (range (suc i) k) =
         flat-same (λ p. atPlace (keyAt w p) (e ∷ m)) (λ p. atPlace (keyAt w p) m) (suc i) k (λ p j l. at-miss (keyAt w p) e m (other-key p e (a .0) (λ q. omega arith))) in
         rw (here, rest) (ap (λ (x : List Change). e ∷ x) (gathered k (suc i) m (omega arith) (o .1) (a .1) (all-map (λ f x. omega arith) m behind))))
-    | no z ↦ (let behind = all-later e m (a .0) (a .1) (o .0) in
+    | no z ↦ (let behind = all-later w h small e m (a .0) (a .1) (o .0) in
         let ahead : i < place w e = omega (arith, b .0) in
         let none : atPlace (keyAt w i) (e ∷ m) ≡ [] = at-none (keyAt w i) (e ∷ m) (all-other i (e ∷ m) a (ahead, all-map (λ f x. omega arith) m behind)) in
         rw none (gathered k (suc i) (e ∷ m) (omega arith) o a (ahead, all-map (λ f x. omega arith) m behind)))
   ]
 
-  on-joined : (e c : Change) → On w h e → On w h (joined e c)
-  unfolding On joined
-  on-joined e c o = o
-
-  on-entered : (m cs : List Change) → All (On w h) m → All (On w h) cs → All (On w h) (entered m cs)
-  unfolding entered All
-  on-entered m [] a b = a
-  on-entered m (c ∷ cs) a b = on-entered (enter c m) cs (all-enter (On w h) on-joined c m (b .0) a) (b .1)
-
   on-normal : (cs : List Change) → All (On w h) cs → All (On w h) (normalizeOf cs)
   unfolding normalizeOf All
-  on-normal cs a = all-kept (On w h) changing (entered [] cs) (on-entered [] cs tt a)
+  on-normal cs a = all-kept (On w h) changing (entered [] cs) (on-entered w h small [] cs tt a)
 
   pub normal-gathered : (cs : List Change) → All (On w h) cs → normalizeOf cs ≡ flatMap (λ p. kept changing (firstLast (atPlace (keyAt w p) cs))) (range 0 (w * h))
   normal-gathered cs a =

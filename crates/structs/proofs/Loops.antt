@@ -9,6 +9,7 @@ use lib.Seq.{take-suc, length-take-le}
 use Rattle.lists.specs.Lists.{over}
 use Rattle.lists.proofs.Over.{over-none, over-set}
 use Rattle.changes.proofs.Packing.{packed-unpacked}
+use Rattle.changes.proofs.Copying.{map-set}
 use Rattle.structs.specs.declared.Change.{Change}
 use Rattle.structs.specs.Struct.{packedOf, structOf}
 
@@ -49,11 +50,6 @@ packs-over cs zs (suc i) h k =
 -- what the structs that are written are, as numbers
 abbrev pub Unpacked : List ℕ → List Change → ℕ → Type 0
 Unpacked vs cs i = map packedOf (unpacks vs cs i) ≡ over (take i vs) (map packedOf cs)
-
-map-set : {A B : Type 0} (f : A → B) (l : List A) (i : ℕ) (a : A) → map f (set l i a) ≡ set (map f l) i (f a)
-map-set f [] i a = refl
-map-set f (x ∷ l) zero a = refl
-map-set f (x ∷ l) (suc i) a = ap (λ r. f x ∷ r) (map-set f l i a)
 
 pub unpacked-none : (vs : List ℕ) (cs : List Change) → Unpacked vs cs 0
 unpacked-none vs cs = over-none (map packedOf cs)

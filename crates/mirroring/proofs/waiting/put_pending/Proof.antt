@@ -8,7 +8,8 @@ use mir.Syntax.{w16}
 use lib.ListN.{getD}
 use mir.Val.{ofZ}
 use Rattle.mirroring.specs.Marks.{oldIn}
-use Rattle.mirroring.proofs.Emitting.{put-none, emitted-some, emitted-none}
+use Rattle.changes.proofs.Keying.{put-none}
+use Rattle.mirroring.proofs.Emitting.{emitted-some, emitted-none}
 use Rattle.ints.proofs.Back.{back}
 use borrow.Author.Needs.{needs}
 use Rattle.mirroring.proofs.waiting.put_pending.Statement.{statement}
