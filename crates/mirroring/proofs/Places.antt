@@ -5,15 +5,15 @@ use mathlib.Core.List.{List, [], _∷_, flatMap}
 use native.Mathlib.Omega.{arith}
 use native.Mathlib.Nat.{mod-lt, div-add-mod'}
 use native.Mathlib.Decide.{ℕ-discrete}
-use lib.Arith.{digits-lt, digits-div, digits-mod}
+use lib.Arith.{digits-div, digits-mod}
 use borrow.Author.Tests.{eq-eqb, ne-eqb}
 use Rattle.lists.specs.Lists.{range}
 use Rattle.edits.specs.Change.{Change, place}
-use Rattle.changes.specs.Normal.{keyOf, joined, enter, entered, kept, changing, normalizeOf}
+use Rattle.changes.specs.Normal.{keyOf, entered, kept, changing, normalizeOf}
 use Rattle.changes.specs.Order.{All}
 use Rattle.changes.specs.Laws.{On, Ordered, atPlace, firstLast}
 use Rattle.changes.proofs.Order.{all-map}
-use Rattle.changes.proofs.Shortest.{all-enter, all-kept, normal-ordered, inside, on-entered}
+use Rattle.changes.proofs.Shortest.{all-kept, normal-ordered, inside, on-entered}
 use Rattle.changes.proofs.Pictures.{all-later}
 use Rattle.changes.proofs.ByPlace.{normal-place}
 

@@ -1,6 +1,6 @@
 -- What the loops of `pack` and `unpack` make, turn by turn, and that it is what their contracts say. Assumes nothing.
 use mathlib.Core.Path.{_≡_, refl, sym, ap, _∙_}
-use mathlib.Core.List.{List, [], _∷_, map}
+use mathlib.Core.List.{List, map}
 use Prim.Native.Nat.{ℕ, zero, suc, _<_, _≤_, _^_}
 use native.Mathlib.Omega.{arith}
 use lib.IntN.{pos}
