@@ -10,7 +10,7 @@ use lib.ListN.{length}
 use Rattle.limits.specs.declared.Rgb.{Rgb}
 use Rattle.limits.specs.declared.Lab.{Lab}
 use Rattle.lists.specs.Lists.{some}
-use Rattle.sheet.specs.Sheet.{Sheet, sheetOf}
+use Rattle.sheet.specs.Sheet.{Sheet}
 use Rattle.sheet.specs.Checks.{Limits}
 use Rattle.edits.specs.declared.Edit.{Edit}
 use Rattle.edits.specs.declared.Edit.the-variants.{Pixels, PaletteSet, PaletteAdd, PaletteRemove}

@@ -1,2 +1,1 @@
 pub mod Redoable
-pub mod Apart

@@ -1,5 +1,4 @@
 // The checks of an edit, in document 01's order: one function a kind.
-use crate::remap::removal_no;
 use edits::Edit;
 use entries::check_color;
 use entries::has_rgb;
@@ -12,6 +11,7 @@ use limits::Rgb;
 use limits::STALE;
 use pixels::both;
 use pixels::pixels_no;
+use remapping::removal_no;
 ghost use mathlib.Core.Path.{_≡_};
 ghost use mathlib.Core.Bool.{Bool, not, _&&_};
 ghost use mathlib.Core.List.{List, map};
@@ -21,14 +21,14 @@ ghost use lib.Ieee.{Float};
 ghost use lib.ListN.{length};
 ghost use Rattle.limits.specs.Checks.{firstOf};
 ghost use Rattle.limits.specs.declared.Lab.{Lab};
-ghost use Rattle.sheet.specs.Sheet.{Sheet, sheetOf};
+ghost use Rattle.sheet.specs.Sheet.{sheetOf};
 ghost use Rattle.sheet.specs.Document.{rgbAt};
 ghost use Rattle.edits.specs.declared.Edit.the-variants.{PaletteSet, PaletteAdd, PaletteRemove};
 ghost use Rattle.edits.specs.Change.{Change, unpacked};
 ghost use Rattle.edits.specs.Checks.{Permitted, permittedOf, sameRgb, ownChecks};
 
 // Number 11 of an entry: on replay, whether its colour is not the one that the edit says.
-pub(crate) fn is_stale(palette: &[u8], index: usize, c: Rgb, replay: bool) -> bool
+pub fn is_stale(palette: &[u8], index: usize, c: Rgb, replay: bool) -> bool
     requires { ⌜ 3 * index + 3 ≤ length (now palette) ⌝ }
     ensures { λ r. ⌜ r ≡ replay && not (sameRgb (rgbAt (now (palette .entry)) index) c) ⌝ }
 {
@@ -36,7 +36,7 @@ pub(crate) fn is_stale(palette: &[u8], index: usize, c: Rgb, replay: bool) -> bo
 }
 
 // The number of the first check that applies to a set, or 0: "7, 11, 10".
-pub(crate) fn set_no(
+pub fn set_no(
     k: usize,
     palette: &[u8],
     limited: bool,
@@ -62,7 +62,7 @@ pub(crate) fn set_no(
 }
 
 // The number of the first check that applies to an add, or 0: "8, 10".
-pub(crate) fn add_no(k: usize, limited: bool, permitted: &[u8], c: Rgb) -> u8
+pub fn add_no(k: usize, limited: bool, permitted: &[u8], c: Rgb) -> u8
     ensures { λ r. ⌜ ((w h : ℕ) (palette : List ℕ) (lab : List Float) (indices : List ℤ) (replay : Bool) (cs : List Change) → r ≡ firstOf (ownChecks replay (sheetOf w h k palette lab indices) (permittedOf limited (now (permitted .entry))) (PaletteAdd c) cs)) ⌝ }
 {
     if MAX_ENTRIES <= k {

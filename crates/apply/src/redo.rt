@@ -1,6 +1,6 @@
 // An edit that no check refuses: its record filled in, and the edit done.
-use cielab::lab_at;
 use color::rgb8_to_lab;
+use distances::lab_at;
 use edits::Edit;
 use entries::close_lab_gap;
 use entries::close_palette_gap;
@@ -18,7 +18,7 @@ ghost use lib.IntN.{ℤ};
 ghost use lib.ListN.{length};
 ghost use Rattle.lists.specs.Lists.{some};
 ghost use Rattle.cielab.specs.Convert.{labOf};
-ghost use Rattle.sheet.specs.Sheet.{Sheet, sheetOf};
+ghost use Rattle.sheet.specs.Sheet.{sheetOf};
 ghost use Rattle.edits.specs.Change.{unpacked, painted, newOf};
 ghost use Rattle.edits.specs.Storage.{bytesOf, numbersOf, stored, closed, lowered};
 ghost use Rattle.edits.specs.Apply.{filledEdit, redone};

@@ -8,7 +8,6 @@ use color::Found;
 use color::Root;
 use limits::Lab;
 use limits::Rgb;
-ghost use mathlib.Core.Path.{_≡_};
 ghost use Prim.Native.Nat.{_+_, _*_, _≤_};
 ghost use lib.ListN.{length};
 
@@ -131,7 +130,7 @@ pub extern "C" fn bench_nearest_in(targets: &[f64], lab: &[f64], k: usize, found
     }
     let mut i = 0;
     while i < n {
-        let near = cielab::nearest_in(lab_at(targets, i), lab, k);
+        let near = distances::nearest_in(lab_at(targets, i), lab, k);
         found[i] = near.entry;
         i += 1;
     }

@@ -46,7 +46,7 @@ pub extern "C" fn bench_counts(
     indices: &[i16],
     out: &mut [u32],
 ) -> usize {
-    count_of(sheet::counts(w, h, k, palette, lab, indices, out))
+    count_of(tally::counts(w, h, k, palette, lab, indices, out))
 }
 
 // The pixels that differ from a baseline of the same size and palette count: how many were compared, or 0.
@@ -62,7 +62,7 @@ pub extern "C" fn bench_diff_mask(
     base_indices: &[i16],
     mask: &mut [u8],
 ) -> usize {
-    count_of(sheet::diff_mask(
+    count_of(differences::diff_mask(
         w,
         h,
         k,

@@ -14,7 +14,7 @@ use Rattle.edits.specs.declared.Edit.{Edit}
 use Rattle.edits.specs.declared.Edit.the-variants.{Pixels, PaletteSet, PaletteAdd, PaletteRemove}
 use Rattle.edits.specs.Change.{Change, place}
 use Rattle.edits.specs.Checks.{pixelChecks, remapChecks}
-use Rattle.apply.specs.Apart.{changeChecks, Markable}
+use Rattle.apart.specs.Apart.{changeChecks, Markable}
 use Rattle.pixels.proofs.Inside.{inside}
 use Rattle.structs.specs.declared.Change as structs
 use Rattle.change_lists.specs.Walk.{whenNone, checkOne, markOne, checkUpto, Checkable}

@@ -18,12 +18,12 @@ use Rattle.edits.specs.Change as flat
 use Rattle.edits.specs.Change.{filledIn}
 use Rattle.edits.specs.Apply.{filledChanges}
 use Rattle.records.specs.Bytes.{splice}
-use Rattle.records.specs.Fit.{rowsOf}
+use Rattle.writing.specs.Fit.{rowsOf}
 use Rattle.records.specs.Record.{changeBytes, recordLength, recordOf}
-use Rattle.records.specs.Frame.{within, around}
-use Rattle.records.proofs.Changes.{length-changes}
+use Rattle.writing.specs.Frame.{within, around}
+use Rattle.writing.proofs.Changes.{length-changes}
 use Rattle.records.proofs.Splice.{splice-none, splice-then}
-use Rattle.records.proofs.Framing.{around-within}
+use Rattle.writing.proofs.Framing.{around-within}
 use Rattle.structs.specs.declared.Change.{Change}
 use Rattle.change_lists.specs.Walk.{told, toldAll, none, putOne, putUpto}
 use Rattle.change_lists.proofs.Told.{told-length, told-at}

@@ -12,16 +12,15 @@ use lib.Seq.{take-suc, take-all, take-set-lt, length-take-le}
 use Rattle.limits.specs.Checks.{Check, orElse, firstOf}
 use Rattle.limits.specs.declared.Rgb.{Rgb}
 use Rattle.limits.specs.declared.Lab.{Lab}
-use Rattle.limits.proofs.First.{first-append}
+use Rattle.limits.proofs.First.{or-else-assoc, or-else-zero, first-append}
 use Rattle.lists.proofs.Collect.{flatMap-append, flatMap-one}
 use Rattle.sheet.specs.Sheet.{Sheet}
 use Rattle.edits.specs.declared.Edit.{Edit}
 use Rattle.edits.specs.declared.Edit.the-variants.{Pixels, PaletteSet, PaletteAdd, PaletteRemove}
 use Rattle.edits.specs.Change as flat
 use Rattle.edits.specs.Change.{unpacked, place, painted, newOf}
-use Rattle.apply.specs.Apart.{changeChecks, ClearFor, MarksFor, paintedBy}
-use Rattle.apply.proofs.Together.{or-assoc, or-none}
-use Rattle.apply.proofs.Marking.{Marking, marking-none, marking-next, marking-all}
+use Rattle.apart.specs.Apart.{changeChecks, ClearFor, MarksFor, paintedBy}
+use Rattle.remapping.proofs.Marking.{Marking, marking-none, marking-next, marking-all}
 use Rattle.structs.specs.declared.Change.{Change}
 use Rattle.change_lists.specs.Walk.{told, packedAll, toldAll, none, checkUpto, markOne, markUpto, paintOne, paintUpto}
 use Rattle.change_lists.proofs.Checking.{move-inside, or-zero}
@@ -41,12 +40,12 @@ module _ (n : ℕ) (replay : Bool) (s : Sheet) (e : Edit) (list : List Change) w
 
   checked-upto : (i : ℕ) → i ≤ length list → checkUpto n replay s e list i ≡ orElse n (firstOf (flatMap each (take i (toldAll list))))
   unfolding flatMap firstOf
-  checked-upto zero h = sym (or-none n)
+  checked-upto zero h = sym (or-else-zero n)
   checked-upto (suc i) h =
       let c : flat.Change = told (getD list i none) in
       let before : List Check = flatMap each (take i (toldAll list)) in
       ap (λ (m : ℕ). orElse m (firstOf (each c))) (checked-upto i (omega arith))
-      ∙ sym (or-assoc n (firstOf before) (firstOf (each c)))
+      ∙ sym (or-else-assoc n (firstOf before) (firstOf (each c)))
       ∙ ap (orElse n) (sym (first-append before (each c)) ∙ rw (take-told list i h, flatMap-append, flatMap-one))
 
   pub checked-all : checkUpto n replay s e list (length list) ≡ orElse n (firstOf (flatMap each (toldAll list)))

@@ -13,7 +13,7 @@ use Rattle.edits.specs.declared.Edit.the-variants.{Pixels, PaletteSet, PaletteA
 use Rattle.edits.specs.Change as flat
 use Rattle.edits.specs.Change.{unpacked, place, newOf, filledIn}
 use Rattle.pixels.specs.Inside.{past}
-use Rattle.apply.specs.Apart.{changeChecks, Markable}
+use Rattle.apart.specs.Apart.{changeChecks, Markable}
 use Rattle.records.specs.Bytes.{splice}
 use Rattle.records.specs.Record.{changeBytes}
 use Rattle.structs.specs.declared.Change.{Change}

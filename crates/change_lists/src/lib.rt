@@ -1,15 +1,15 @@
 // The loops over a lent slice of change structs: an edit's list checked, written and painted in place. Each
 // hands its changes one by one to a function over one change; an edit that was refused before (a number that
 // is not 0) leaves everything as it is.
-use apply::move_no;
 use edits::Edit;
 use pixels::filled_in;
 use pixels::paint_new;
 use pixels::pixel_no;
 use pixels::place_of;
-use records::put_change;
+use remapping::move_no;
 use structs::Change;
 use structs::packed;
+use writing::put_change;
 ghost use mathlib.Core.Path.{_≡_};
 ghost use Prim.Native.Nat.{_+_, _*_, _≤_};
 ghost use lib.ListN.{length, set};

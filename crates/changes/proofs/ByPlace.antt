@@ -12,7 +12,7 @@ use Rattle.changes.specs.Normal.{keyOf, joined, enter, entered, kept, ch
 use Rattle.changes.specs.Order.{All}
 use Rattle.changes.specs.Laws.{Ordered, atPlace, folded, firstLast}
 use Rattle.changes.proofs.Order.{less, same, more, tri, all-map}
-use Rattle.changes.proofs.Group.{enter-less, enter-same, enter-more, key-joined}
+use Rattle.changes.proofs.Group.{enter-none, enter-less, enter-same, enter-more, key-joined}
 use Rattle.changes.proofs.Shortest.{ordered-enter, normal-ordered, all-changing}
 
 unfoldable onto : List Change → List Change → List Change
@@ -42,12 +42,8 @@ module _ (p : ℕ) where
   at-above [] a = at-none
   at-above (e ∷ m) a = at-miss e m (λ q. omega (arith, a .0)) ∙ at-above m (a .1)
 
-  lone : (c : Change) → enter c [] ≡ c ∷ []
-  unfolding enter
-  lone c = refl
-
   enter-other : (c : Change) (m : List Change) → (p ≡ keyOf c → ⊥) → atPlace p (enter c m) ≡ atPlace p m
-  enter-other c [] n = ap (atPlace p) (lone c) ∙ at-miss c [] n
+  enter-other c [] n = ap (atPlace p) (enter-none c) ∙ at-miss c [] n
   enter-other c (e ∷ m) n = elim (tri (keyOf c) (keyOf e)) [
     | less q ↦ ap (atPlace p) (enter-less c e m q) ∙ at-miss c (e ∷ m) n
     | same q ↦ ap (atPlace p) (enter-same c e m q) ∙ at-miss (joined e c) m (λ r. n (r ∙ key-joined e c ∙ sym q)) ∙ sym (at-miss e m (λ r. n (r ∙ sym q)))
@@ -59,7 +55,7 @@ module _ (p : ℕ) where
 
   enter-here : (c : Change) (m : List Change) → p ≡ keyOf c → Ordered m → atPlace p (enter c m) ≡ onto (atPlace p m) (c ∷ [])
   unfolding onto firstLast folded Ordered
-  enter-here c [] n o = ap (atPlace p) (lone c) ∙ at-hit c [] n ∙ ap (λ (x : List Change). c ∷ x) at-none ∙ sym (ap (λ (x : List Change). onto x (c ∷ [])) at-none)
+  enter-here c [] n o = ap (atPlace p) (enter-none c) ∙ at-hit c [] n ∙ ap (λ (x : List Change). c ∷ x) at-none ∙ sym (ap (λ (x : List Change). onto x (c ∷ [])) at-none)
   enter-here c (e ∷ m) n o = elim (tri (keyOf c) (keyOf e)) [
     | less q ↦ (let z : atPlace p (e ∷ m) ≡ [] = at-miss e m (λ r. omega arith) ∙ at-above m (all-map (λ f k. omega arith) m (o .0)) in
         ap (atPlace p) (enter-less c e m q) ∙ at-hit c (e ∷ m) n ∙ ap (λ (x : List Change). c ∷ x) z ∙ sym (ap (λ (x : List Change). onto x (c ∷ [])) z))
@@ -108,7 +104,7 @@ module _ (p : ℕ) where
 
 enter-last : (c : Change) (m : List Change) → All (λ e. keyOf e < keyOf c) m → enter c m ≡ m ++ (c ∷ [])
 unfolding All
-enter-last c [] a = lone 0 c
+enter-last c [] a = enter-none c
 enter-last c (e ∷ m) a = enter-more c e m (a .0) ∙ ap (λ (x : List Change). e ∷ x) (enter-last c m (a .1))
 
 below : (m : List Change) (c : Change) (cs : List Change) → Ordered (m ++ (c ∷ cs)) → All (λ e. keyOf e < keyOf c) m

@@ -1,5 +1,5 @@
 -- A loop that copies the front of a list over the front of a buffer. Assumes nothing.
-use Prim.Native.Nat.{ℕ, zero, suc, _+_, _%_, _≤_, _<_, _^_}
+use Prim.Native.Nat.{ℕ, _+_, _%_, _≤_, _<_, _^_}
 use mathlib.Core.Path.{_≡_, refl, sym, ap, _∙_}
 use mathlib.Core.List.{List, [], _∷_, map}
 use native.Mathlib.Omega.{arith}
@@ -14,6 +14,7 @@ use mir.ValLaws.{ofZ-fits, toZ-ofZ}
 use Rattle.ints.proofs.Back.{by-value}
 use lib.Seq.{take-suc, take-all, take-at, length-take-le, take-set-lt, take-set-le, set-out}
 use Rattle.lists.specs.Lists.{over}
+use Rattle.lists.proofs.Mapped.{map-set}
 use Rattle.changes.specs.Order.{All}
 use Rattle.changes.specs.Between.{laidOut}
 use Rattle.changes.proofs.Order.{all-at}
@@ -90,11 +91,6 @@ module _ (l : List ℤ) (o₀ : List ℕ) where
           rw front (bits-back l (all-at (SFits w16) (pos 0) l (λ j q. c .fits j (omega arith))))
 
 -- ---- an index painted in a picture that is laid out
-pub map-set : {A B : Type 0} (f : A → B) (l : List A) (i : ℕ) (a : A) → map f (set l i a) ≡ set (map f l) i (f a)
-map-set f [] i a = refl
-map-set f (x ∷ l) zero a = refl
-map-set f (x ∷ l) (suc i) a = ap (λ r. f x ∷ r) (map-set f l i a)
-
 pub laid-set : (n : ℕ) (s : List ℕ) (p : ℕ) (z : ℤ) → SFits w16 z → laidOut n (set s p (ofZ w16 z)) ≡ set (laidOut n s) p z
 unfolding laidOut
 laid-set n s p z f =

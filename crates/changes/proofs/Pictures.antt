@@ -15,6 +15,7 @@ use borrow.Author.Tests.{ne-eqb}
 use Rattle.ints.specs.Ints.{eqZ}
 use Rattle.lists.specs.Lists.{some}
 use Rattle.lists.proofs.Nowhere.{or-both}
+use Rattle.ints.proofs.Back.{eqZ-same}
 use Rattle.edits.specs.Change.{Change, place, painted, newOf}
 use Rattle.edits.specs.Checks.{named}
 use Rattle.edits.proofs.Painting.{painted-length, painted-keeps}
@@ -23,7 +24,7 @@ use Rattle.changes.specs.Order.{All}
 use Rattle.changes.specs.Laws.{On, FirstOlds, Ordered}
 use Rattle.changes.specs.Between.{betweenFrom, between}
 use Rattle.changes.proofs.Order.{all-map}
-use Rattle.changes.proofs.Shortest.{eqZ-same, unchanged, normal-ordered, normal-changing, inside, normal-on, normal-olds, same-picture}
+use Rattle.changes.proofs.Shortest.{unchanged, normal-ordered, normal-changing, inside, normal-on, normal-olds, same-picture}
 
 -- one list painted after the other
 pub painted-append : (w : ℕ) (a b : List Change) (l : List ℤ) → painted newOf w (a ++ b) l ≡ painted newOf w b (painted newOf w a l)

@@ -1,5 +1,5 @@
 -- The changes between two pictures, row by row, in numbers. Assumes nothing.
-use Prim.Native.Nat.{ℕ, zero, suc, _+_, _-_, _*_, _/_, _%_, _≤_, _<_, _^_}
+use Prim.Native.Nat.{ℕ, suc, _+_, _-_, _*_, _/_, _%_, _≤_, _<_, _^_}
 use mathlib.Core.Path.{_≡_, refl, sym, ap, _∙_}
 use mathlib.Core.Bool.{Bool, true, false, cond}
 use mathlib.Core.List.{List, [], _∷_, _++_, map, append-assoc, append-nil}
@@ -16,6 +16,7 @@ use mir.Syntax.{w16}
 use lib.Signed.{mag}
 use mir.Val.{Fits, SFits, toZ, ofZ, hbits}
 use mir.ValLaws.{ofZ-toZ, toZ-fits}
+use Rattle.lists.proofs.Mapped.{map-take}
 use Rattle.ints.specs.Ints.{eqZ}
 use Rattle.ints.proofs.Back.{eq-back, by-value}
 use Rattle.edits.specs.Change.{packed}
@@ -80,11 +81,6 @@ row-splits w y l vs h k f =
     let lr : length row ≡ w = length-take-le w (drop (y * w) l) (omega (arith, length-drop (y * w) l)) in
     rw (take-append-drop w (drop (y * w) l), lr, zero-add, add-zero (y * w), add-zero (y * 2 ^ 16), drop-drop w (y * w) l, drop-drop w (y * w) vs)
     at (row-between w y 0 row (drop w (drop (y * w) l)) (drop (y * w) vs) (omega (arith, lr, length-drop (y * w) vs)) (omega (arith, lr)) f)
-
-map-take : {A B : Type 0} (f : A → B) (n : ℕ) (l : List A) → map f (take n l) ≡ take n (map f l)
-map-take f zero l = refl
-map-take f (suc n) [] = refl
-map-take f (suc n) (x ∷ l) = ap (λ r. f x ∷ r) (map-take f n l)
 
 -- more bits than there are indices
 pub between-take : (w p : ℕ) (l m : List ℤ) → betweenFrom w p l m ≡ betweenFrom w p l (take (length l) m)

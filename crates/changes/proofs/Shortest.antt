@@ -8,30 +8,23 @@ use native.Mathlib.Omega.{arith}
 use native.Mathlib.Decide.{decLt}
 use native.Mathlib.Nat.{mul-comm, le-of-suc-le-suc, not-suc-le-zero}
 use lib.Arith.{digits-lt, digits-div, digits-mod}
-use lib.IntN.{ℤ, pos, negsuc}
+use lib.IntN.{ℤ, pos}
 use lib.ListN.{length, getD, set}
 use lib.Seq.{getD-set-other, set-getD, set-set, set-comm}
-use borrow.Author.Tests.{leb-false, eq-eqb, not-true, not-false}
+use borrow.Author.Tests.{leb-false, not-true, not-false}
 use Rattle.edits.specs.Change.{Change, place, outside, painted, newOf}
 use Rattle.ints.specs.Ints.{eqZ}
 use lib.Dec.{leb}
 use Rattle.lists.specs.Lists.{some}
 use Rattle.lists.proofs.Scan.{or-left, or-right}
 use Rattle.lists.proofs.Nowhere.{first-not, rest-not}
-use Rattle.ints.proofs.Back.{same-index}
+use Rattle.ints.proofs.Back.{eqZ-same, same-index}
 use Rattle.edits.proofs.Painting.{painted-length}
 use Rattle.changes.specs.Normal.{keyOf, joined, enter, entered, kept, changing, normalizeOf}
 use Rattle.changes.specs.Order.{All}
 use Rattle.changes.specs.Laws.{On, FirstOlds, Ordered, differing}
 use Rattle.changes.proofs.Order.{less, same, more, tri, all-map}
 use Rattle.changes.proofs.Group.{enter-less, enter-same, enter-more, key-joined}
-
--- ---- indices compared
-
-pub eqZ-same : (a : ℤ) → eqZ a a ≡ true
-unfolding eqZ
-eqZ-same (pos a) = eq-eqb a a refl
-eqZ-same (negsuc a) = eq-eqb a a refl
 
 -- ---- places at which pictures differ
 

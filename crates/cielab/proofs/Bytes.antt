@@ -1,12 +1,12 @@
 -- The LAB of a colour of bytes is finite, and its numbers are doubles of 64 bits: on the definitions alone. Assumes nothing.
 use mathlib.Core.Path.{_≡_, refl, sym, subst}
 use mathlib.Core.Bool.{Bool, true, false}
-use Prim.Native.Nat.{ℕ, _+_, _*_, _^_, _≤_, _<_}
+use Prim.Native.Nat.{ℕ, _+_, _*_, _^_, _≤_}
 use native.Mathlib.Nat.{le-trans, le-of-eq, mul-le-mul}
 use native.Mathlib.Omega.{arith}
 use borrow.Author.Tests.{le-ltb}
 use lib.Dec.{T, lit≤}
-use lib.Ieee.{Float, binary64, ofBits, toBits, round, lt, fits}
+use lib.Ieee.{Float, binary64, toBits, lt, fits}
 use lib.Ieee.Fits.{sub-fits, mul-fits}
 use Rattle.limits.specs.declared.Rgb.{Rgb}
 use Rattle.cielab.specs.Arithmetic.{decimal}
@@ -14,7 +14,7 @@ use Rattle.cielab.specs.NearestDouble.{unitsOf, aboveMiddle, nearestDoub
 use Rattle.cielab.specs.CubeRoot.{inRootRange, rootOf, rootPattern}
 use Rattle.cielab.specs.Curve.{linearRgb}
 use Rattle.cielab.specs.Range.{AtMost}
-use Rattle.cielab.specs.Convert.{labF, xOf, yOf, zOf, labFrom, labOfLinear, labOf, LinearValues, FiniteLab}
+use Rattle.cielab.specs.Convert.{labF, labFrom, labOfLinear, labOf, LinearValues, FiniteLab}
 use Rattle.cielab.proofs.Floats.{range-bits}
 use Rattle.cielab.proofs.Units.{units-mono}
 use Rattle.cielab.proofs.NearestDouble.{at-most}

@@ -9,8 +9,4 @@ pub mod Order
 pub mod Magnitude
 pub mod Range
 pub mod OwnDifference
-pub mod Halves
-pub mod Parts
-pub mod Distances
-pub mod FirstNearest
 pub mod Bytes

@@ -6,4 +6,3 @@ pub mod CubeRoot
 pub mod Cubes
 pub mod Convert
 pub mod Finite
-pub mod Nearest

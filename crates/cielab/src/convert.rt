@@ -5,7 +5,6 @@ use crate::curve::linear_rgb_in;
 use limits::Lab;
 use limits::Rgb;
 ghost use mathlib.Core.Path.{_≡_};
-ghost use lib.Dec.{T};
 ghost use Rattle.cielab.specs.Curve.{linearTable};
 ghost use Rattle.cielab.specs.Convert.{labF, rowOf, labOfLinear, labOf, LinearValues, Converted};
 ghost use Rattle.cielab.specs.Range.{AtMost, Bounded};

@@ -5,7 +5,7 @@
 ghost use mathlib.Core.Path.{_≡_};
 ghost use mathlib.Core.Bool.{true};
 ghost use lib.Dec.{T};
-ghost use Prim.Native.Nat.{ℕ, _+_, _*_, _^_, _<_, _≤_};
+ghost use Prim.Native.Nat.{_+_, _*_, _^_, _<_, _≤_};
 ghost use Rattle.cielab.specs.CubeRoot.{inRootRange, RootFound, Rooted};
 ghost use Rattle.cielab.specs.Cubes.{cube, target, top, NearestRoot, Digits};
 

@@ -5,7 +5,7 @@
 use crate::LinearRgb;
 use limits::Rgb;
 ghost use mathlib.Core.Path.{_≡_};
-ghost use Rattle.cielab.specs.Curve.{linearOf, linearTable, linearRgb, Linear};
+ghost use Rattle.cielab.specs.Curve.{linearTable, linearRgb, Linear};
 ghost use Rattle.cielab.specs.Convert.{LinearValues};
 
 // The linear values of the bytes from 11 to 255.

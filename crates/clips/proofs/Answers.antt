@@ -9,7 +9,7 @@ use lib.ListN.{length}
 use Rattle.limits.specs.Checks.{Check, firstOf, refusedOr}
 use Rattle.limits.specs.Answer.{filled}
 use Rattle.limits.specs.declared.Counted.the-variants as counted
-use Rattle.limits.proofs.First.{first-past, first-here, refused-first}
+use Rattle.limits.proofs.First.{no-zero, first-past, first-here, refused-first}
 use Rattle.lists.specs.Lists.{over}
 use Rattle.sheet.specs.Sheet.{Sheet}
 use Rattle.sheet.specs.Checks.{sheetChecks, WellFormed, Judged}
@@ -23,9 +23,6 @@ use Rattle.clips.specs.declared.Copied.the-variants as copied
 use Rattle.clips.specs.Clips.{clipped, clipOf, fromRows, indexOf, copyOf, rgbaOf, clipChecks, clipRgbaOf}
 use Rattle.clips.specs.Snap.{snapAt, imageChecks, snapRgbaOf}
 use Rattle.clips.proofs.Rows.{from-length}
-
-no-zero : {n : ℕ} → 0 < n → n ≡ 0 → ⊥
-no-zero h e = omega arith
 
 -- ---- a clip
 module _ (cs : List Check) (w h : ℕ) (indices out : List ℤ) where

@@ -8,7 +8,7 @@ use lib.Ieee.{Float}
 use lib.ListN.{getD, set, replicate}
 use Rattle.limits.specs.declared.Rgb.{Rgb}
 use Rattle.cielab.specs.Convert.{labOf}
-use Rattle.cielab.proofs.Parts.{nearest-within}
+use Rattle.distances.proofs.Parts.{nearest-within}
 use Rattle.clips.specs.Snap.{entryOf}
 use Rattle.clips.specs.Cache.{rgbOf, Numbered, slotOk, allOk}
 

@@ -11,7 +11,7 @@ use Rattle.limits.specs.Numbers.{badClip, shortPixels}
 use Rattle.limits.specs.Checks.{Check, _when_}
 use Rattle.limits.specs.declared.Rgb.{Rgb}
 use Rattle.cielab.specs.Convert.{labOf}
-use Rattle.cielab.specs.Nearest.{nearestOf}
+use Rattle.distances.specs.Nearest.{nearestOf}
 use Rattle.sheet.specs.Sheet.{Sheet}
 use Rattle.sheet.specs.Checks.{sheetChecks}
 use Rattle.selection.specs.Selection.{all, positions}

@@ -5,7 +5,7 @@
 // would be computed. The curve's table is made once.
 use crate::Copied;
 use cielab::lab_in;
-use cielab::nearest_in;
+use distances::nearest_in;
 use ints::min_usize;
 use limits::BAD_CLIP;
 use limits::MAX_SIDE;

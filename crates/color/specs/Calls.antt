@@ -14,7 +14,7 @@ use Rattle.lists.specs.Lists.{some}
 use Rattle.cielab.specs.NearestDouble.{unitsOf, NoneNearer}
 use Rattle.cielab.specs.CubeRoot.{inRootRange, rootOf}
 use Rattle.cielab.specs.Finite.{unfit, unfitTriple}
-use Rattle.cielab.specs.Nearest.{nearestOf, FirstNearest}
+use Rattle.distances.specs.Nearest.{nearestOf, FirstNearest}
 use Rattle.color.specs.declared.Root.{Root}
 use Rattle.color.specs.declared.Root.the-variants as root
 use Rattle.color.specs.declared.Found.{Found}

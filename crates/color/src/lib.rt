@@ -12,7 +12,7 @@ use limits::UNFIT_LAB;
 ghost use mathlib.Core.Path.{_≡_};
 ghost use Rattle.cielab.specs.Curve.{Linear};
 ghost use Rattle.cielab.specs.Convert.{labOf, Converted};
-ghost use Rattle.cielab.specs.Nearest.{dist2Of};
+ghost use Rattle.distances.specs.Nearest.{dist2Of};
 ghost use Rattle.color.specs.Calls.{CubeRoot, NearestEntry};
 
 // What `cbrt` answers.
@@ -59,7 +59,7 @@ pub fn rgb8_to_lab(rgb: Rgb) -> Lab
 pub fn dist2(p: Lab, q: Lab) -> f64
     ensures { λ r. ⌜ r ≡ dist2Of p q ⌝ }
 {
-    cielab::dist2(p, q)
+    distances::dist2(p, q)
 }
 
 // The nearest of the first k entries of a LAB storage, the first of them where several are. A k or a
@@ -84,6 +84,6 @@ pub fn nearest_index(target: Lab, lab: &[f64], k: usize) -> Found
     if k == 0 {
         return Found::Refused(NO_SUCH_ENTRY);
     }
-    let near = cielab::nearest_in(target, lab, k);
+    let near = distances::nearest_in(target, lab, k);
     Found::Entry(near.entry)
 }

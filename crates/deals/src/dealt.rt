@@ -1,6 +1,6 @@
 // Inputs, dealt from a seed: a fixed sequence of numbers, and what is picked by them.
 ghost use mathlib.Core.Path.{_≡_};
-ghost use Prim.Native.Nat.{_≤_, _<_};
+ghost use Prim.Native.Nat.{_<_};
 ghost use lib.ListN.{length};
 
 // The next number of the sequence.

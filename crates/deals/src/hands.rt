@@ -11,11 +11,8 @@ use crate::dealt::selection;
 use crate::dealt::side;
 use crate::dealt::width;
 
-// Two places, near the sheet, with coordinates that may be far; a place from 0 on; a selection or all; two indices, two
-// entries and a brush; the sides of a picture of six pixels, of a baseline, and of any picture; a margin; whether there is
-// a list of colours; an edit's kind, tool and byte; a radicand; a place in a journal, where a byte may be changed; and the
-// seeds of lists.
-pub struct Hand {
+// Two places, near the sheet, with coordinates that may be far; a place from 0 on; a selection or all.
+pub struct Spot {
     pub x: i32,
     pub y: i32,
     pub far_y: i32,
@@ -26,11 +23,25 @@ pub struct Hand {
     pub down: usize,
     pub whole: bool,
     pub s: [u16; 4],
+}
+
+// Two indices, two entries and a brush; whether there is a list of colours; an edit's kind, tool and byte; a radicand.
+pub struct Choice {
     pub index: i16,
     pub other: i16,
     pub from: usize,
     pub into: usize,
     pub size: usize,
+    pub limited: bool,
+    pub even: bool,
+    pub kind: u8,
+    pub tool: u8,
+    pub byte: u8,
+    pub radicand: f64,
+}
+
+// The sides of a picture of six pixels, of a baseline, and of any picture; a margin.
+pub struct Sides {
     pub w: usize,
     pub h: usize,
     pub base_w: usize,
@@ -39,12 +50,10 @@ pub struct Hand {
     pub wide: usize,
     pub high: usize,
     pub margin: usize,
-    pub limited: bool,
-    pub even: bool,
-    pub kind: u8,
-    pub tool: u8,
-    pub byte: u8,
-    pub radicand: f64,
+}
+
+// A place in a journal, where a byte may be changed, and the seeds of lists.
+pub struct Seeds {
     pub at: usize,
     pub hit: bool,
     pub place: usize,
@@ -53,6 +62,13 @@ pub struct Hand {
     pub event: u64,
     pub colour: u64,
     pub listed: u64,
+}
+
+pub struct Hand {
+    pub spot: Spot,
+    pub choice: Choice,
+    pub sides: Sides,
+    pub seeds: Seeds,
 }
 
 // The seed of a colour: the palette's first, or another.
@@ -106,8 +122,8 @@ fn start(d: &[u64; 32]) -> usize {
     }
 }
 
-pub fn deal(d: &[u64; 32]) -> Hand {
-    Hand {
+fn deal_spot(d: &[u64; 32]) -> Spot {
+    Spot {
         x: coordinate(d[19]),
         y: near(d[20]),
         far_y: coordinate(d[20]),
@@ -118,25 +134,41 @@ pub fn deal(d: &[u64; 32]) -> Hand {
         down: pick(d[20], 8),
         whole: once_in(d[14], 3),
         s: selection(d),
+    }
+}
+
+fn deal_choice(d: &[u64; 32]) -> Choice {
+    Choice {
         index: index(d[23]),
         other: index(d[31]),
         from: pick(d[20], 4),
         into: pick(d[21], 4),
         size: pick(d[24], 5),
-        w: width(d[21]),
-        h: height(d[21]),
-        base_w: width(base_size(d)),
-        base_h: height(base_size(d)),
-        base_k: pick(d[31], 4),
-        wide: side(d[8]),
-        high: side(d[9]),
-        margin: margin(d[21]),
         limited: once_in(d[28], 3),
         even: once_in(d[26], 2),
         kind: kind(d[23]),
         tool: byte(d[24]),
         byte: byte(d[25]),
         radicand: radicand(d[12]),
+    }
+}
+
+fn deal_sides(d: &[u64; 32]) -> Sides {
+    let size = base_size(d);
+    Sides {
+        w: width(d[21]),
+        h: height(d[21]),
+        base_w: width(size),
+        base_h: height(size),
+        base_k: pick(d[31], 4),
+        wide: side(d[8]),
+        high: side(d[9]),
+        margin: margin(d[21]),
+    }
+}
+
+fn deal_seeds(d: &[u64; 32]) -> Seeds {
+    Seeds {
         at: start(d),
         hit: once_in(d[29], 40),
         place: pick(d[30], 120),
@@ -145,5 +177,14 @@ pub fn deal(d: &[u64; 32]) -> Hand {
         event: d[24],
         colour: colour_seed(d),
         listed: listed_seed(d),
+    }
+}
+
+pub fn deal(d: &[u64; 32]) -> Hand {
+    Hand {
+        spot: deal_spot(d),
+        choice: deal_choice(d),
+        sides: deal_sides(d),
+        seeds: deal_seeds(d),
     }
 }

@@ -1,18 +1,16 @@
 -- The raw changes of a tool are on the sheet and have its indices as olds; so their normal form is what lies between the picture and the
 -- painted one. Assumes nothing.
 use mathlib.Core.Path.{_≡_, refl, ap, _∙_}
-use mathlib.Core.Bool.{Bool, true, false, cond, _&&_}
+use mathlib.Core.Bool.{Bool, true, false, cond}
 use mathlib.Core.List.{List, [], _∷_, flatMap}
 use Prim.Native.Nat.{ℕ, _+_, _*_, _≤_, _<_, _^_}
-use native.Mathlib.Omega.{arith}
-use borrow.Author.Tests.{ltb-true}
-use lib.Dec.{leb, ltb}
 use lib.IntN.{ℤ, pos, negsuc, natAbs}
 use lib.ListN.{length, getD}
+use Rattle.lists.proofs.Bools.{and-left, and-right}
 use Rattle.ints.proofs.Back.{never}
 use Rattle.selection.specs.declared.Selection.{Selection}
 use Rattle.selection.specs.Selection.{inSpan, contains, containsI}
-use Rattle.selection.proofs.Regions.{Within}
+use Rattle.selection.proofs.Regions.{Within, below-span}
 use Rattle.lines.specs.Line.{Point}
 use Rattle.edits.specs.Change.{Change, place}
 use Rattle.changes.specs.Order.{All}
@@ -21,21 +19,9 @@ use Rattle.changes.specs.Between.{between}
 use Rattle.changes.proofs.Order.{all-append}
 use Rattle.changes.proofs.Shortest.{first-olds}
 use Rattle.changes.proofs.Pictures.{normal-between}
-use Rattle.drawing.specs.Points.{changeAt, changesAt, drawn}
-use Rattle.drawing.specs.Places.{setAll, placesOf}
-use Rattle.drawing.proofs.Painted.{painted-places}
-
-and-left : (a b : Bool) → a && b ≡ true → a ≡ true
-and-left true b e = refl
-and-left false b e = e
-
-and-right : (a b : Bool) → a && b ≡ true → b ≡ true
-and-right true b e = e
-and-right false b e = never e
-
-below-span : (start count at side : ℕ) → start + count ≤ side → inSpan start count at ≡ true → at < side
-unfolding inSpan
-below-span start count at side h e = omega (arith, ltb-true at (start + count) (and-right (leb start at) (ltb at (start + count)) e))
+use Rattle.brushes.specs.Points.{changeAt, changesAt, drawn}
+use Rattle.brushes.specs.Places.{setAll, placesOf}
+use Rattle.brushes.proofs.Painted.{painted-places}
 
 module _ (w h : ℕ) (l : List ℤ) (region : Selection) (inside : Within region w h) (z : ℤ) where
   abbrev olds : Change → Type 0

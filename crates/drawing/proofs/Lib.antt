@@ -1,9 +1,2 @@
-pub mod Painted
-pub mod Clipping
-pub mod Edges
-pub mod Fitting
-pub mod Frames
 pub mod Drawn
 pub mod Staging
-pub mod Stamps
-pub mod Paths

@@ -30,10 +30,10 @@ use Rattle.edits.specs.Change.{Change, packed}
 use Rattle.changes.specs.Between.{between, laidOut}
 use Rattle.changes.specs.Listed.{handed, listed}
 use Rattle.drawing.specs.declared.Stage.the-variants.{Canvas, Refused}
-use Rattle.drawing.specs.Points.{drawn}
-use Rattle.drawing.specs.Places.{setAll, placesOf}
+use Rattle.brushes.specs.Points.{drawn}
+use Rattle.brushes.specs.Places.{setAll, placesOf}
 use Rattle.drawing.specs.Calls.{drawChecks, stageOf}
-use Rattle.drawing.proofs.Painted.{laid-all}
+use Rattle.brushes.proofs.Painted.{laid-all}
 use Rattle.drawing.proofs.Drawn.{drawn-between}
 
 -- a region that is not refused is inside

@@ -1,9 +1,9 @@
 // The calls: their checks, and the picture laid out, painted and compared.
 use crate::Stage;
-use crate::brush::clamp;
-use crate::brush::paint_path;
-use crate::brush::paint_two;
-use crate::frame::paint_rectangle;
+use brushes::clamp;
+use brushes::paint_path;
+use brushes::paint_rectangle;
+use brushes::paint_two;
 use changes::copy_out;
 use changes::count_of;
 use changes::counted;
@@ -35,7 +35,8 @@ ghost use Rattle.lines.specs.Line.{point, farPoint};
 ghost use Rattle.edits.specs.Change.{packed};
 ghost use Rattle.changes.specs.Between.{between, laidOut};
 ghost use Rattle.changes.specs.Listed.{handed, countOf, InScratch};
-ghost use Rattle.drawing.specs.Calls.{leaves, stageOf, cornerChecks, pointChecks, pencilCall, eraserCall, lineCall, rectangleCall};
+ghost use Rattle.brushes.specs.Given.{cornerChecks, pointChecks};
+ghost use Rattle.drawing.specs.Calls.{leaves, stageOf, pencilCall, eraserCall, lineCall, rectangleCall};
 
 // The region to draw in, or the number of the first of 1 to 3, `no`, 5 and the scratch's 16 that applies; `no`
 // is what the points are refused with, or 0.

@@ -3,10 +3,7 @@
 //
 // The picture is laid out in the scratch and painted there, clipped to the selection first; then the places that
 // differ are the changes. So the raw list of the Rust, which may be far longer than the sheet, is never made.
-mod brush;
 mod calls;
-mod frame;
-mod paint;
 
 pub use calls::eraser;
 pub use calls::eraser_in;
@@ -17,19 +14,6 @@ pub use calls::pencil_in;
 pub use calls::rectangle;
 pub use calls::rectangle_in;
 use selection::Selection;
-
-// The places of one axis that are painted: count of them from start on.
-pub(crate) struct Run {
-    pub start: usize,
-    pub count: usize,
-}
-
-// The columns of a rectangle: all of them, the first, and the last where it is another.
-pub(crate) struct Columns {
-    pub all: Run,
-    pub left: Run,
-    pub right: Run,
-}
 
 // What the checks leave: the region to draw in, or their number.
 pub(crate) enum Stage {

@@ -1,6 +1,6 @@
 -- What an accepted push writes: what the record writer asks of it, and the state that it leaves. Assumes nothing.
 use mathlib.Core.Path.{_≡_, refl, ap, ap₂, _∙_}
-use mathlib.Core.Bool.{Bool, true, false, not}
+use mathlib.Core.Bool.{Bool, false, not}
 use mathlib.Core.List.{List, map}
 use Prim.Native.Nat.{ℕ, _+_, _-_, _*_, _≤_, _<_}
 use native.Mathlib.Omega.{arith}
@@ -14,7 +14,7 @@ use Rattle.limits.specs.declared.Answer.the-variants.{Done}
 use Rattle.lists.specs.Lists.{over}
 use Rattle.lists.proofs.Scan.{some-none}
 use Rattle.cielab.specs.Finite.{unfit}
-use Rattle.cielab.specs.Nearest.{labAt}
+use Rattle.distances.specs.Nearest.{labAt}
 use Rattle.cielab.specs.Convert.{labOf}
 use Rattle.sheet.specs.Sheet.{Sheet}
 use Rattle.sheet.specs.Checks.{WellFormed}
@@ -26,10 +26,10 @@ use Rattle.edits.proofs.Passed.{Passed, passed}
 use Rattle.apply.specs.Redoable.{Unrefused}
 use Rattle.pixels.proofs.Inside.{none-past}
 use Rattle.records.specs.Bytes.{splice}
-use Rattle.records.specs.Fit.{Numbers, Writable, rowsOf}
+use Rattle.writing.specs.Fit.{Numbers, Writable, rowsOf}
 use Rattle.records.specs.Record.{recordLength, recordOf}
 use Rattle.records.proofs.Splice.{splice-lent}
-use Rattle.records.proofs.OnTheSheet.{rows-fill}
+use Rattle.writing.proofs.OnTheSheet.{rows-fill}
 use Rattle.ledger.specs.declared.Handle.{Handle}
 use Rattle.ledger.specs.Handle.{afterPush}
 use Rattle.ledger.specs.Calls.{done}

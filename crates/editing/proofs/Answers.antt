@@ -18,7 +18,7 @@ use Rattle.sheet.specs.Checks.{permittedChecks, Judged}
 use Rattle.ledger.specs.declared.Handle.{Handle}
 use Rattle.ledger.specs.Calls.{refused, still, done, group}
 use Rattle.ledger.specs.Handle.{sound}
-use Rattle.ledger.specs.Journal.{State, unsound, moveChecks, entryChecks, pushChecks, pushed, pushOf}
+use Rattle.ledger.specs.Journal.{State, unsound, entryChecks, pushChecks, pushed, pushOf}
 use Rattle.editing.specs.Editing.{Given, editing}
 use Rattle.editing.specs.declared.Moved.{Moved}
 use Rattle.editing.specs.Calls.{stateOf, leaves, Moves, Enters, Pushes}

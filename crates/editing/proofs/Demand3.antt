@@ -16,7 +16,7 @@ use Rattle.edits.specs.declared.Edit.{Edit}
 use Rattle.edits.specs.Change.{unpacked}
 use Rattle.edits.specs.Storage.{numbersOf}
 use Rattle.edits.specs.Accepted.{NewBytes}
-use Rattle.records.specs.Fit.{FitChange, FitChanges}
+use Rattle.writing.specs.Fit.{FitChange, FitChanges}
 use Rattle.sheet.specs.Sheet.{view}
 use Rattle.ledger.proofs.Whole.{whole-history}
 use Rattle.ledger.proofs.Full.{full-exactly}

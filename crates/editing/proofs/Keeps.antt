@@ -1,24 +1,22 @@
 -- Document 01's sheet, edits and records keep the laws that demand 3 asks of an algebra, for every curve that gives finite doubles. Assumes nothing.
-use mathlib.Core.Path.{_≡_, refl, sym, ap, subst, _∙_}
-use mathlib.Core.Bool.{Bool, true, false, not, _&&_}
+use mathlib.Core.Path.{_≡_, refl, sym, ap, _∙_}
+use mathlib.Core.Bool.{Bool, true, false, not}
 use mathlib.Core.List.{List, [], _∷_, _++_, flatMap}
 use mathlib.Core.Option.{some}
-use Prim.Native.Nat.{ℕ, zero, suc, _+_, _*_, _≤_, _<_}
+use Prim.Native.Nat.{ℕ, suc, _+_, _*_, _≤_}
 use native.Mathlib.Omega.{arith}
 use borrow.Author.Tests.{le-ltb, lt-leb, eq-eqb, eqb-true, ltb-false, le-leb}
-use lib.Dec.{T, ltb, leb, eqb}
+use lib.Dec.{ltb, leb}
 use lib.Ieee.{Float, binary64, fits}
-use lib.ListN.{length, take, length-map}
+use lib.ListN.{length, length-map}
 use lib.Seq.{length-take-le}
 use Rattle.limits.specs.Limits.{maxChanges}
-use Rattle.limits.specs.Numbers.{journalFull, stillUsed}
+use Rattle.limits.specs.Numbers.{journalFull}
 use Rattle.limits.specs.Checks.{Check, firstOf}
 use Rattle.limits.specs.declared.Rgb.{Rgb}
 use Rattle.limits.specs.declared.Lab.{Lab}
 use Rattle.lists.specs.Lists as lists
-use Rattle.cielab.specs.Finite.{unfit}
-use Rattle.cielab.specs.Convert.{FiniteLab}
-use Rattle.sheet.specs.Sheet.{Sheet, Picture, view, stray}
+use Rattle.sheet.specs.Sheet.{Sheet, Picture, view}
 use Rattle.sheet.specs.Checks.{limitChecks, indexChecks, labChecks, permittedChecks, sheetChecks, WellFormed}
 use Rattle.sheet.proofs.Judging.{none-applied, judged-fine}
 use Rattle.edits.specs.declared.Edit.{Edit}
@@ -35,14 +33,15 @@ use Rattle.edits.proofs.Reverted.{reverted-view}
 use Rattle.edits.proofs.Again.{filled-bytes, redo-again}
 use Rattle.edits.proofs.Shown.{checks-shown}
 use Rattle.edits.proofs.Typed as typed
-use Rattle.records.specs.Fit.{Fit}
+use Rattle.writing.specs.Fit.{Fit}
 use Rattle.records.specs.Record.{recordLength, recordOf, readForth, readBack}
-use Rattle.records.proofs.Lengths.{length-record}
-use Rattle.records.proofs.ReadAgain.{read-forth, read-back}
+use Rattle.records.proofs.Finding.{size-least}
+use Rattle.writing.proofs.Lengths.{length-record}
+use Rattle.writing.proofs.ReadAgain.{read-forth, read-back}
 use Rattle.recorded.specs.Sound.{undoable, anyColour, redoable}
 use Rattle.ledger.specs.Algebra as algebra
 use Rattle.ledger.specs.Laws.{Accepts, Reads, Laws}
-use Rattle.editing.specs.Editing.{Given, TypedSheet, TypedGiven, pictureChecks, tooLong, undoneBy, redoneBy, editingBy}
+use Rattle.editing.specs.Editing.{Given, TypedSheet, pictureChecks, tooLong, undoneBy, redoneBy, editingBy}
 use Rattle.editing.proofs.Recordable.{ownList, own-length, recordable, own-record}
 
 -- ---- a picture of a well-formed sheet
@@ -111,13 +110,6 @@ own-picture curve p (Pixels tool) cs = refl
 own-picture curve p (PaletteSet i old new lab) cs = refl
 own-picture curve p (PaletteAdd c) cs = refl
 own-picture curve p (PaletteRemove i c lab) cs = refl
-
-size-least : (e : Edit) (n : ℕ) → 8 ≤ recordLength e n
-unfolding recordLength
-size-least (Pixels tool) n = omega arith
-size-least (PaletteSet i old new lab) n = omega arith
-size-least (PaletteAdd c) n = omega arith
-size-least (PaletteRemove i c lab) n = omega arith
 
 next-places : (curve : Rgb → Lab) (p : Picture) (e : Edit) (cs : List Change) → (nextPicture curve p e cs .w * nextPicture curve p e cs .h) ≡ p .w * p .h
 unfolding nextPicture

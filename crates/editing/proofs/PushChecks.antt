@@ -1,5 +1,5 @@
 -- The checks of a push after "still", in order: 21, 16, its own, 14. Assumes nothing.
-use mathlib.Core.Path.{_≡_, refl, sym, _∙_}
+use mathlib.Core.Path.{_≡_, sym, _∙_}
 use mathlib.Core.Bool.{false}
 use mathlib.Core.List.{[], _∷_}
 use Prim.Native.Nat.{ℕ, _+_, _*_, _^_, _≤_, _<_}
@@ -17,9 +17,9 @@ use Rattle.edits.specs.declared.Edit.{Edit}
 use Rattle.edits.specs.declared.Edit.the-variants.{Pixels, PaletteSet, PaletteAdd, PaletteRemove}
 use Rattle.records.specs.Record.{recordLength}
 use Rattle.ledger.proofs.Soundness.{sound-facts}
-use Rattle.ledger.specs.Journal.{State, pushChecks}
+use Rattle.ledger.specs.Journal.{State}
 use Rattle.editing.specs.Editing.{Given, tooLong, editing}
-use Rattle.editing.specs.Calls.{Standing, Acceptable, Pushes}
+use Rattle.editing.specs.Calls.{Standing, Pushes}
 use Rattle.editing.proofs.Answers.{here}
 
 no-0 : (n : ℕ) → 0 < n → n ≡ 0 → ⊥

@@ -1,29 +1,26 @@
 -- An accepted push's record can be written and read: its numbers fit their bytes. Assumes nothing.
-use mathlib.Core.Path.{_≡_, refl, sym, ap, _∙_}
+use mathlib.Core.Path.{_≡_, refl}
 use mathlib.Core.Bool.{Bool, true, false, not}
 use mathlib.Core.List.{List, [], _∷_, map}
-use Prim.Native.Nat.{ℕ, zero, suc, _+_, _*_, _^_, _≤_, _<_}
+use Prim.Native.Nat.{ℕ, zero, suc, _^_, _≤_, _<_}
 use native.Mathlib.Omega.{arith}
-use borrow.Author.Needs.{sfits-of}
-use borrow.Author.Tests.{leb-false, ltb-false}
-use lib.Dec.{T, ltb, eqb}
-use lib.IntN.{ℤ, pos, negsuc}
+use borrow.Author.Tests.{ltb-false}
+use lib.Dec.{T}
 use lib.Ieee.{Float, nan, binary64, fits}
 use lib.Ieee.Fits.{nan-fits}
 use lib.ListN.{length, getD, length-map}
-use mir.Syntax.{w16}
-use mir.Val.{SFits}
 use Rattle.limits.specs.Limits.{maxChanges}
 use Rattle.lists.specs.Lists.{some}
 use Rattle.lists.proofs.Nowhere.{first-not, rest-not}
-use Rattle.cielab.specs.Nearest.{labAt}
-use Rattle.sheet.specs.Sheet.{Sheet, stray}
+use Rattle.distances.specs.Nearest.{labAt}
+use Rattle.sheet.specs.Sheet.{Sheet}
 use Rattle.sheet.specs.Checks.{WellFormed}
 use Rattle.edits.specs.declared.Edit.{Edit}
 use Rattle.edits.specs.declared.Edit.the-variants.{Pixels, PaletteSet, PaletteAdd, PaletteRemove}
 use Rattle.edits.specs.Change.{Change, place, filledIn}
 use Rattle.edits.specs.Apply.{noPixels, filledEdit, filledChanges}
-use Rattle.records.specs.Fit.{FitChange, FitChanges, FitLab, FitEdit, Fit}
+use Rattle.pixels.proofs.Fitting.{pixel-fits}
+use Rattle.writing.specs.Fit.{FitChanges, FitLab, FitEdit, Fit}
 use Rattle.records.specs.Record.{recordLength, recordOf, bodyOf}
 use Rattle.editing.specs.Editing.{TypedSheet, tooLong}
 
@@ -53,17 +50,6 @@ double-fits (v ∷ l) (suc n) e = double-fits l n (rest-not wide v l e)
 entry-fits : (s : Sheet) → TypedSheet s → (i : ℕ) → FitLab (labAt (s .lab) i)
 unfolding labAt
 entry-fits s t i = record { l-fits = double-fits (s .lab) _ (t .lab); a-fits = double-fits (s .lab) _ (t .lab); b-fits = double-fits (s .lab) _ (t .lab) }
-
-index-fits : (k : ℕ) (z : ℤ) → k ≤ 255 → stray k z ≡ false → SFits w16 z
-unfolding stray
-index-fits k (pos n) h e = sfits-of (omega (arith, leb-false k n e))
-index-fits k (negsuc zero) h e = sfits-of (omega arith)
-index-fits k (negsuc (suc n)) h e = absurd (let z : _≡_ {A = ℕ} 0 1 = cc in omega arith)
-
-pixel-fits : (k : ℕ) (l : List ℤ) (n : ℕ) → k ≤ 255 → some (stray k) l ≡ false → SFits w16 (getD l n (pos 0))
-pixel-fits k [] n h e = sfits-of (omega arith)
-pixel-fits k (z ∷ l) zero h e = index-fits k z h (first-not (stray k) z l e)
-pixel-fits k (z ∷ l) (suc n) h e = pixel-fits k l n h (rest-not (stray k) z l e)
 
 module _ (s : Sheet) (f : WellFormed s) (t : TypedSheet s) where
   -- ---- so do the olds that are filled in

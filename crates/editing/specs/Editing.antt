@@ -19,12 +19,11 @@ use Rattle.cielab.specs.Convert.{labOf}
 use Rattle.sheet.specs.Sheet.{Sheet, Picture, view, stray}
 use Rattle.sheet.specs.Checks.{permittedChecks, sheetChecks}
 use Rattle.edits.specs.declared.Edit.{Edit}
-use Rattle.edits.specs.declared.Edit.the-variants.{Pixels, PaletteSet, PaletteAdd, PaletteRemove}
 use Rattle.edits.specs.Change.{Change, unpacked}
 use Rattle.edits.specs.Checks.{Permitted, permittedOf, ownChecks, asSheet}
 use Rattle.edits.specs.Accepted.{NewBytes}
 use Rattle.edits.specs.Apply.{noPixels, filledEdit, filledChanges, redone, nextPicture, reverted}
-use Rattle.records.specs.Fit.{FitChanges}
+use Rattle.writing.specs.Fit.{FitChanges}
 use Rattle.records.specs.Record as records
 use Rattle.records.specs.Record.{recordLength, recordOf, readForth, readBack}
 use Rattle.recorded.specs.Sound.{undoable, redoable}

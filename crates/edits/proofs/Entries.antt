@@ -8,7 +8,7 @@ use lib.Ieee.{Float, nan}
 use lib.ListN.{length, take}
 use lib.Seq.{getD-take}
 use Rattle.limits.specs.Limits.{maxEntries, storage}
-use Rattle.cielab.specs.Nearest.{labAt}
+use Rattle.distances.specs.Nearest.{labAt}
 use Rattle.sheet.specs.Sheet.{Sheet}
 use Rattle.sheet.specs.Checks.{WellFormed}
 use Rattle.sheet.specs.Document.{rgbAt}

@@ -8,7 +8,7 @@ use lib.Ieee.{Float}
 use Rattle.limits.specs.declared.Rgb.{Rgb}
 use Rattle.limits.specs.declared.Lab.{Lab}
 use Rattle.lists.specs.Lists.{some}
-use Rattle.cielab.specs.Nearest.{labAt}
+use Rattle.distances.specs.Nearest.{labAt}
 use Rattle.sheet.specs.Sheet.{Sheet}
 use Rattle.sheet.specs.Checks.{WellFormed}
 use Rattle.sheet.specs.Document.{rgbAt}

@@ -1,4 +1,4 @@
-// The calls of `sheet`.
+// The calls of `sheet`, `tally` and `differences`.
 use crate::flat::tell_count;
 use crate::flat::tell_got;
 
@@ -64,7 +64,7 @@ pub extern "C" fn call_counts(
     out: &mut [u32],
     r: &mut [usize; 5],
 ) -> u8 {
-    tell_count(sheet::counts(w, h, k, palette, lab, indices, out), r)
+    tell_count(tally::counts(w, h, k, palette, lab, indices, out), r)
 }
 
 #[no_mangle]
@@ -84,7 +84,7 @@ pub extern "C" fn call_diff_mask(
     r: &mut [usize; 5],
 ) -> u8 {
     tell_count(
-        sheet::diff_mask(
+        differences::diff_mask(
             w,
             h,
             k,

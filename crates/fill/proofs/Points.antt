@@ -4,10 +4,11 @@ use mathlib.Core.Bool.{Bool, true, false, cond}
 use Prim.Native.Nat.{ℕ, _+_, _*_, _≤_, _<_}
 use native.Mathlib.Omega.{arith}
 use native.Mathlib.Nat.{mul-le-mul, le-refl, mul-comm, add-mul, one-mul}
-use borrow.Author.Tests.{leb-true, ltb-true}
+use borrow.Author.Tests.{leb-true}
 use lib.Dec.{leb}
 use lib.IntN.{ℤ, pos, negsuc}
 use Rattle.limits.specs.Checks.{firstOf, refusedOr}
+use Rattle.lists.proofs.Bools.{and-left, and-right}
 use Rattle.ints.specs.Ints.{far, fromZero}
 use Rattle.ints.proofs.Back.{never}
 use Rattle.selection.specs.declared.Selection.{Selection}
@@ -15,7 +16,7 @@ use Rattle.selection.specs.declared.Held.{Held}
 use Rattle.selection.specs.declared.Held.the-variants as held
 use Rattle.selection.specs.Selection.{inside, inSpan, contains, containsI}
 use Rattle.selection.specs.Calls.{farAway, containsIOf}
-use Rattle.flood.proofs.Reachable.{and-l, and-r}
+use Rattle.selection.proofs.Regions.{below-span}
 
 abbrev heldBy : Bool → Held
 heldBy b = cond b held.Inside held.Outside
@@ -47,11 +48,6 @@ module _ (s : Selection) (x y : ℤ) (p : far x ≡ false) (q : far y ≡ false)
       go true e = cc
       go false e = refl
 
--- a place of a span that ends in `side` is below it
-in-side : (start count at side : ℕ) → inSpan start count at ≡ true → start + count ≤ side → at < side
-unfolding inSpan
-in-side start count at side e h = omega (arith, ltb-true at (start + count) (and-r (leb start at) _ e))
-
 pub record OnSheet (w h : ℕ) (x y : ℤ) : Type 0 where
   pub column : fromZero x < w
   pub row : fromZero y < h
@@ -59,8 +55,8 @@ pub record OnSheet (w h : ℕ) (x y : ℤ) : Type 0 where
 pub on-sheet : (s : Selection) (x y : ℤ) (w h : ℕ) → containsI s x y ≡ true → inside s w h ≡ true → OnSheet w h x y
 unfolding containsI contains inside fromZero
 on-sheet s (pos x) (pos y) w h e i = record {
-  column = in-side (s .x) (s .w) x w (and-l (inSpan (s .x) (s .w) x) _ e) (leb-true (s .x + s .w) w (and-l (leb (s .x + s .w) w) _ i));
-  row = in-side (s .y) (s .h) y h (and-r (inSpan (s .x) (s .w) x) _ e) (leb-true (s .y + s .h) h (and-r (leb (s .x + s .w) w) _ i));
+  column = below-span (s .x) (s .w) x w (leb-true (s .x + s .w) w (and-left (leb (s .x + s .w) w) _ i)) (and-left (inSpan (s .x) (s .w) x) _ e);
+  row = below-span (s .y) (s .h) y h (leb-true (s .y + s .h) h (and-right (leb (s .x + s .w) w) _ i)) (and-right (inSpan (s .x) (s .w) x) _ e);
 }
 on-sheet s (pos x) (negsuc y) w h e i = never e
 on-sheet s (negsuc x) y w h e i = never e

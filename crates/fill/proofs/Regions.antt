@@ -4,9 +4,8 @@ use mathlib.Core.Bool.{Bool, true, false, not, cond}
 use mathlib.Core.List.{[], _∷_}
 use Prim.Native.Nat.{ℕ, _+_, _≤_}
 use native.Mathlib.Omega.{arith}
-use borrow.Author.Tests.{le-ltb, le-leb}
+use borrow.Author.Tests.{le-ltb, le-leb, not-false}
 use Rattle.limits.specs.Checks.{_when_, firstOf, refusedOr}
-use Rattle.ints.proofs.Back.{never}
 use Rattle.selection.specs.declared.Selection.{Selection}
 use Rattle.selection.specs.declared.Area.{Area}
 use Rattle.selection.specs.declared.Area.the-variants as area
@@ -61,8 +60,4 @@ module _ (a : Area) (w h : ℕ) (p : w ≤ 1024) (q : h ≤ 1024) where
 pub region-on : (a : Area) (w h : ℕ) → offSheet a w h ≡ false → inside (regionIn a w h) w h ≡ true
 unfolding offSheet regionIn inside all
 region-on area.Whole w h e = rw (le-leb (0 + w) w (omega arith), le-leb (0 + h) h (omega arith))
-region-on (area.Part s) w h e = go (inside s w h) e
-  where
-    go : (b : Bool) → not b ≡ false → b ≡ true
-    go true e = refl
-    go false e = never (sym e)
+region-on (area.Part s) w h e = not-false (inside s w h) e

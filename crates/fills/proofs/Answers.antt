@@ -1,18 +1,18 @@
 -- What the calls answer, by what their tests find. Assumes nothing.
 use mathlib.Core.Path.{_≡_, refl, sym, ap, _∙_}
-use mathlib.Core.Bool.{Bool, true, false, _&&_, cond}
+use mathlib.Core.Bool.{Bool, true, false, cond}
 use mathlib.Core.List.{List, [], map}
 use Prim.Native.Nat.{ℕ, _+_, _*_, _<_, _≤_}
 use native.Mathlib.Omega.{arith}
-use borrow.Author.Tests.{lt-ltb, le-ltb, ltb-true}
-use lib.Dec.{leb, ltb}
+use borrow.Author.Tests.{lt-ltb, le-ltb}
 use lib.IntN.{ℤ, pos, negsuc}
 use lib.ListN.{length, getD, length-map}
 use Rattle.limits.specs.Checks.{Check, firstOf, refusedOr}
 use Rattle.limits.specs.Answer.{filled}
 use Rattle.limits.specs.declared.Counted.the-variants as counted
-use Rattle.limits.proofs.First.{first-past, first-here, refused-first}
+use Rattle.limits.proofs.First.{no-zero, first-past, first-here, refused-first}
 use Rattle.lists.specs.Lists.{over}
+use Rattle.lists.proofs.Bools.{and-left, and-right}
 use Rattle.lists.proofs.Over.{over-none}
 use Rattle.ints.specs.Ints.{eqZ, far, fromZero}
 use Rattle.ints.proofs.Back.{never}
@@ -28,7 +28,7 @@ use Rattle.selection.specs.declared.Held.the-variants as held
 use Rattle.selection.specs.Selection.{inSpan, contains, containsI, positions}
 use Rattle.selection.specs.Calls.{farAway, containsIOf}
 use Rattle.selection.specs.Region.{regionChecks, regionIn}
-use Rattle.selection.proofs.Regions.{Within}
+use Rattle.selection.proofs.Regions.{Within, below-span}
 use Rattle.edits.specs.Change.{Change, packed}
 use Rattle.fills.specs.Fills.{filter, hasIndex, replacing, replaced, fromPixel, global, listed, replaceColorOf, fillGlobalOf}
 
@@ -75,10 +75,6 @@ module _ (w : ℕ) (l : List ℤ) (s : Selection) (from to : ℤ) (out : List �
         → filled (counted.Count count) buffer ≡ listed [] (replaced w l s from to) out
     replaced-done h buffer q = listed-done (replaced w l s from to) out count buffer counted-is h (q ∙ rw changes-are)
 
--- 5 after 1 to 3
-no-zero : {n : ℕ} → 0 < n → n ≡ 0 → ⊥
-no-zero h e = omega arith
-
 -- ---- `replace_color`
 module _ (s : Sheet) (area : Area) (from to : ℤ) (out : List ℕ) where
   pub replace-sheet : (n : ℕ) → Judged s n → (n ≡ 0 → ⊥) → filled (counted.Refused n) out ≡ replaceColorOf s area from to out
@@ -101,24 +97,12 @@ pub record Pointed (w h : ℕ) (l : List ℤ) (x y : ℤ) : Type 0 where
   pub row : fromZero y < h
   pub index : indexAt w h l x y ≡ got.Index (getD l (fromZero y * w + fromZero x) (pos 0))
 
-and-left : (a b : Bool) → a && b ≡ true → a ≡ true
-and-left true b e = refl
-and-left false b e = never e
-
-and-right : (a b : Bool) → a && b ≡ true → b ≡ true
-and-right true b e = e
-and-right false b e = never e
-
-span-below : (start count at size : ℕ) → start + count ≤ size → inSpan start count at ≡ true → at < size
-unfolding inSpan
-span-below start count at size h e = omega (arith, ltb-true at (start + count) (and-right (leb start at) (ltb at (start + count)) e))
-
 module _ (s : Selection) (w h : ℕ) (l : List ℤ) (f : Within s w h) where
   pub pointed : (x y : ℤ) → containsI s x y ≡ true → Pointed w h l x y
   unfolding containsI contains indexAt fromZero
   pointed (pos m) (pos n) e =
-      let column = span-below (s .x) (s .w) m w (f .right) (and-left (inSpan (s .x) (s .w) m) (inSpan (s .y) (s .h) n) e) in
-      let row = span-below (s .y) (s .h) n h (f .below) (and-right (inSpan (s .x) (s .w) m) (inSpan (s .y) (s .h) n) e) in
+      let column = below-span (s .x) (s .w) m w (f .right) (and-left (inSpan (s .x) (s .w) m) (inSpan (s .y) (s .h) n) e) in
+      let row = below-span (s .y) (s .h) n h (f .below) (and-right (inSpan (s .x) (s .w) m) (inSpan (s .y) (s .h) n) e) in
       record { column = column; row = row; index = rw (lt-ltb _ _ column, lt-ltb _ _ row) }
   pointed (pos m) (negsuc n) e = never e
   pointed (negsuc m) y e = never e

@@ -3,7 +3,7 @@ use mathlib.Core.Path.{_≡_, refl, sym, ap, _∙_}
 use mathlib.Core.Bool.{Bool, true, false, cond}
 use mathlib.Core.List.{List, [], _∷_, _++_, map, map-append, flatMap}
 use Prim.Native.Nat.{ℕ, zero, suc, _+_, _*_, _-_, _<_, _≤_}
-use native.Mathlib.Nat.{zero-add, add-zero, add-suc, suc-add}
+use native.Mathlib.Nat.{add-zero, add-suc}
 use native.Mathlib.Omega.{arith}
 use borrow.Rule.Slice.PartMut.{putMid}
 use lib.IntN.{ℤ, pos}
@@ -11,7 +11,7 @@ use lib.ListN.{length, getD, take, drop, length-append, length-map, length-take,
 use lib.Seq.{drop-cons}
 use Rattle.lists.specs.Lists.{range, over}
 use Rattle.lists.proofs.Over.{over-none, over-lent, length-over}
-use Rattle.lists.proofs.Collect.{range-next, flatMap-append, flatMap-one}
+use Rattle.lists.proofs.Collect.{range-next, range-append, flatMap-append, flatMap-one}
 use Rattle.ints.specs.Ints.{eqZ}
 use Rattle.selection.specs.Selection.{Position, position, row}
 use Rattle.selection.proofs.Rows.{rows}
@@ -29,11 +29,6 @@ filter-append p (x ∷ k) l = rw (filter-append p k l) (go (p x))
     go : (b : Bool) → cond b (x ∷ filter p k ++ filter p l) (filter p k ++ filter p l) ≡ cond b (x ∷ filter p k) (filter p k) ++ filter p l
     go true = refl
     go false = refl
-
-range-append : (start a b : ℕ) → range start (a + b) ≡ range start a ++ range (start + a) b
-unfolding range
-range-append start zero b = rw (zero-add b, add-zero start)
-range-append start (suc a) b = rw (suc-add a b, add-suc start a, ← suc-add start a) (ap (λ (l : List ℕ). start ∷ l) (range-append (suc start) a b))
 
 module _ (w : ℕ) (l : List ℤ) (from : ℤ) where
   abbrev pub hits : List Position → List Position

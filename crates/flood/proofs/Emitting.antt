@@ -5,13 +5,13 @@ use mathlib.Core.Bool.{Bool}
 use mathlib.Core.List.{List, [], _∷_, _++_, map, append-nil, append-assoc}
 use native.Mathlib.Omega.{arith}
 use native.Mathlib.Numerals.{add-one}
-use native.Mathlib.Nat.{add-zero}
 use native.Mathlib.Decide.{ℕ-discrete}
 use lib.Dec.{eqb}
 use lib.ListN.{length, take, drop, getD, set, replicate, length-set, length-replicate, getD-replicate}
-use lib.Seq.{drop-drop, drop-set-lt, getD-drop, getD-set-same, getD-set-other, take-suc-set, ext-getD}
+use lib.Seq.{drop-set-lt, getD-set-same, getD-set-other, take-suc-set, ext-getD}
 use borrow.Author.Tests.{eq-eqb, ne-eqb}
 use Rattle.lists.specs.Lists.{range}
+use Rattle.lists.proofs.Behind.{same-at, further}
 use Rattle.changes.specs.Normal.{kept}
 use Rattle.flood.specs.Cells.{placed, emitted}
 
@@ -58,10 +58,7 @@ module _ (w pair : ℕ) (s₀ : List ℕ) where
   emitting-start = record { low = omega arith; high = omega arith; long = refl; behind = refl; done = let z : length s₀ - 0 ≡ length s₀ = omega arith in rw z }
 
   pub emitting-read : (s : List ℕ) (m p : ℕ) → Emitting s m p → getD s p 0 ≡ getD s₀ p 0
-  emitting-read s m p c = rw (add-zero p) at (sym (getD-drop p s 0 0) ∙ ap (λ (l : List ℕ). getD l 0 0) (c .behind) ∙ getD-drop p s₀ 0 0)
-
-  next : (s : List ℕ) (i : ℕ) → drop i s ≡ drop i s₀ → drop (i + 1) s ≡ drop (i + 1) s₀
-  next s i e = sym (drop-drop 1 i s) ∙ ap (drop 1) e ∙ drop-drop 1 i s₀
+  emitting-read s m p c = same-at s s₀ p (c .behind) 0
 
   rest-hit : (p : ℕ) → p < length s₀ → getD s₀ p 0 % 2 ≡ 1 → rest p ≡ placed w pair p ∷ rest (p + 1)
   unfolding rest range kept
@@ -85,7 +82,7 @@ module _ (w pair : ℕ) (s₀ : List ℕ) where
         low = omega arith;
         high = omega arith;
         long = length-set s m v ∙ l;
-        behind = drop-set-lt (p + 1) s m v (omega arith) ∙ next s p (c .behind);
+        behind = drop-set-lt (p + 1) s m v (omega arith) ∙ further s s₀ p (c .behind) (p + 1) (omega arith);
         done = ap (_++ rest (p + 1)) t ∙ append-assoc (take m s) (v ∷ []) (rest (p + 1)) ∙ ap (λ (x : ℕ). take m s ++ (x ∷ rest (p + 1))) f ∙ ap (take m s ++_) (sym (rest-hit p (omega arith) e₀)) ∙ c .done;
       }
 
@@ -98,7 +95,7 @@ module _ (w pair : ℕ) (s₀ : List ℕ) where
         low = omega arith;
         high = omega arith;
         long = l;
-        behind = next s p (c .behind);
+        behind = further s s₀ p (c .behind) (p + 1) (omega arith);
         done = ap (take m s ++_) (sym (rest-miss p (omega arith) e₀)) ∙ c .done;
       }
 

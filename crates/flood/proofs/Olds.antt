@@ -1,7 +1,7 @@
 -- The olds of a flood are the sheet's indices: what is reached has the index at the start. Assumes nothing.
-use Prim.Native.Nat.{ℕ, zero, suc, _+_, _*_, _/_, _%_, _<_}
-use mathlib.Core.Path.{_≡_, refl, sym, ap, _∙_}
-use mathlib.Core.Bool.{Bool, true, false, cond, _&&_}
+use Prim.Native.Nat.{ℕ, zero, suc, _/_, _%_}
+use mathlib.Core.Path.{_≡_, refl, sym, ap}
+use mathlib.Core.Bool.{Bool, true, false, cond}
 use mathlib.Core.List.{List, [], _∷_, map}
 use mathlib.Core.Logic.{⊎-elim}
 use native.Mathlib.Nat.{div-add-mod'}
@@ -10,7 +10,7 @@ use borrow.Author.Tests.{eqb-true}
 use lib.IntN.{ℤ, pos}
 use lib.ListN.{length, getD}
 use Rattle.lists.specs.Lists.{range}
-use Rattle.ints.specs.Ints.{eqZ}
+use Rattle.lists.proofs.Bools.{and-left, and-right}
 use Rattle.ints.proofs.Back.{same-index}
 use Rattle.selection.specs.declared.Selection.{Selection}
 use Rattle.selection.specs.Selection.{contains}
@@ -19,7 +19,7 @@ use Rattle.changes.specs.Normal.{kept}
 use Rattle.changes.specs.Order.{All}
 use Rattle.changes.specs.Laws.{SheetOlds}
 use Rattle.flood.specs.Flood.{neighbour, passable, reached, flooded, changeAt, floodOf}
-use Rattle.flood.proofs.Reachable.{or-case, and-l, and-r}
+use Rattle.flood.proofs.Reachable.{or-case}
 
 module _ (w : ℕ) (l : List ℤ) (region : Selection) (start : ℕ) where
   abbrev target : ℤ
@@ -28,13 +28,13 @@ module _ (w : ℕ) (l : List ℤ) (region : Selection) (start : ℕ) where
   passed : (p : ℕ) → passable w l region start p ≡ true → getD l p (pos 0) ≡ target
   unfolding passable
   passed p e =
-      let there = and-r (contains region (p % w) (p / w)) _ (and-r (ltb p (length l)) _ e) in
+      let there = and-right (contains region (p % w) (p / w)) _ (and-right (ltb p (length l)) _ e) in
       same-index (getD l p (pos 0)) target there
 
   reached-index : (k p : ℕ) → reached (neighbour w (length l)) (passable w l region start) start k p ≡ true → getD l p (pos 0) ≡ target
   unfolding reached
   reached-index zero p e = ap (λ (q : ℕ). getD l q (pos 0)) (eqb-true p start e)
-  reached-index (suc k) p e = ⊎-elim (reached-index k p) (λ b. passed p (and-l _ _ b)) (or-case _ _ e)
+  reached-index (suc k) p e = ⊎-elim (reached-index k p) (λ b. passed p (and-left _ _ b)) (or-case _ _ e)
 
   module _ (index : ℤ) where
     abbrev olds : Change → Type 0

@@ -7,6 +7,7 @@ use mathlib.Core.Bool.{Bool, true, false, _&&_, _||_}
 use native.Mathlib.Omega.{arith}
 use native.Mathlib.Decide.{ℕ-discrete, decLt}
 use borrow.Author.Tests.{eq-eqb, eqb-true}
+use Rattle.lists.proofs.Bools.{and-left, and-right}
 use Rattle.flood.specs.Flood.{Reachable, here, beside, reached}
 
 pub or-l : (a b : Bool) → a ≡ true → a || b ≡ true
@@ -20,14 +21,6 @@ or-r false b e = e
 pub or-case : (a b : Bool) → a || b ≡ true → (a ≡ true) ⊎ (b ≡ true)
 or-case true b e = inl refl
 or-case false b e = inr e
-
-pub and-l : (a b : Bool) → a && b ≡ true → a ≡ true
-and-l true b e = refl
-and-l false b e = e
-
-pub and-r : (a b : Bool) → a && b ≡ true → b ≡ true
-and-r true b e = e
-and-r false b e = cc
 
 pub and-both : (a b : Bool) → a ≡ true → b ≡ true → a && b ≡ true
 and-both true b e f = f
@@ -128,12 +121,12 @@ module _ (n : ℕ) (near : ℕ → ℕ → ℕ) (passes : ℕ → Bool) (start :
   pub reached-in : (k p : ℕ) → At k p ≡ true → p < n
   unfolding reached
   reached-in zero p e = rw (eqb-true p start e) first
-  reached-in (suc k) p e = ⊎-elim (λ a. reached-in k p a) (λ b. bounded p (and-l (passes p) _ b)) (or-case (reached near passes start k p) _ e)
+  reached-in (suc k) p e = ⊎-elim (λ a. reached-in k p a) (λ b. bounded p (and-left (passes p) _ b)) (or-case (reached near passes start k p) _ e)
 
   -- what is reached in one step more was reached before, or by a neighbour
   reached-case : (k p : ℕ) → At (suc k) p ≡ true → (At k p ≡ true) ⊎ ((passes p ≡ true) × ((d : ℕ) × (d < 4) × (At k (near p d) ≡ true)))
   unfolding reached
-  reached-case k p e = ⊎-elim (λ a. inl a) (λ b. inr (and-l (passes p) _ b, near-some k p (and-r (passes p) _ b))) (or-case (reached near passes start k p) _ e)
+  reached-case k p e = ⊎-elim (λ a. inl a) (λ b. inr (and-left (passes p) _ b, near-some k p (and-right (passes p) _ b))) (or-case (reached near passes start k p) _ e)
 
   pub start-reached : At zero start ≡ true
   unfolding reached

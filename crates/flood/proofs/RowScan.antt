@@ -2,7 +2,7 @@
 -- the changes of the places that are reached, in whatever order they were met. Assumes nothing.
 use Prim.Native.Nat.{ℕ, zero, suc, _+_, _*_, _/_, _%_, _≤_, _<_}
 use mathlib.Core.Path.{_≡_, refl, sym, ap, _∙_}
-use mathlib.Core.Bool.{Bool, true, false, cond, _||_}
+use mathlib.Core.Bool.{Bool, true, false, cond, _||_, or-true, or-false, or-assoc}
 use mathlib.Core.List.{List, [], _∷_, map}
 use native.Mathlib.Omega.{arith}
 use native.Mathlib.Decide.{ℕ-discrete}
@@ -17,25 +17,9 @@ use Rattle.selection.specs.declared.Selection.{Selection}
 use Rattle.edits.specs.Change.{Change}
 use Rattle.changes.specs.Normal.{keyOf, joined, enter, entered, kept, changing, normalizeOf}
 use Rattle.changes.specs.Order.{All}
-use Rattle.changes.proofs.Group.{enter-less, enter-same, enter-more}
+use Rattle.changes.proofs.Group.{enter-none, enter-less, enter-same, enter-more}
 use Rattle.flood.specs.Flood.{changeAt, flooded, floodOf}
 use Rattle.flood.proofs.Flooded.{kept-same}
-
-lone : (c : Change) → enter c [] ≡ c ∷ []
-unfolding enter
-lone c = refl
-
-or-false : (b : Bool) → b ≡ b || false
-or-false true = refl
-or-false false = refl
-
-or-true : (b : Bool) → b || true ≡ true
-or-true true = refl
-or-true false = refl
-
-or-assoc : (a b c : Bool) → (a || b) || c ≡ a || (b || c)
-or-assoc true b c = refl
-or-assoc false b c = refl
 
 same : (f g : ℕ → Bool) (i k : ℕ) → ((p : ℕ) → f p ≡ g p) → kept f (range i k) ≡ kept g (range i k)
 unfolding kept range
@@ -56,12 +40,12 @@ hit f p i e = rw (eq-eqb i p e) (or-true (f i))
 
 other : (f : ℕ → Bool) (p i : ℕ) → (i ≡ p → ⊥) → plus f p i ≡ f i
 unfolding plus
-other f p i n = rw (ne-eqb i p n) (sym (or-false (f i)))
+other f p i n = rw (ne-eqb i p n) (or-false (f i))
 
 -- before what is above it
 enter-low : (c : Change) (m : List Change) → All (λ e. keyOf c < keyOf e) m → enter c m ≡ c ∷ m
 unfolding All
-enter-low c [] a = lone c
+enter-low c [] a = enter-none c
 enter-low c (e ∷ m) a = enter-less c e m (a .0)
 
 module _ (at : ℕ → Change) (less : (i p : ℕ) → i < p → keyOf (at i) < keyOf (at p)) (again : (p : ℕ) → joined (at p) (at p) ≡ at p) where
@@ -100,7 +84,7 @@ module _ (at : ℕ → Change) (less : (i p : ℕ) → i < p → keyOf (at i) < 
   -- all of them
   pub entered-scan : (n : ℕ) (f : ℕ → Bool) (ps : List ℕ) → All (λ p. p < n) ps → entered (map at (kept f (range 0 n))) (map at ps) ≡ map at (kept (λ q. f q || some (eqb q) ps) (range 0 n))
   unfolding entered All some plus
-  entered-scan n f [] a = ap (map at) (same f (λ q. f q || false) 0 n (λ q. or-false (f q)))
+  entered-scan n f [] a = ap (map at) (same f (λ q. f q || false) 0 n (λ q. sym (or-false (f q))))
   entered-scan n f (p ∷ ps) a =
       ap (λ (m : List Change). entered m (map at ps)) (enter-scan f p 0 n (omega arith) (omega (arith, a .0)))
       ∙ entered-scan n (plus f p) ps (a .1)

@@ -3,7 +3,6 @@ use crate::reach::reach;
 use crate::scan::emit;
 use crate::scan::pair_of;
 use selection::Selection;
-ghost use mathlib.Core.Path.{_≡_};
 ghost use mathlib.Core.List.{map};
 ghost use Prim.Native.Nat.{_*_, _≤_, _<_};
 ghost use lib.ListN.{length};

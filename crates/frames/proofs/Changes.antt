@@ -1,15 +1,16 @@
 -- The changes of a pixel frame, copied one by one. Assumes nothing.
 use Prim.Native.Nat.{ℕ, zero, suc, _+_, _*_, _/_, _%_, _^_, _≤_, _<_}
 use mathlib.Core.Path.{_≡_, refl, sym, ap, _∙_}
-use mathlib.Core.List.{List, [], _∷_, map}
+use mathlib.Core.List.{List, map}
 use native.Mathlib.Nat.{le-of-suc-le-suc, not-suc-le-zero}
 use native.Mathlib.Omega.{arith}
 use lib.IntN.{pos}
 use lib.ListN.{length, getD, set, length-map}
 use mir.Syntax.{w16}
 use mir.Val.{toZ}
-use Rattle.edits.specs.Change.{Change, unpacked}
 use Rattle.lists.specs.Lists.{over}
+use Rattle.lists.proofs.Mapped.{map-set}
+use Rattle.edits.specs.Change.{Change, unpacked}
 use Rattle.frames.specs.Reading.{changeAt, changesFrom}
 use Rattle.frames.proofs.Filling.{Filling, filling-next, filling-all}
 
@@ -43,11 +44,6 @@ module _ (bs : List ℕ) where
   changes-at d zero j i h = absurd (not-suc-le-zero h)
   changes-at d (suc n) j zero h = ap (changeAt bs) (omega arith)
   changes-at d (suc n) j (suc i) h = changes-at d n (j + 6) i (le-of-suc-le-suc h) ∙ ap (changeAt bs) (omega arith)
-
-map-set : {A B : Type 0} (f : A → B) (l : List A) (i : ℕ) (v : A) → map f (set l i v) ≡ set (map f l) i (f v)
-map-set f [] i v = refl
-map-set f (x ∷ l) zero v = refl
-map-set f (x ∷ l) (suc i) v = ap (λ r. f x ∷ r) (map-set f l i v)
 
 -- i of n are copied
 abbrev pub Copied : List ℕ → ℕ → List ℕ → List ℕ → ℕ → Type 0

@@ -5,7 +5,7 @@ use lib.Ieee.{span, climb, odd, units, ofFields, ofBits, toBits, size}
 use Rattle.limits.specs.Checks.{firstOf, refusedOr}
 use Rattle.lists.specs.Lists as lists
 use Rattle.cielab.specs.Finite.{unfit}
-use Rattle.cielab.specs.Nearest.{labAt}
+use Rattle.distances.specs.Nearest.{labAt}
 use Rattle.ints.specs.Ints.{eqZ}
 use Rattle.sheet.specs.Sheet.{view, stray}
 use Rattle.sheet.specs.Checks.{limitChecks, permittedChecks, indexChecks, labChecks, sheetChecks}

@@ -1,4 +1,1 @@
-pub mod Steps
-pub mod Forth
-pub mod Back
 pub mod Examples

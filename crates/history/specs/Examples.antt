@@ -9,7 +9,6 @@ use lib.IntN.{ℤ, pos}
 use lib.Ieee.{Float, fin}
 use lib.ListN.{replicate}
 use Rattle.limits.specs.declared.Rgb.{Rgb}
-use Rattle.limits.specs.declared.Lab.{Lab}
 use Rattle.limits.specs.declared.Answer.the-variants.{Done, Refused}
 use Rattle.sheet.specs.Sheet.{Sheet, sheetOf}
 use Rattle.edits.specs.declared.Edit.{Edit}
@@ -17,7 +16,7 @@ use Rattle.edits.specs.declared.Edit.the-variants.{Pixels, PaletteAdd, PaletteR
 use Rattle.edits.specs.Change.{Change}
 use Rattle.edits.specs.Checks.{permittedOf}
 use Rattle.ledger.specs.Handle.{savedPosition}
-use Rattle.ledger.specs.Calls.{Call, Outcome, Played, play}
+use Rattle.ledger.specs.Calls.{Outcome, Played, play}
 use Rattle.ledger.specs.Calls.Call.{push, undo, mark}
 use Rattle.ledger.specs.Journal.{State, opened, pushOf, undoOf, step}
 use Rattle.editing.specs.Editing.{Given, editing}

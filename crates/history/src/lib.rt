@@ -6,9 +6,7 @@
 // The crate editing's specs/Demand3.antt states what the calls do together, for every list of them: document 01's
 // demand 3.
 mod mark;
-mod moving;
 mod op;
-mod pushing;
 
 pub use editing::Moved;
 pub use ledger::Handle;
@@ -16,10 +14,10 @@ pub use ledger::NOWHERE;
 use limits::Answer;
 pub use mark::fresh;
 pub use mark::mark_saved;
-pub use moving::redo;
-pub use moving::undo;
 pub use op::replay;
 pub use pushing::push;
+pub use stepping::redo;
+pub use stepping::undo;
 
 // What `mark_saved` answers, and the handle that it leaves.
 pub struct Marked {

@@ -108,7 +108,12 @@ unfolding onAxis fromZero
 axis-nat (pos n) size e = refl
 axis-nat (negsuc n) size e = never (sym e)
 
--- equal indices are equal
+-- an index equals itself, and equal indices are the same
+pub eqZ-same : (a : ℤ) → eqZ a a ≡ true
+unfolding eqZ
+eqZ-same (pos a) = eq-eqb a a refl
+eqZ-same (negsuc a) = eq-eqb a a refl
+
 pub same-index : (a b : ℤ) → eqZ a b ≡ true → a ≡ b
 unfolding eqZ
 same-index (pos a) (pos b) e = cc (eqb-true a b e)

@@ -16,7 +16,7 @@ abs-by : (a b : ℕ) (t : Bool) → ltb a b ≡ t → natAbs (cond t (negsuc (b 
 abs-by a b true e = omega (arith, ltb-true a b e)
 abs-by a b false e = omega arith
 
-from-zero-by : (a b : ℕ) (t : Bool) → ltb a b ≡ t → fromZero (cond t (negsuc (b - suc a)) (pos (a - b))) ≡ a - b
+pub from-zero-by : (a b : ℕ) (t : Bool) → ltb a b ≡ t → fromZero (cond t (negsuc (b - suc a)) (pos (a - b))) ≡ a - b
 unfolding fromZero
 from-zero-by a b true e = omega (arith, ltb-true a b e)
 from-zero-by a b false e = refl
@@ -43,7 +43,7 @@ from-zero-sub (pos n) (suc k) = from-zero-by n (suc k) (ltb n (suc k)) refl
 from-zero-sub (negsuc n) zero = from-zero-by zero (suc n) (ltb zero (suc n)) refl ∙ omega arith
 from-zero-sub (negsuc n) (suc k) = omega arith
 
-suc-up-to : (z : ℤ) → fromZero (sucℤ z) ≡ upTo z
+pub suc-up-to : (z : ℤ) → fromZero (sucℤ z) ≡ upTo z
 unfolding fromZero upTo
 suc-up-to (pos n) = refl
 suc-up-to (negsuc zero) = refl

@@ -9,6 +9,7 @@ use borrow.Author.Tests.{le-ltb}
 use Rattle.limits.specs.Limits.{maxJournal}
 use Rattle.limits.specs.Numbers.{journalFull, listTooLong}
 use Rattle.limits.specs.Checks.{_when_, orElse, firstOf}
+use Rattle.limits.proofs.First.{or-else-zero}
 use Rattle.ledger.specs.Handle.{sound}
 use Rattle.ledger.specs.Calls.{group}
 use Rattle.ledger.specs.Algebra.{Algebra}
@@ -18,10 +19,6 @@ use Rattle.ledger.specs.Ledger.{standing, pictureChecks}
 use Rattle.ledger.proofs.Refusals.{when-passes, each-passes}
 use Rattle.ledger.proofs.Trace.{total, Trace, Holds, sizes, journalOf, handleOf, stateOf, ledgerOf, stands}
 use Rattle.ledger.proofs.Lengths.{sound-handle}
-
-or-else-zero : (n : ℕ) → orElse n 0 ≡ n
-or-else-zero zero = refl
-or-else-zero (suc n) = refl
 
 or-else-regroup : (a b c : ℕ) → orElse a (orElse b (orElse c 0)) ≡ orElse (orElse a (orElse b 0)) c
 or-else-regroup zero zero c = or-else-zero c

@@ -10,6 +10,7 @@ use Rattle.limits.specs.Numbers.{badSheet, journalDamaged, journalFull, noSpace
 use Rattle.limits.specs.Checks.{Check, orElse, firstOf, refusedOr}
 use Rattle.limits.specs.declared.Answer.{Answer}
 use Rattle.limits.specs.declared.Answer.the-variants.{Done, Still, Refused}
+use Rattle.limits.proofs.First.{first-passes}
 use Rattle.ledger.specs.Calls.{Outcome, done, still, refused, guarded}
 use Rattle.ledger.specs.Demand.{isFull}
 
@@ -47,10 +48,6 @@ when-full false e = absurd (omega arith)
 pub first-other : (a b : ℕ) → ¬ (a ≡ journalFull) → orElse a b ≡ journalFull → (a ≡ 0) × (b ≡ journalFull)
 first-other zero b h e = (refl, e)
 first-other (suc a) b h e = absurd (h e)
-
-first-passes : (a b : ℕ) → orElse a b ≡ 0 → (a ≡ 0) × (b ≡ 0)
-first-passes zero b e = (refl, e)
-first-passes (suc a) b e = absurd (omega arith)
 
 -- ---- lists of checks
 -- all have another number than 14

@@ -71,46 +71,6 @@ impl Handle {
         true
     }
 
-    // The handle after a push of a record of n bytes, which is the last one then. A saved position beyond the
-    // standing one is forgotten.
-    pub fn after_push(mut self, n: usize) -> Handle
-        requires { ⌜ self .offset + n ≤ maxJournal ⌝ }
-        requires { ⌜ self .position ≤ self .offset ⌝ }
-        ensures { λ r. ⌜ r ≡ afterPush n self ⌝ }
-    {
-        let standing = self.position;
-        self.offset += n;
-        self.end = self.offset;
-        self.position += 1;
-        self.count = self.position;
-        if standing < self.saved {
-            self.saved = NOWHERE;
-        }
-        self
-    }
-
-    // The handle after one step back over a record of n bytes. The end stays.
-    pub fn stepped_back(mut self, n: usize) -> Handle
-        requires { ⌜ n ≤ self .offset ⌝ }
-        requires { ⌜ 0 < self .position ⌝ }
-        ensures { λ r. ⌜ r ≡ steppedBack n self ⌝ }
-    {
-        self.offset -= n;
-        self.position -= 1;
-        self
-    }
-
-    // The handle after one step forth over a record of n bytes. The end stays.
-    pub fn stepped_forth(mut self, n: usize) -> Handle
-        requires { ⌜ self .offset + n ≤ self .end ⌝ }
-        requires { ⌜ self .position < self .count ⌝ }
-        ensures { λ r. ⌜ r ≡ steppedForth n self ⌝ }
-    {
-        self.offset += n;
-        self.position += 1;
-        self
-    }
-
     // The handle with its standing position saved.
     pub fn marked(mut self) -> Handle
         ensures { λ r. ⌜ r ≡ marked self ⌝ }
@@ -118,4 +78,44 @@ impl Handle {
         self.saved = self.position;
         self
     }
+}
+
+// The handle after a push of a record of n bytes, which is the last one then. A saved position beyond the
+// standing one is forgotten.
+pub fn after_push(mut handle: Handle, n: usize) -> Handle
+    requires { ⌜ handle .offset + n ≤ maxJournal ⌝ }
+    requires { ⌜ handle .position ≤ handle .offset ⌝ }
+    ensures { λ r. ⌜ r ≡ afterPush n handle ⌝ }
+{
+    let standing = handle.position;
+    handle.offset += n;
+    handle.end = handle.offset;
+    handle.position += 1;
+    handle.count = handle.position;
+    if standing < handle.saved {
+        handle.saved = NOWHERE;
+    }
+    handle
+}
+
+// The handle after one step back over a record of n bytes. The end stays.
+pub fn stepped_back(mut handle: Handle, n: usize) -> Handle
+    requires { ⌜ n ≤ handle .offset ⌝ }
+    requires { ⌜ 0 < handle .position ⌝ }
+    ensures { λ r. ⌜ r ≡ steppedBack n handle ⌝ }
+{
+    handle.offset -= n;
+    handle.position -= 1;
+    handle
+}
+
+// The handle after one step forth over a record of n bytes. The end stays.
+pub fn stepped_forth(mut handle: Handle, n: usize) -> Handle
+    requires { ⌜ handle .offset + n ≤ handle .end ⌝ }
+    requires { ⌜ handle .position < handle .count ⌝ }
+    ensures { λ r. ⌜ r ≡ steppedForth n handle ⌝ }
+{
+    handle.offset += n;
+    handle.position += 1;
+    handle
 }

@@ -3,11 +3,9 @@
 // them by value: `undo`, `redo` and `mark_saved` are thin over that call; `push` and `replay` go through their list
 // by themselves, with the steps before and after it beside.
 mod moving;
-mod op;
-mod pushing;
 
+pub use lent_push::push;
+pub use lent_replay::replay;
 pub use moving::mark_saved;
 pub use moving::redo;
 pub use moving::undo;
-pub use op::replay;
-pub use pushing::push;

@@ -8,7 +8,7 @@ ghost use Rattle.ledger.specs.Journal.{undoOf, redoOf, markOf};
 ghost use Rattle.editing.specs.Editing.{editing};
 ghost use Rattle.editing.specs.Calls.{stateOf};
 ghost use Rattle.editing.specs.Calls.{outcomeOf};
-ghost use Rattle.lent_history.specs.Lent.{left};
+ghost use Rattle.lent_push.specs.Lent.{left};
 
 // `history::undo`, with palette count and handle lent.
 pub fn undo(

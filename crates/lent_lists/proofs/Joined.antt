@@ -1,12 +1,10 @@
 -- A stroke and a list packed into buffers of numbers, and what `extend` answers of them. Assumes nothing.
 use Prim.Native.Nat.{ℕ, _+_, _≤_, _<_, _^_}
-use mathlib.Core.Path.{_≡_, refl, sym, ap, _∙_}
-use mathlib.Core.Bool.{Bool, true, false, cond, _||_}
-use mathlib.Core.List.{List, [], _∷_, _++_, map, map-append}
+use mathlib.Core.Path.{_≡_, refl, ap, _∙_}
+use mathlib.Core.List.{List, _++_, map, map-append}
 use native.Mathlib.Omega.{arith}
 use native.Mathlib.Decide.{decLt}
 use borrow.Author.Tests.{lt-ltb, le-ltb}
-use lib.Dec.{ltb}
 use lib.ListN.{length, take, drop}
 use lib.Seq.{take-all, length-take-le, take-append-le}
 use Rattle.limits.specs.Checks.{firstOf}
@@ -16,7 +14,7 @@ use Rattle.limits.specs.declared.Counted.the-variants.{Refused}
 use Rattle.lists.specs.Lists.{over}
 use Rattle.edits.specs.Change.{unpacked}
 use Rattle.changes.specs.Normal.{normalPacked, Front}
-use Rattle.changes.specs.Listed.{handed, countOf, InScratch}
+use Rattle.changes.specs.Listed.{handed, InScratch}
 use Rattle.changes.proofs.Handing.{listed-refused, listed-done}
 use Rattle.changes.proofs.InScratch.{scratch-none, scratch-then}
 use Rattle.structs.specs.Struct.{least}

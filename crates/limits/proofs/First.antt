@@ -6,10 +6,24 @@ use Prim.Native.Nat.{ℕ, zero, suc, _<_}
 use native.Mathlib.Omega.{arith}
 use Rattle.limits.specs.Checks.{Check, orElse, firstOf, refusedOr, checked}
 
-or-else-assoc : (a b c : ℕ) → orElse a (orElse b c) ≡ orElse (orElse a b) c
+-- ---- the first of two numbers that is not 0
+pub or-else-assoc : (a b c : ℕ) → orElse a (orElse b c) ≡ orElse (orElse a b) c
 or-else-assoc zero b c = refl
 or-else-assoc (suc a) b c = refl
 
+pub or-else-zero : (a : ℕ) → orElse a 0 ≡ a
+or-else-zero zero = refl
+or-else-zero (suc a) = refl
+
+pub first-passes : (a b : ℕ) → orElse a b ≡ 0 → (a ≡ 0) × (b ≡ 0)
+first-passes zero b e = (refl, e)
+first-passes (suc a) b e = absurd (omega arith)
+
+-- what is above 0 is not 0
+pub no-zero : {n : ℕ} → 0 < n → n ≡ 0 → ⊥
+no-zero h e = omega arith
+
+-- ---- two lists, one after the other
 -- the first part's number, or the second's where that has none
 pub first-append : (cs ds : List Check) → firstOf (cs ++ ds) ≡ orElse (firstOf cs) (firstOf ds)
 unfolding firstOf

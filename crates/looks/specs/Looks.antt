@@ -7,7 +7,7 @@ use Prim.Native.Nat.{ℕ, _+_, _-_, _*_}
 use lib.Dec.{leb, eqb}
 use lib.ListN.{length, take, drop}
 use Rattle.limits.specs.Numbers.{journalDamaged}
-use Rattle.limits.specs.Checks.{Check, _when_, checked}
+use Rattle.limits.specs.Checks.{_when_, checked}
 use Rattle.edits.specs.declared.Edit.{Edit}
 use Rattle.edits.specs.Change.{Change}
 use Rattle.records.specs.Record.{Reading, readForth, readBack}

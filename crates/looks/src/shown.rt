@@ -5,6 +5,8 @@ use crate::Next;
 use editing::handle_no;
 use edits::Edit;
 use ledger::Handle;
+use ledger::stepped_back;
+use ledger::stepped_forth;
 use limits::JOURNAL_DAMAGED;
 use recorded::entry_at;
 use recorded::get_rgb;
@@ -87,7 +89,7 @@ pub fn next_undo(journal: &[u8], handle: Handle) -> Next
             length,
             count,
         } => {
-            if !handle.stepped_back(length).sound(size) {
+            if !stepped_back(handle, length).sound(size) {
                 return Next::Refused(JOURNAL_DAMAGED);
             }
             record_at(journal, kind, start, length, count)
@@ -115,7 +117,7 @@ pub fn next_redo(journal: &[u8], handle: Handle) -> Next
             length,
             count,
         } => {
-            if !handle.stepped_forth(length).sound(size) {
+            if !stepped_forth(handle, length).sound(size) {
                 return Next::Refused(JOURNAL_DAMAGED);
             }
             record_at(journal, kind, start, length, count)

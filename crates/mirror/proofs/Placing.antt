@@ -1,5 +1,5 @@
 -- A list packed into a buffer of numbers: whether the buffers lack places, what is answered then, and the result left in the scratch. Assumes nothing.
-use mathlib.Core.Path.{_≡_, refl, sym, ap, _∙_}
+use mathlib.Core.Path.{_≡_, refl, sym, _∙_}
 use mathlib.Core.Bool.{Bool, true, false, not, _&&_, _||_}
 use mathlib.Core.List.{List, [], _∷_, _++_, map}
 use Prim.Native.Nat.{ℕ, zero, suc, _≤_, _<_}
@@ -15,7 +15,7 @@ use Rattle.limits.specs.Checks.{Check, _when_, firstOf, refusedOr}
 use Rattle.limits.specs.Answer.{filled}
 use Rattle.limits.specs.declared.Counted.{Counted}
 use Rattle.limits.specs.declared.Counted.the-variants.{Refused}
-use Rattle.limits.proofs.First.{first-past, refused-first, result-first, skip}
+use Rattle.limits.proofs.First.{refused-first, result-first, skip}
 use Rattle.lists.specs.Lists.{over}
 use Rattle.lists.proofs.Over.{length-over}
 use Rattle.ints.proofs.Back.{never}

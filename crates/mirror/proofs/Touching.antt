@@ -1,24 +1,21 @@
 -- When a list is touched, and what is known of it then. Assumes nothing.
-use Prim.Native.Nat.{ℕ, zero, suc, _%_, _≤_, _<_}
-use mathlib.Core.Path.{_≡_, refl, sym, ap, _∙_}
-use mathlib.Core.Bool.{Bool, true, false, not, _&&_, _||_}
-use mathlib.Core.List.{List, [], _∷_, map}
+use Prim.Native.Nat.{ℕ, _%_, _≤_, _<_}
+use mathlib.Core.Path.{_≡_, sym, ap, _∙_}
+use mathlib.Core.Bool.{Bool, true, false, not, _||_}
+use mathlib.Core.List.{List, map}
 use native.Mathlib.Omega.{arith}
-use native.Mathlib.Decide.{ℕ-discrete}
 use lib.Dec.{eqb, leb}
-use lib.IntN.{ℤ, pos, negsuc}
 use lib.ListN.{length, getD}
-use mir.Syntax.{w16}
-use mir.Val.{SFits}
-use borrow.Author.Needs.{sfits-of}
-use borrow.Author.Tests.{eq-eqb, ne-eqb, leb-false}
+use borrow.Author.Tests.{eq-eqb, ne-eqb, eqb-true, leb-false}
 use Rattle.lists.specs.Lists.{some}
+use Rattle.lists.proofs.Bools.{and-left, and-right}
 use Rattle.lists.proofs.Scan.{some-none, or-left, or-right}
-use Rattle.lists.proofs.Nowhere.{some-map, first-not, rest-not}
+use Rattle.lists.proofs.Nowhere.{some-map}
 use Rattle.ints.proofs.Back.{never}
-use Rattle.sheet.specs.Sheet.{Sheet, stray}
+use Rattle.sheet.specs.Sheet.{Sheet}
 use Rattle.sheet.specs.Checks.{WellFormed}
 use Rattle.edits.specs.Change.{outside, unpacked}
+use Rattle.pixels.proofs.Fitting.{pixel-fits}
 use Rattle.mirroring.specs.Marks.{Mirrorable}
 use Rattle.mirror.specs.Calls.{divides, touching, straying}
 
@@ -51,30 +48,8 @@ module _ (count t w h : ℕ) where
   else-divides on r e z d = rw (e, ne-eqb count 0 z) d
 
 -- ---- what is known
-and-left : (a b : Bool) → a && b ≡ true → a ≡ true
-and-left true b e = refl
-and-left false b e = e
-
-and-right : (a b : Bool) → a && b ≡ true → b ≡ true
-and-right true b e = e
-and-right false b e = never e
-
 not-eqb : (a b : ℕ) → not (eqb a b) ≡ true → a ≡ b → ⊥
 not-eqb a b e q = never (sym (ap not (eq-eqb a b q)) ∙ e)
-
-is-eqb : (a b : ℕ) → eqb a b ≡ true → a ≡ b
-is-eqb a b e = elim (ℕ-discrete a b) [ yes q ↦ q | no q ↦ absurd (never (sym (ne-eqb a b q) ∙ e)) ]
-
-index-fits : (k : ℕ) (z : ℤ) → k ≤ 255 → stray k z ≡ false → SFits w16 z
-unfolding stray
-index-fits k (pos n) h e = sfits-of (omega (arith, leb-false k n e))
-index-fits k (negsuc zero) h e = sfits-of (omega arith)
-index-fits k (negsuc (suc n)) h e = never (sym e)
-
-pixel-fits : (k : ℕ) (l : List ℤ) (n : ℕ) → k ≤ 255 → some (stray k) l ≡ false → SFits w16 (getD l n (pos 0))
-pixel-fits k [] n h e = sfits-of (omega arith)
-pixel-fits k (z ∷ l) zero h e = index-fits k z h (first-not (stray k) z l e)
-pixel-fits k (z ∷ l) (suc n) h e = pixel-fits k l n h (rest-not (stray k) z l e)
 
 module _ (s : Sheet) (f : WellFormed s) (on : Bool) (t : ℕ) (list : List ℕ) (touched : Bool) (is : touched ≡ touching on (length list) t (s .w) (s .h))
     (few : length list ≤ 1048576) (held : straying touched (s .w) (s .h) list ≡ false) where
@@ -90,7 +65,7 @@ module _ (s : Sheet) (f : WellFormed s) (on : Bool) (t : ℕ) (list : List ℕ) 
       let z : t ≡ 0 → ⊥ = not-eqb t 0 (and-left _ _ b) in
       let none : some (outside (s .w) (s .h)) (map unpacked list) ≡ false = rw y at held in
       record {
-        tiled = record { side = omega arith; across = is-eqb (s .w % t) 0 (and-left (eqb (s .w % t) 0) (eqb (s .h % t) 0) c); down = is-eqb (s .h % t) 0 (and-right (eqb (s .w % t) 0) (eqb (s .h % t) 0) c); w-small = lim .w-small; h-small = lim .h-small; long = lim .indices-length };
+        tiled = record { side = omega arith; across = eqb-true (s .w % t) 0 (and-left (eqb (s .w % t) 0) (eqb (s .h % t) 0) c); down = eqb-true (s .h % t) 0 (and-right (eqb (s .w % t) 0) (eqb (s .h % t) 0) c); w-small = lim .w-small; h-small = lim .h-small; long = lim .indices-length };
         fits = λ p. pixel-fits (s .k) (s .indices) p (lim .k-small) (f .in-range);
         some = omega arith;
         few = few;

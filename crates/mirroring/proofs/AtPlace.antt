@@ -1,7 +1,7 @@
 -- What the passes leave pending at one place is the first old and the last new of its copies and then of the caller's changes. Assumes nothing.
 use Prim.Native.Nat.{ℕ, zero, suc, _+_, _-_, _*_, _/_, _%_, _≤_, _<_, _^_}
 use mathlib.Core.Path.{_≡_, refl, sym, ap, _∙_}
-use mathlib.Core.Bool.{Bool, true, false, not, cond, _&&_, _||_}
+use mathlib.Core.Bool.{Bool, true, false, not, cond, _&&_, _||_, or-true, or-false}
 use mathlib.Core.List.{List, [], _∷_, _++_, append-nil, append-assoc}
 use mathlib.Core.Logic.{_⊎_, ⊎-elim, inl, inr}
 use native.Mathlib.Omega.{arith}
@@ -20,14 +20,6 @@ use Rattle.changes.specs.Normal.{joined}
 use Rattle.changes.specs.Laws.{folded, firstLast}
 use Rattle.mirroring.specs.Marks.{run, placeAt, oldBits, newBits, lastIn, elsewhere, markBy, landBy, pendingBy}
 use Rattle.mirroring.proofs.Runs.{run-hit, run-miss, run-none}
-
-or-true : (b : Bool) → b || true ≡ true
-or-true true = refl
-or-true false = refl
-
-or-false : (b : Bool) → b || false ≡ b
-or-false true = refl
-or-false false = refl
 
 -- ---- one change more
 unfoldable onto : List Change → Change → List Change

@@ -4,14 +4,13 @@ use mathlib.Core.Path.{_≡_, refl, sym, ap, _∙_}
 use mathlib.Core.List.{List, [], _++_, flatMap, append-nil, append-assoc}
 use native.Mathlib.Omega.{arith}
 use native.Mathlib.Numerals.{add-one}
-use native.Mathlib.Nat.{add-zero}
 use borrow.Author.Tests.{eq-eqb, ne-eqb}
 use lib.IntN.{ℤ, pos}
 use lib.ListN.{length, take, drop, getD}
-use lib.Seq.{drop-drop, getD-drop}
 use mir.Syntax.{w16}
 use mir.Val.{ofZ}
 use Rattle.lists.specs.Lists.{range}
+use Rattle.lists.proofs.Behind.{same-at, further}
 use Rattle.changes.specs.Keys.{Put}
 use Rattle.changes.specs.Between.{differenceOf}
 use Rattle.mirroring.specs.Marks.{newBits, oldIn, emitted, emittedAll}
@@ -44,7 +43,7 @@ module _ (w : ℕ) (l : List ℤ) (s₀ : List ℕ) where
   emitting-start = record { low = omega arith; high = omega arith; long = refl; behind = refl; done = let z : length s₀ - 0 ≡ length s₀ = omega arith in rw z }
 
   pub emitting-read : (s : List ℕ) (m p : ℕ) → Emitting s m p → getD s p 0 ≡ getD s₀ p 0
-  emitting-read s m p c = rw (add-zero p) at (sym (getD-drop p s 0 0) ∙ ap (λ (l : List ℕ). getD l 0 0) (c .behind) ∙ getD-drop p s₀ 0 0)
+  emitting-read s m p c = same-at s s₀ p (c .behind) 0
 
   rest-next : (p : ℕ) → p < length s₀ → rest p ≡ one p ++ rest (p + 1)
   unfolding rest range flatMap
@@ -53,9 +52,6 @@ module _ (w : ℕ) (l : List ℤ) (s₀ : List ℕ) where
   rest-none : (p : ℕ) → length s₀ ≤ p → rest p ≡ []
   unfolding rest range flatMap
   rest-none p h = let z : length s₀ - p ≡ 0 = omega arith in rw z
-
-  further : (s t : List ℕ) (i k : ℕ) → i ≤ k → drop i s ≡ drop i t → drop k s ≡ drop k t
-  further s t i k h e = let z : i + (k - i) ≡ k = omega arith in rw z at (sym (drop-drop (k - i) i s) ∙ ap (drop (k - i)) e ∙ drop-drop (k - i) i t)
 
   pub emitting-step : (s s′ : List ℕ) (m p r : ℕ) → Emitting s m p → p < length s → length s′ ≡ length s → Put s m (emitted w l p (getD s p 0)) (m + 1) s′ r → Emitting s′ r (p + 1)
   emitting-step s s′ m p r c h k q =
@@ -67,7 +63,7 @@ module _ (w : ℕ) (l : List ℤ) (s₀ : List ℕ) where
         low = omega (arith, q .most);
         high = omega arith;
         long = k ∙ g;
-        behind = further s′ s (m + 1) (p + 1) (omega arith) (q .behind) ∙ further s s₀ p (p + 1) (omega arith) (c .behind);
+        behind = further s′ s (m + 1) (q .behind) (p + 1) (omega arith) ∙ further s s₀ p (c .behind) (p + 1) (omega arith);
         done = ap (_++ rest (p + 1)) (q .front ∙ ap (take m s ++_) e) ∙ append-assoc (take m s) (one p) (rest (p + 1)) ∙ ap (take m s ++_) (sym (rest-next p (omega arith))) ∙ c .done;
       }
 

@@ -1,11 +1,11 @@
 -- What the calls answer, by what their tests find. Assumes nothing.
 use Prim.Native.Nat.{ℕ, zero, suc, _+_, _-_, _≤_, _<_}
 use mathlib.Core.Path.{_≡_, refl, sym, ap, _∙_}
-use mathlib.Core.Bool.{Bool, true, false, not, cond, _&&_, _||_}
+use mathlib.Core.Bool.{Bool, true, false, not, cond, _||_}
 use mathlib.Core.List.{List, [], _∷_, _++_, map}
 use native.Mathlib.Omega.{arith}
 use native.Mathlib.Nat.{mul-comm, mul-le-mul-right}
-use borrow.Author.Tests.{lt-ltb, le-ltb, ltb-false, leb-true, eq-eqb, ne-eqb}
+use borrow.Author.Tests.{lt-ltb, le-ltb, ltb-false, leb-true, eq-eqb, ne-eqb, not-false}
 use lib.Dec.{ltb, leb, eqb}
 use lib.IntN.{ℤ, pos, negsuc}
 use lib.ListN.{length, take}
@@ -18,8 +18,8 @@ use Rattle.limits.specs.Answer.{Filled, filled}
 use Rattle.limits.specs.declared.Counted.{Counted}
 use Rattle.limits.specs.declared.Counted.the-variants as counted
 use Rattle.limits.proofs.First.{first-past, first-here, past, past-both}
+use Rattle.lists.proofs.Bools.{and-left, and-right}
 use Rattle.ints.specs.Ints.{eqZ}
-use Rattle.ints.proofs.Back.{never}
 use Rattle.sheet.specs.Sheet.{Sheet}
 use Rattle.sheet.specs.Checks.{sheetChecks, WellFormed, Judged}
 use Rattle.sheet.proofs.Judging.{none-applied, past-sheet}
@@ -29,6 +29,7 @@ use Rattle.selection.specs.declared.Chosen.the-variants as chosen
 use Rattle.selection.specs.Selection.{inside, rectangle, between, fromCorners, first, last, translated}
 use Rattle.selection.specs.Calls.{tooLarge, farAway, shiftChecks, translatedOf}
 use Rattle.selection.proofs.Checks.{near}
+use Rattle.selection.proofs.Regions.{part-other}
 use Rattle.edits.specs.Change.{Change, packed}
 use Rattle.changes.specs.Normal.{normalizeOf, Front}
 use Rattle.changes.specs.Listed.{handed, countOf, InScratch}
@@ -55,9 +56,6 @@ module _ {dx dy : ℤ} (f : SFits w32 dx) (g : SFits w32 dy) where
   unmoved-not e = rw (← zero-bits dx (f .sfits), ne-eqb _ _ e)
 
 -- ---- the first check of a shift, from what `translated` answers
-part-other : {n : ℕ} {s : Selection} → chosen.Refused n ≡ chosen.Part s → ⊥
-part-other e = let z : _≡_ {A = ℕ} 0 1 = cc in omega arith
-
 nothing-other : {n : ℕ} → chosen.Refused n ≡ chosen.Nothing → ⊥
 nothing-other e = let z : _≡_ {A = ℕ} 0 1 = cc in omega arith
 
@@ -108,11 +106,7 @@ module _ (s : Selection) (dx dy : ℤ) (w h : ℕ) where
       let a = past (badSheet when tooLarge w h) _ (omega arith) e in
       let b = past (tooFar when farAway dx dy) _ (omega arith) (a .rest) in
       let c = past (offTheSheet when not (inside s w h)) _ (omega arith) (b .rest) in
-      record { across = b .off; within = holds (inside s w h) (c .off) }
-    where
-      holds : (b : Bool) → not b ≡ false → b ≡ true
-      holds true e = refl
-      holds false e = sym e
+      record { across = b .off; within = not-false (inside s w h) (c .off) }
 
   -- the selection afterwards
   pub selection-still : unmoved dx dy ≡ true → chosen.Part s ≡ movedSelection s dx dy w h
@@ -173,9 +167,8 @@ module _ (t : Sheet) (s : Selection) (dx dy : ℤ) (room : ℕ) where
         let f = none-applied t (parts .0) .limits in
         let g = shift-fine s dx dy (t .w) (t .h) (parts .1) in
         let n = near (g .across) in
-        let i = both (leb (s .x + s .w) (t .w)) (leb (s .y + s .h) (t .h)) (g .within) in
-        let right = leb-true _ _ (i .0) in
-        let below = leb-true _ _ (i .1) in
+        let right = leb-true _ _ (and-left (leb (s .x + s .w) (t .w)) (leb (s .y + s .h) (t .h)) (g .within)) in
+        let below = leb-true _ _ (and-right (leb (s .x + s .w) (t .w)) (leb (s .y + s .h) (t .h)) (g .within)) in
         let r = parts .2 in
         let hs = f .h-small in
         let il = f .indices-length in
@@ -194,11 +187,6 @@ module _ (t : Sheet) (s : Selection) (dx dy : ℤ) (room : ℕ) where
             roomy = omega arith;
           };
         }
-      where
-        both : (a b : Bool) → a && b ≡ true → (a ≡ true) × (b ≡ true)
-        both true true e = (refl, refl)
-        both true false e = never e
-        both false b e = never e
 
 -- ---- what a call leaves
 module _ (checks : List Check) (cs : List Change) (c : Chosen) (out : List ℕ) where

@@ -1,11 +1,11 @@
 -- What `paste` answers, by what its tests find. Assumes nothing.
 use Prim.Native.Nat.{ℕ, _*_, _≤_, _<_}
-use mathlib.Core.Path.{_≡_, refl, sym, _∙_}
-use mathlib.Core.Bool.{Bool, true, false, not}
+use mathlib.Core.Path.{_≡_, sym, _∙_}
+use mathlib.Core.Bool.{true, false, not}
 use mathlib.Core.List.{List, [], map}
 use native.Mathlib.Omega.{arith}
 use native.Mathlib.Nat.{mul-comm, zero-add, mul-le-mul-right}
-use borrow.Author.Tests.{lt-ltb, le-ltb, ltb-false, eq-eqb, ne-eqb, eqb-true}
+use borrow.Author.Tests.{lt-ltb, le-ltb, ltb-false, eq-eqb, ne-eqb, eqb-true, not-false}
 use lib.Dec.{ltb, eqb}
 use lib.IntN.{ℤ}
 use lib.ListN.{length, take}
@@ -87,13 +87,9 @@ module _ (cw ch : ℕ) (clip : List ℤ) (x y : ℤ) (room pixels : ℕ) where
         down = b .off;
         wide = ltb-false maxSide cw (c .off);
         high = ltb-false maxSide ch (d .off);
-        whole = eqb-true _ _ (holds (eqb (length clip) (cw * ch)) (e .off));
+        whole = eqb-true _ _ (not-false (eqb (length clip) (cw * ch)) (e .off));
         roomy = ltb-false room pixels (f .off);
       }
-    where
-      holds : (b : Bool) → not b ≡ false → b ≡ true
-      holds true e = refl
-      holds false e = sym e
 
 -- the sides of a clip do not wrap
 pub sides-fit : {cw ch : ℕ} → cw ≤ 1024 → ch ≤ 1024 → cw * ch ≤ 1048576

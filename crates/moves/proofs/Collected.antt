@@ -4,18 +4,12 @@ use mathlib.Core.Path.{_≡_, refl, ap, _∙_}
 use mathlib.Core.List.{List, [], _∷_, _++_, map, flatMap, append-nil}
 use native.Mathlib.Omega.{arith}
 use native.Mathlib.Decide.{decLt}
-use native.Mathlib.Nat.{add-zero, zero-add, add-suc, suc-add}
 use Rattle.lists.specs.Lists.{range}
-use Rattle.lists.proofs.Collect.{flatMap-append}
+use Rattle.lists.proofs.Collect.{range-append, flatMap-append}
 use Rattle.selection.specs.declared.Selection.{Selection}
 use Rattle.selection.specs.Selection.{Position, position, row, positions}
 use Rattle.changes.specs.Order.{All}
 use Rattle.changes.proofs.Order.{all-append}
-
-range-split : (start a b : ℕ) → range start (a + b) ≡ range start a ++ range (start + a) b
-unfolding range
-range-split start zero b = rw (zero-add b, add-zero start)
-range-split start (suc a) b = rw (suc-add a b) (ap (λ l. start ∷ l) (rw (add-suc start a, ← suc-add start a) (range-split (suc start) a b)))
 
 module _ {A : Type 0} (f : ℕ → List A) where
   pub none-collected : (start count : ℕ) → ((i : ℕ) → start ≤ i → i < start + count → f i ≡ []) → flatMap f (range start count) ≡ []
@@ -32,9 +26,9 @@ module _ {A : Type 0} (f : ℕ → List A) where
         let b : ℕ = start + count - (from + n) in
         let e : count ≡ a + (n + b) = omega arith in
         let s : start + a ≡ from = omega arith in
-        ap (λ (k : ℕ). flatMap f (range start k)) e ∙ ap (flatMap f) (range-split start a (n + b)) ∙ flatMap-append f (range start a) (range (start + a) (n + b))
+        ap (λ (k : ℕ). flatMap f (range start k)) e ∙ ap (flatMap f) (range-append start a (n + b)) ∙ flatMap-append f (range start a) (range (start + a) (n + b))
         ∙ ap (λ (l : List A). l ++ flatMap f (range (start + a) (n + b))) (none-collected start a (λ i p q. before i p (omega arith) (omega arith)))
-        ∙ ap (λ (k : ℕ). flatMap f (range k (n + b))) s ∙ ap (flatMap f) (range-split from n b) ∙ flatMap-append f (range from n) (range (from + n) b)
+        ∙ ap (λ (k : ℕ). flatMap f (range k (n + b))) s ∙ ap (flatMap f) (range-append from n b) ∙ flatMap-append f (range from n) (range (from + n) b)
         ∙ ap (λ (l : List A). flatMap f (range from n) ++ l) (none-collected (from + n) b (λ i p q. after i (omega arith) (omega arith) (omega arith)))
         ∙ append-nil (flatMap f (range from n))
 

@@ -10,7 +10,7 @@ use mir.Syntax.{w32}
 use mir.Val.{SFits}
 use Rattle.ints.specs.Ints.{far, fromZero}
 use Rattle.ints.proofs.Back.{near-abs}
-use Rattle.ints.proofs.Sums.{sum-fits}
+use Rattle.ints.proofs.Sums.{from-zero-by, sum-fits}
 use Rattle.moves.specs.declared.Landing.{Landing}
 use Rattle.moves.specs.Blocks.{landing}
 
@@ -20,13 +20,8 @@ offsetOf d = fromZero (d +ℤ pos 65536)
 pub offset-fits : (d : ℤ) → far d ≡ false → SFits w32 (d +ℤ pos 65536)
 offset-fits d e = sum-fits d (pos 65536) (omega (arith, near-abs d e))
 
-by-order : (a b : ℕ) (t : Bool) → ltb a b ≡ t → fromZero (cond t (negsuc (b - suc a)) (pos (a - b))) ≡ a - b
-unfolding fromZero
-by-order a b true e = omega (arith, ltb-true a b e)
-by-order a b false e = refl
-
 back-offset : (k : ℕ) → offsetOf (negsuc k) ≡ 65536 - suc k
-back-offset k = by-order 65536 (suc k) (ltb 65536 (suc k)) refl
+back-offset k = from-zero-by 65536 (suc k) (ltb 65536 (suc k)) refl
 
 pub offset-small : (d : ℤ) → far d ≡ false → offsetOf d ≤ 131072
 unfolding fromZero

@@ -3,11 +3,10 @@ use Prim.Native.Nat.{ℕ, zero, suc, _+_, _*_, _<_}
 use mathlib.Core.Path.{_≡_, refl, ap, _∙_}
 use mathlib.Core.List.{List, [], _∷_, _++_, flatMap}
 use native.Mathlib.Omega.{arith}
-use native.Mathlib.Numerals.{add-one}
 use lib.IntN.{ℤ}
 use lib.ListN.{set}
 use Rattle.lists.specs.Lists.{range}
-use Rattle.lists.proofs.Collect.{range-next, flatMap-append, flatMap-one}
+use Rattle.lists.proofs.Collect.{range-suc, flatMap-append, flatMap-one}
 use Rattle.edits.specs.Change.{Change, place, painted, newOf}
 use Rattle.changes.proofs.Pictures.{painted-append}
 use Rattle.moves.specs.Blocks.{written, block}
@@ -22,9 +21,6 @@ pub record One (w at : ℕ) (z : ℤ) (cs : List Change) : Type 0 where
 one-painted : {w at : ℕ} {z : ℤ} {cs : List Change} → One w at z cs → (l : List ℤ) → painted newOf w cs l ≡ set l at z
 unfolding painted
 one-painted o l = rw (o .is, o .place-is, o .new-is)
-
-range-suc : (start n : ℕ) → range start (suc n) ≡ range start n ++ ((start + n) ∷ [])
-range-suc start n = rw add-one at (range-next start n)
 
 collected-suc : {B : Type 0} (f : ℕ → List B) (start n : ℕ) → flatMap f (range start (suc n)) ≡ flatMap f (range start n) ++ f (start + n)
 collected-suc f start n = ap (flatMap f) (range-suc start n) ∙ flatMap-append f (range start n) ((start + n) ∷ []) ∙ ap (λ k. flatMap f (range start n) ++ k) (flatMap-one f (start + n))

@@ -1,7 +1,7 @@
 -- The places that a pasted rectangle takes of an axis are those that `from_corners` gives. Assumes nothing.
 use Prim.Native.Nat.{ℕ, suc, _+_, _-_, _≤_, _<_, min}
 use mathlib.Core.Path.{_≡_, refl, sym, ap, _∙_}
-use mathlib.Core.Bool.{Bool, true, false, cond, _||_}
+use mathlib.Core.Bool.{true, false, cond, or-true}
 use native.Mathlib.Omega.{arith}
 use native.Mathlib.Decide.{decLt, ℕ-discrete}
 use borrow.Author.Tests.{lt-ltb, le-ltb, ne-eqb}
@@ -105,10 +105,6 @@ module _ (count : ℕ) (d : ℤ) (side : ℕ) (near : far d ≡ false) where
   pub span-none : count ≡ 0 → landing 0 count (offsetOf d) side .count ≡ 0
   unfolding landing
   span-none e = omega arith
-
-or-true : (b : Bool) → b || true ≡ true
-or-true true = refl
-or-true false = refl
 
 -- the rectangle
 module _ (cw ch : ℕ) (x y : ℤ) (w h : ℕ) (p : far x ≡ false) (q : far y ≡ false) {a b : Landing} (e : a ≡ landing 0 cw (offsetOf x) w) (f : b ≡ landing 0 ch (offsetOf y) h) where

@@ -10,7 +10,7 @@ use lib.ListN.{length, take, length-map}
 use Rattle.limits.specs.Checks.{Check, firstOf, refusedOr}
 use Rattle.limits.specs.declared.Rgb.{Rgb}
 use Rattle.limits.specs.declared.Lab.{Lab}
-use Rattle.limits.proofs.First.{first-past, first-here, refused-first, result-first}
+use Rattle.limits.proofs.First.{no-zero, first-past, first-here, refused-first, result-first}
 use Rattle.lists.specs.Lists.{over}
 use Rattle.color.specs.declared.Found.the-variants as found
 use Rattle.sheet.specs.Sheet.{Sheet}
@@ -27,9 +27,6 @@ use Rattle.palette.specs.Nearest.{otherChecks, Removable, Nearest, neare
 use Rattle.pixels.specs.Listing.{placesFrom}
 use Rattle.palette.specs.Removal.{moved, remapOf, remapped, removeTo, mergeChecks}
 use Rattle.palette.proofs.Opening.{past-opened, refused-opened}
-
-no : {n : ℕ} → 0 < n → n ≡ 0 → ⊥
-no h e = omega arith
 
 -- ---- `fixed_choices`
 module _ (s : Sheet) (p : Permitted) (used : List ℕ) where
@@ -60,11 +57,11 @@ module _ (s : Sheet) (i : ℕ) where
 
   pub other-none : WellFormed s → s .k ≤ i → Removable s i 7
   unfolding otherChecks firstOf
-  other-none f h = record { value = rw (past-sheet s f, le-leb _ _ h); fine = λ e. absurd (no (omega arith) e) }
+  other-none f h = record { value = rw (past-sheet s f, le-leb _ _ h); fine = λ e. absurd (no-zero (omega arith) e) }
 
   pub other-last : WellFormed s → i < s .k → s .k < 2 → Removable s i 9
   unfolding otherChecks firstOf
-  other-last f h l = record { value = rw (past-sheet s f, lt-leb _ _ h, lt-ltb _ _ l); fine = λ e. absurd (no (omega arith) e) }
+  other-last f h l = record { value = rw (past-sheet s f, lt-leb _ _ h, lt-ltb _ _ l); fine = λ e. absurd (no-zero (omega arith) e) }
 
   pub other-fine : WellFormed s → i < s .k → 2 ≤ s .k → Removable s i 0
   unfolding otherChecks firstOf

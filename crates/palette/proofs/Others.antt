@@ -15,10 +15,10 @@ use Rattle.lists.specs.Lists.{some}
 use Rattle.lists.proofs.Scan.{some-none}
 use Rattle.lists.proofs.Nowhere.{or-both, nowhere-take}
 use Rattle.cielab.specs.Finite.{unfit, unfitTriple}
-use Rattle.cielab.specs.declared.Near.{Near}
-use Rattle.cielab.specs.Nearest.{dist2Of, labAt, distance, nearestOf, FirstNearest}
-use Rattle.cielab.proofs.FirstNearest.{first-nearest}
-use Rattle.cielab.proofs.Parts.{parts, nearest-within}
+use Rattle.distances.specs.declared.Near.{Near}
+use Rattle.distances.specs.Nearest.{dist2Of, labAt, distance, nearestOf, FirstNearest}
+use Rattle.distances.proofs.FirstNearest.{first-nearest}
+use Rattle.distances.proofs.Parts.{parts, nearest-within}
 use Rattle.edits.specs.Storage.{cut}
 use Rattle.edits.proofs.Storage.{cut-length, cut-nowhere}
 use Rattle.palette.specs.Nearest.{nearestOther, FirstOther, Nearest}

@@ -1,6 +1,6 @@
 -- `remove_entry` and `merge_entries` of palette.rs: the remap, and the calls. Definitions only. Assumes nothing.
 use Prim.Native.Nat.{ℕ, _/_, _%_}
-use mathlib.Core.Bool.{_||_, cond}
+use mathlib.Core.Bool.{_||_}
 use mathlib.Core.List.{List, [], _∷_, _++_, map}
 use lib.Dec.{ltb, leb, eqb}
 use lib.IntN.{ℤ, pos}

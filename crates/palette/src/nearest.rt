@@ -1,7 +1,7 @@
 // The entry that is nearest to another: `nearest_other`.
-use cielab::lab_at;
-use cielab::nearest_in;
 use color::Found;
+use distances::lab_at;
+use distances::nearest_in;
 use limits::LAST_ENTRY;
 use limits::NO_SUCH_ENTRY;
 use sheet::check;

@@ -1,5 +1,5 @@
 // Lines of every kind: malformed and over-long ones, failed openings, calls before the opening, a second opening, either
 // case, and a last line without its newline.
 fn main() {
-    session::run();
+    console::run();
 }

@@ -1,4 +1,4 @@
 // The smallest sheet: a side of 0, and no entry.
 fn main() {
-    session::run();
+    console::run();
 }

@@ -8,8 +8,8 @@ use lib.Dec.{leb}
 use lib.ListN.{length, getD}
 use Rattle.lists.specs.Lists.{some}
 use Rattle.lists.proofs.Scan.{or-left, or-right}
+use Rattle.lists.proofs.Nowhere.{nowhere-weaker}
 use Rattle.sheet.proofs.Places as places
-use Rattle.sheet.proofs.Pixels.{none-by}
 use Rattle.edits.specs.Change.{Change, unpacked, place, outside}
 use Rattle.pixels.specs.Inside.{past}
 use Rattle.pixels.proofs.Unpacking.{none-unpacked}
@@ -21,7 +21,7 @@ module _ (w h n : ℕ) (e : n ≡ w * h) where
 
   pub none-past : (cs : List Change) → some (outside w h) cs ≡ false → some (past w n) cs ≡ false
   unfolding past
-  none-past = none-by (outside w h) (past w n) (λ c o. lt-leb n (place w c) (inside c o))
+  none-past = nowhere-weaker (outside w h) (past w n) (λ c o. lt-leb n (place w c) (inside c o))
 
 pub inside-at : (w n : ℕ) (list : List ℕ) (i : ℕ) → some (past w n) (map unpacked list) ≡ false → i < length list → place w (unpacked (getD list i 0)) < n
 unfolding past

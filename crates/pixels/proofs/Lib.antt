@@ -8,3 +8,4 @@ pub mod Steps
 pub mod Places
 pub mod Painting
 pub mod Unpacking
+pub mod Fitting

@@ -1,12 +1,8 @@
 pub mod Searched
 pub mod Numbers
 pub mod Rooms
-pub mod Redos
-pub mod RedoneAt
 pub mod LabBytes
 pub mod OldFresh
 pub mod OldExamples
 pub mod OldClaims
 pub mod OldSigned
-pub mod UndoTests
-pub mod UndoKinds

@@ -17,7 +17,7 @@ use Rattle.pixels.proofs.Inside.{inside-at}
 use Rattle.pixels.proofs.Unpacking.{some-unpacked}
 use Rattle.pixels.proofs.Passing.{Passing, passing-hit, passing-next, passing-all}
 use Rattle.pixels.proofs.Painting.{Painting, painting-next, painting-all}
-use Rattle.apply.proofs.Marking.{Marking, marking-next, marking-all}
+use Rattle.remapping.proofs.Marking.{Marking, marking-next, marking-all}
 use Rattle.records.specs.Bytes.{leAt}
 use Rattle.records.specs.Record.{changesIn}
 use Rattle.recorded.specs.OldClaims.{claimed, claimOf, releaseOf, Claims}

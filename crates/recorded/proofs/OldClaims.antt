@@ -15,7 +15,7 @@ use Rattle.lists.proofs.Scan.{drop-next, drop-end, some-none}
 use Rattle.lists.proofs.Nowhere.{or-both}
 use Rattle.ints.proofs.Back.{never}
 use Rattle.sheet.specs.Sheet.{stray}
-use Rattle.sheet.proofs.Totals.{stray-more}
+use Rattle.sheet.proofs.Strays.{stray-more}
 use Rattle.edits.specs.Change.{Change, unpacked, place, painted, oldOf}
 use Rattle.edits.specs.Checks.{named}
 use Rattle.recorded.specs.OldClaims.{claimed, claimOf, releaseOf, Claims}

@@ -40,7 +40,7 @@ pub fn lab_in(journal: &[u8], at: usize) -> Lab
 }
 
 // Whether a number of the LAB from `at` on is not finite.
-pub(crate) fn unfit_lab_in(journal: &[u8], at: usize) -> bool
+pub fn unfit_lab_in(journal: &[u8], at: usize) -> bool
     requires { ⌜ at + 24 ≤ length (now journal) ⌝ }
     ensures { λ r. ⌜ r ≡ unfitTriple (labIn (now (journal .entry)) at) ⌝ }
 {

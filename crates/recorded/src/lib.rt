@@ -1,16 +1,21 @@
-// An edit that lies in the journal, checked, redone and undone from its bytes: nothing is copied out. The
+// The parts of a record that lies in the journal, read and checked where they lie: nothing is copied out. The
 // caller knows the record's kind, where it starts and how many changes it has.
+mod kind;
 mod lab;
 mod list;
 mod olds;
-mod redo;
 mod rgb;
-mod undo;
 
+pub use kind::ADD;
+pub use kind::PIXELS;
+pub use kind::SET;
+pub use kind::entry_at;
 pub use lab::lab_in;
-pub use redo::can_redo;
-pub use redo::entry_at;
-pub use redo::redo_record;
+pub use lab::unfit_lab_in;
+pub use list::paint_news_in;
+pub use list::pixels_no_in;
+pub use list::removal_no_in;
+pub use olds::any_outside_in;
+pub use olds::olds_stray;
+pub use olds::paint_olds_in;
 pub use rgb::get_rgb;
-pub use undo::can_undo;
-pub use undo::undo_record;

@@ -1,13 +1,13 @@
 // A list of changes as it lies in the journal, 8 bytes a change from `at` on: the checks of its changes, and
 // its news painted. Each loop reads one change a turn.
-use apply::any_left;
-use apply::clear;
-use apply::move_no;
 use limits::STILL_USED;
 use pixels::paint_new;
 use pixels::pixel_no;
 use pixels::place_of;
 use records::get_u64;
+use remapping::any_left;
+use remapping::clear;
+use remapping::move_no;
 ghost use mathlib.Core.Path.{_≡_};
 ghost use mathlib.Core.Bool.{false};
 ghost use mathlib.Core.List.{[], _∷_, _++_, flatMap};
@@ -31,7 +31,7 @@ pub(crate) fn change_at(journal: &[u8], at: usize, i: usize) -> u64
 }
 
 // The number of the first of 5 and 6 that applies to a list of n changes, or 0.
-pub(crate) fn pixels_no_in(
+pub fn pixels_no_in(
     w: usize,
     h: usize,
     k: usize,
@@ -95,7 +95,7 @@ fn mark_places_in(marks: &mut [u8], w: usize, journal: &[u8], at: usize, n: usiz
 
 // The number of the first of 5, 12 and 13 that applies to a removal's list, or 0. The scratch has a byte a
 // pixel.
-pub(crate) fn removal_no_in(
+pub fn removal_no_in(
     w: usize,
     h: usize,
     k: usize,
@@ -121,7 +121,7 @@ pub(crate) fn removal_no_in(
 }
 
 // Paints each new of a list at its place, in order. No change is past the picture.
-pub(crate) fn paint_news_in(indices: &mut [i16], w: usize, journal: &[u8], at: usize, n: usize)
+pub fn paint_news_in(indices: &mut [i16], w: usize, journal: &[u8], at: usize, n: usize)
     requires { ⌜ (at + 8 * n ≤ length (now journal)) × (some (past w (length (now indices))) (changesIn (now journal) at n) ≡ false) ⌝ }
     ensures { λ _. ⌜ now (indices .exit) ≡ painted newOf w (changesIn (now (journal .entry)) at n) (now (indices .entry)) ⌝ }
 {

@@ -22,7 +22,7 @@ ghost use Rattle.records.specs.Record.{changesIn};
 ghost use Rattle.recorded.specs.OldClaims.{claimed, claimOf, releaseOf, Claims};
 
 // Whether some change is off a sheet of w by h.
-pub(crate) fn any_outside_in(w: usize, h: usize, journal: &[u8], at: usize, n: usize) -> bool
+pub fn any_outside_in(w: usize, h: usize, journal: &[u8], at: usize, n: usize) -> bool
     requires { ⌜ at + 8 * n ≤ length (now journal) ⌝ }
     ensures { λ r. ⌜ r ≡ some (outside w h) (changesIn (now (journal .entry)) at n) ⌝ }
 {
@@ -50,7 +50,7 @@ fn any_stray_old_in(k: usize, journal: &[u8], at: usize, n: usize) -> bool
 }
 
 // Paints each old at its place, in order. No change is past the picture.
-pub(crate) fn paint_olds_in(indices: &mut [i16], w: usize, journal: &[u8], at: usize, n: usize)
+pub fn paint_olds_in(indices: &mut [i16], w: usize, journal: &[u8], at: usize, n: usize)
     requires { ⌜ at + 8 * n ≤ length (now journal) ⌝ }
     requires { ⌜ some (past w (length (now indices))) (changesIn (now journal) at n) ≡ false ⌝ }
     ensures { λ _. ⌜ now (indices .exit) ≡ painted oldOf w (changesIn (now (journal .entry)) at n) (now (indices .entry)) ⌝ }
@@ -153,7 +153,7 @@ fn release_places(indices: &mut [i16], w: usize, journal: &[u8], at: usize, n: u
 
 // Whether the picture with the olds painted has an index outside -1..k-1: at each place the last old
 // counts. The picture is written to on the way, and is as it was at the end.
-pub(crate) fn olds_stray(
+pub fn olds_stray(
     indices: &mut [i16],
     w: usize,
     k: usize,

@@ -23,6 +23,14 @@ unfolding changesIn
 length-in bytes at zero = refl
 length-in bytes at (suc n) = ap suc (length-in bytes (at + 8) n)
 
+-- no record is shorter than 8 bytes
+pub size-least : (e : Edit) (n : ℕ) → 8 ≤ recordLength e n
+unfolding recordLength
+size-least (Pixels tool) n = omega arith
+size-least (PaletteSet i old new lab) n = omega arith
+size-least (PaletteAdd c) n = omega arith
+size-least (PaletteRemove i c lab) n = omega arith
+
 same-both : {A : Type 0} (b : Bool) (x : A) → cond b x x ≡ x
 same-both true x = refl
 same-both false x = refl
@@ -87,18 +95,10 @@ module _ (bytes : List ℕ) where
     unfolding readForth told byKind agreed foundAt
     found-other a b c d = let k : ℕ = getD bytes 0 0 in rw (ne-eqb k 1 a, ne-eqb k 2 b, ne-eqb k 3 c, ne-eqb k 4 d)
 
-  -- no record is shorter than 8 bytes
-  least : (e : Edit) (n : ℕ) → 8 ≤ recordLength e n
-  unfolding recordLength
-  least (Pixels tool) n = omega arith
-  least (PaletteSet i old new lab) n = omega arith
-  least (PaletteAdd c) n = omega arith
-  least (PaletteRemove i c lab) n = omega arith
-
   none-agreed : length bytes < 8 → (held : Option (Edit × List Change)) → agreed bytes held ≡ none
   unfolding agreed
   none-agreed h none = refl
-  none-agreed h (some held) = rw (too-long (recordLength (held .0) (length (held .1))) (omega (arith, least (held .0) (length (held .1)))))
+  none-agreed h (some held) = rw (too-long (recordLength (held .0) (length (held .1))) (omega (arith, size-least (held .0) (length (held .1)))))
 
   pub none-forth : length bytes < 8 → readForth bytes ≡ none
   unfolding readForth

@@ -2,13 +2,14 @@
 -- Assumes nothing.
 use Prim.Native.Nat.{ℕ, _-_, _≤_}
 use mathlib.Core.Path.{_≡_, refl, sym, ap, subst}
-use mathlib.Core.Bool.{Bool, true, false, _&&_, cond}
+use mathlib.Core.Bool.{Bool, true, false, cond}
 use mathlib.Core.List.{List, []}
 use mathlib.Core.Option.{Option, none, some, Option·some-injective}
 use native.Mathlib.Omega.{arith}
 use borrow.Author.Tests.{leb-true}
 use lib.Dec.{leb, eqb}
 use lib.ListN.{length, getD}
+use Rattle.lists.proofs.Bools.{and-left}
 use Rattle.edits.specs.declared.Edit.{Edit}
 use Rattle.edits.specs.declared.Edit.the-variants.{Pixels, PaletteSet, PaletteAdd, PaletteRemove}
 use Rattle.edits.specs.Change.{Change}
@@ -97,10 +98,6 @@ pub record Held (bytes : List ℕ) (n : ℕ) (e : Edit) (cs : List Change) : Typ
 
 abbrev triple : ℕ → Edit → List Change → Reading
 triple n e cs = some (n, e, cs)
-
-pub and-left : (a b : Bool) → a && b ≡ true → a ≡ true
-and-left true b e = refl
-and-left false b e = e
 
 module _ (bytes : List ℕ) (n : ℕ) (e : Edit) (cs : List Change) where
   held-where : (e′ : Edit) (cs′ : List Change) (b : Bool) → closed bytes (recordLength e′ (length cs′)) ≡ b → Holds bytes e′ cs′

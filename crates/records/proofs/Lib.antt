@@ -1,14 +1,6 @@
 pub mod LittleEndian
 pub mod Splice
-pub mod Changes
-pub mod Lengths
-pub mod ReadAgain
 pub mod Examples
-pub mod Filled
-pub mod OnTheSheet
-pub mod Putting
-pub mod Written
-pub mod Framing
 pub mod Finding
 pub mod Holds
 pub mod Parts

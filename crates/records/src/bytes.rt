@@ -11,7 +11,7 @@ ghost use Rattle.records.specs.Record.{doubleBytes};
 ghost use Rattle.records.specs.Found.{realOf};
 
 // Writes the 4 bytes of v from `at` on.
-pub(crate) fn put_u32(dst: &mut [u8], at: usize, v: u32)
+pub fn put_u32(dst: &mut [u8], at: usize, v: u32)
     requires { ⌜ at + 4 ≤ length (now dst) ⌝ }
     ensures { λ _. ⌜ now (dst .exit) ≡ splice (now (dst .entry)) at (le 4 v) ⌝ }
 {
@@ -22,7 +22,7 @@ pub(crate) fn put_u32(dst: &mut [u8], at: usize, v: u32)
 }
 
 // Writes the 8 bytes of v from `at` on.
-pub(crate) fn put_u64(dst: &mut [u8], at: usize, v: u64)
+pub fn put_u64(dst: &mut [u8], at: usize, v: u64)
     requires { ⌜ at + 8 ≤ length (now dst) ⌝ }
     ensures { λ _. ⌜ now (dst .exit) ≡ splice (now (dst .entry)) at (le 8 v) ⌝ }
 {
@@ -31,7 +31,7 @@ pub(crate) fn put_u64(dst: &mut [u8], at: usize, v: u64)
 }
 
 // Writes the 8 bytes of a double that is a number, by its bits.
-pub(crate) fn put_f64(dst: &mut [u8], at: usize, x: f64)
+pub fn put_f64(dst: &mut [u8], at: usize, x: f64)
     requires { ⌜ at + 8 ≤ length (now dst) ⌝ }
     requires { ⌜ T (not (isNan x)) ⌝ }
     ensures { λ _. ⌜ now (dst .exit) ≡ splice (now (dst .entry)) at (doubleBytes x) ⌝ }

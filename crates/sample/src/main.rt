@@ -4,16 +4,9 @@
 //
 // The inputs are dealt from seeds (crate `deals`). The file stdout was not written by this program: compare/sample.rs deals the same
 // inputs, takes the answers from the Rust and document 01's checks, and prints the lines (`compare/run FOLDER sample`).
-mod looks;
-mod loose;
 mod names;
-mod palettes;
 mod steps;
-mod strokes;
-mod tiled;
 
-use deals::Hand;
-use deals::Outcome;
 use deals::deal;
 use deals::deck;
 use deals::fill_bytes;
@@ -21,6 +14,13 @@ use deals::fill_indices;
 use deals::height;
 use deals::pick;
 use deals::width;
+use prints::Outcome;
+use sampled::bare_answer;
+use sampled::look_answer;
+use sampled::palette_answer;
+use sampled_tools::flip;
+use sampled_tools::stroke_answer;
+use sampled_tools::tile_answer;
 
 // Inputs of each call, histories, and calls of each history.
 const EACH: u64 = 60;
@@ -52,9 +52,10 @@ fn entries(wrong: usize, k: usize) -> usize {
     if wrong == 2 { 256 } else { k }
 }
 
+// A call that is given a sheet.
 fn over(
     c: usize,
-    a: Hand,
+    d: &[u64; 32],
     w: usize,
     h: usize,
     k: usize,
@@ -62,11 +63,12 @@ fn over(
     lab: &[f64],
     indices: &[i16],
 ) -> Outcome {
+    let a = deal(d);
     match c {
-        0..=7 => looks::answer(c, a, w, h, k, palette, lab, indices),
-        8..=19 => strokes::answer(c, a, w, h, k, palette, lab, indices),
-        20..=25 => palettes::answer(c, a, w, h, k, palette, lab, indices),
-        _ => tiled::answer(c, a, w, h, k, palette, lab, indices),
+        0..=7 => look_answer(c, a, w, h, k, palette, lab, indices),
+        8..=19 => stroke_answer(c, a, w, h, k, palette, lab, indices),
+        20..=25 => palette_answer(c, a, w, h, k, palette, lab, indices),
+        _ => tile_answer(c, a, w, h, k, palette, lab, indices),
     }
 }
 
@@ -84,16 +86,7 @@ fn over_sheet(c: usize, d: &[u64; 32]) -> Outcome {
     exports::call_new(w, h, k, &palette, &mut lab, &indices);
     spoil_index(wrong, &mut indices);
     spoil_lab(wrong, &mut lab);
-    over(
-        c,
-        deal(d),
-        w,
-        h,
-        entries(wrong, k),
-        &palette,
-        &lab,
-        &indices,
-    )
+    over(c, d, w, h, entries(wrong, k), &palette, &lab, &indices)
 }
 
 // Writes a line.
@@ -110,8 +103,8 @@ fn print_line(c: usize, t: Outcome) {
 fn print_answer(c: usize, seed: u64) {
     let d = deck(seed);
     match c {
-        26..=43 => print_line(c, loose::answer(c, deal(&d))),
-        44 => print_line(56, tiled::flip(deal(&d))),
+        26..=43 => print_line(c, bare_answer(c, deal(&d))),
+        44 => print_line(56, flip(deal(&d))),
         45 => print_line(57, over_sheet(57, &d)),
         46 => print_line(58, over_sheet(58, &d)),
         _ => print_line(c, over_sheet(c, &d)),

@@ -1,18 +1,18 @@
 // The calls of a history in a journal of 120 bytes.
-use crate::loose::edit;
 use deals::Hand;
-use deals::Outcome;
 use deals::colours;
 use deals::fill_list;
-use deals::mix_answer;
-use deals::mix_bytes;
-use deals::mix_doubles;
-use deals::mix_edit;
-use deals::mix_indices;
-use deals::mix_number;
-use deals::mix_sizes;
 use deals::pick;
-use deals::told;
+use prints::Outcome;
+use prints::mix_answer;
+use prints::mix_bytes;
+use prints::mix_doubles;
+use prints::mix_edit;
+use prints::mix_indices;
+use prints::mix_number;
+use prints::mix_sizes;
+use prints::told;
+use sampled::edit;
 
 // Which call is made: mostly a push, an undo or a redo.
 pub(crate) fn call_of(x: u64) -> usize {
@@ -71,8 +71,8 @@ fn fill_removal(
         palette,
         lab,
         indices,
-        a.from,
-        a.into,
+        a.choice.from,
+        a.choice.into,
         list,
         &mut bytes,
         &mut doubles,
@@ -92,11 +92,11 @@ fn fill_edit(
     indices: &[i16],
     list: &mut [u64],
 ) -> usize {
-    if a.kind == 4 {
+    if a.choice.kind == 4 {
         return fill_removal(a, w, h, entries, palette, lab, indices, list);
     }
-    fill_list(a.seed, list);
-    a.size
+    fill_list(a.seeds.seed, list);
+    a.choice.size
 }
 
 // The first n changes of a list, or all of them.
@@ -118,7 +118,7 @@ fn push(
     let mut scratch = [0u8; 6];
     let doubles = [0.0f64; 3];
     let bytes = edit(a);
-    let permitted = colours(a.listed);
+    let permitted = colours(a.seeds.listed);
     let n = fill_edit(a, w, h, state[0], palette, lab, indices, &mut list);
     exports::call_push(
         w,
@@ -126,10 +126,10 @@ fn push(
         palette,
         lab,
         indices,
-        a.limited,
+        a.choice.limited,
         &permitted,
         &bytes,
-        a.from,
+        a.choice.from,
         &doubles,
         front(&list, n),
         journal,
@@ -165,18 +165,18 @@ fn replay(
     let mut scratch = [0u8; 6];
     let doubles = [0.0f64; 3];
     let bytes = edit(a);
-    let permitted = colours(a.listed);
-    fill_list(a.seed, &mut list);
+    let permitted = colours(a.seeds.listed);
+    fill_list(a.seeds.seed, &mut list);
     exports::call_replay(
         w,
         h,
         palette,
         lab,
         indices,
-        a.limited,
+        a.choice.limited,
         &permitted,
         &bytes,
-        a.from,
+        a.choice.from,
         &doubles,
         &list,
         &mut scratch,
@@ -202,7 +202,7 @@ fn shown(c: usize, a: Hand, journal: &[u8], state: &[usize; 6]) -> Outcome {
     let no = match c {
         52 => exports::call_next_undo(journal, state, &mut bytes, &mut doubles, &mut r),
         53 => exports::call_next_redo(journal, state, &mut bytes, &mut doubles, &mut r),
-        _ => exports::call_applied(journal, state, a.at, &mut bytes, &mut doubles, &mut r),
+        _ => exports::call_applied(journal, state, a.seeds.at, &mut bytes, &mut doubles, &mut r),
     };
     told(no, mix_edit(mix_answer(no, &r), &bytes, &doubles))
 }
@@ -214,10 +214,10 @@ fn mark_saved(journal: &[u8], state: &mut [usize; 6]) -> Outcome {
 
 // Changes a byte of the journal, now and then.
 fn damage(a: Hand, journal: &mut [u8]) {
-    let at = a.place;
-    if a.hit {
+    let at = a.seeds.place;
+    if a.seeds.hit {
         if at < journal.len() {
-            journal[at] = a.byte;
+            journal[at] = a.choice.byte;
         }
     }
 }

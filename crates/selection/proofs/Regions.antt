@@ -1,18 +1,18 @@
 -- `region` on a sheet whose sides are in the limits: it finds the region, or refuses with 5. Assumes nothing.
 use mathlib.Core.Path.{_≡_, refl, sym, _∙_}
-use mathlib.Core.Bool.{Bool, true, false, _&&_}
+use mathlib.Core.Bool.{Bool, true, false}
 use Prim.Native.Nat.{ℕ, suc, _+_, _*_, _<_, _≤_}
 use native.Mathlib.Nat.{mul-comm, mul-le-mul-right, suc-mul}
 use native.Mathlib.Omega.{arith}
-use borrow.Author.Tests.{le-ltb, leb-true}
-use lib.Dec.{leb}
-use Rattle.ints.proofs.Back.{never}
+use borrow.Author.Tests.{ltb-true, le-ltb, leb-true}
+use lib.Dec.{leb, ltb}
 use Rattle.limits.specs.Checks.{firstOf, refusedOr}
+use Rattle.lists.proofs.Bools.{and-left, and-right}
 use Rattle.selection.specs.declared.Selection.{Selection}
 use Rattle.selection.specs.declared.Area.{Area}
 use Rattle.selection.specs.declared.Area.the-variants as area
 use Rattle.selection.specs.declared.Chosen.the-variants as chosen
-use Rattle.selection.specs.Selection.{all, inside}
+use Rattle.selection.specs.Selection.{all, inside, inSpan}
 use Rattle.selection.specs.Calls.{tooLarge, allOf, regionOf}
 use Rattle.selection.specs.Region.{regionChecks, regionIn, Fits}
 
@@ -25,13 +25,10 @@ module _ (s : Selection) (width height : ℕ) where
   within : (b : Bool) → inside s width height ≡ b → b ≡ true → Within s width height
   unfolding inside
   within b e q =
-      let both = T-and (leb (s .x + s .w) width) (leb (s .y + s .h) height) (e ∙ q) in
-      record { right = leb-true _ _ (both .0); below = leb-true _ _ (both .1) }
-    where
-      T-and : (a b : Bool) → a && b ≡ true → (a ≡ true) × (b ≡ true)
-      T-and true true e = (refl, refl)
-      T-and true false e = never e
-      T-and false b e = never e
+      record {
+        right = leb-true _ _ (and-left (leb (s .x + s .w) width) (leb (s .y + s .h) height) (e ∙ q));
+        below = leb-true _ _ (and-right (leb (s .x + s .w) width) (leb (s .y + s .h) height) (e ∙ q));
+      }
 
   pub fits-region : width ≤ 1024 → height ≤ 1024 → (pixels : ℕ) → pixels ≡ width * height → Within s width height → Fits width pixels s
   fits-region across down pixels e f =
@@ -41,6 +38,11 @@ module _ (s : Selection) (width height : ℕ) where
         bottom = omega (arith, f .below);
         below = omega (arith, mul-le-mul-right width (f .below), mul-comm height width);
       }
+
+-- what a span contains is below the side that the span ends in
+pub below-span : (start count at side : ℕ) → start + count ≤ side → inSpan start count at ≡ true → at < side
+unfolding inSpan
+below-span start count at side h e = omega (arith, ltb-true at (start + count) (and-right (leb start at) (ltb at (start + count)) e))
 
 -- a row of it is inside the sheet
 pub row-inside : (w y h j : ℕ) → j < h → (y + j) * w + w ≤ (y + h) * w
@@ -57,8 +59,8 @@ pub record Found (a : Area) (width height : ℕ) (s : Selection) : Type 0 where
 injected : {p q : Selection} → chosen.Part p ≡ chosen.Part q → p ≡ q
 injected e = cc
 
-other : {n : ℕ} {q : Selection} → chosen.Refused n ≡ chosen.Part q → ⊥
-other e = let z : _≡_ {A = ℕ} 0 1 = cc in omega arith
+pub part-other : {n : ℕ} {s : Selection} → chosen.Refused n ≡ chosen.Part s → ⊥
+part-other e = let z : _≡_ {A = ℕ} 0 1 = cc in omega arith
 
 module _ (width height : ℕ) (across : width ≤ 1024) (down : height ≤ 1024) where
   fine : tooLarge width height ≡ false
@@ -76,7 +78,7 @@ module _ (width height : ℕ) (across : width ≤ 1024) (down : height ≤ 1024)
       go true q =
           let same : p ≡ s = injected (rw (fine, q) at e) in
           record { unrefused = rw q; value = sym same; fits = rw (← same) (within p width height true q refl) }
-      go false q = absurd (other (rw (fine, q) at e))
+      go false q = absurd (part-other (rw (fine, q) at e))
 
   -- where it finds none
   pub region-none : (a : Area) → ((s : Selection) → regionOf a width height ≡ chosen.Part s → ⊥) → 5 ≡ firstOf (regionChecks a width height)

@@ -1,10 +1,4 @@
 pub mod Clearing
-pub mod Merging
-pub mod Calling
 pub mod Opening
 pub mod Steps
-pub mod Feeding
-pub mod Turns
-pub mod Pours
-pub mod Printed
 pub mod Played

@@ -26,8 +26,8 @@ use Rattle.looks.specs.Looks.{dirty}
 use Rattle.frames.specs.Reading.{paletteIn, indicesIn, indexOf}
 use Rattle.frames.specs.Writing.{lineOf, numberLine}
 use Rattle.session.specs.declared.Core.{Core}
-use Rattle.session.specs.Lines.{said}
-use Rattle.session.specs.Panel.{journalBytes, wholeLine, openSheet, begun, openChecks, openOf}
+use Rattle.answering.specs.Lines.{said}
+use Rattle.answering.specs.Panel.{journalBytes, wholeLine, openSheet, begun, openChecks, openOf}
 use Rattle.session.specs.Memory.{panelIn}
 
 -- ---- the buffers

@@ -12,7 +12,7 @@ use Rattle.editing.specs.Editing.{editing}
 use Rattle.frames.specs.Reading.{frameOf}
 use Rattle.frames.specs.declared.Frame.{Frame}
 use Rattle.frames.specs.declared.Frame.the-variants.{Open, Pixels, Set, Add, Merge, Undo, Redo, Mark, Malformed}
-use Rattle.session.specs.Panel.{room, mergedOf, callOf, shown, actOf, stepOf}
+use Rattle.answering.specs.Panel.{room, mergedOf, callOf, shown, actOf, stepOf}
 use Rattle.session.specs.Played.{asked, askedBy, callsOf, after}
 
 merge-played : (st : State editing) (from into : ℕ) (bs : List ℕ) → mergedOf st from into .leaves ≡ play (step editing room) st (asked st (Merge from into) bs) .ends

@@ -27,8 +27,8 @@ use Rattle.frames.proofs.Frame.{the-type}
 use Rattle.frames.proofs.Lines.{length-line}
 use Rattle.session.specs.declared.Core.{Core}
 use Rattle.session.specs.declared.Stepped.{Stepped}
-use Rattle.session.specs.Lines.{Said, said}
-use Rattle.session.specs.Panel.{Panel, callOf, wholeLine, shown, openSheet, unopenedOf, actOf, stepOf}
+use Rattle.answering.specs.Lines.{Said, said}
+use Rattle.answering.specs.Panel.{Panel, callOf, wholeLine, shown, openSheet, unopenedOf, actOf, stepOf}
 use Rattle.session.specs.Memory.{panelIn, Fits, Tells, Steps}
 
 -- a text that was told, and the state that stands

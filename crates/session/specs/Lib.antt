@@ -1,4 +1,2 @@
-pub mod Lines
-pub mod Panel
 pub mod Memory
 pub mod Played

@@ -1,5 +1,5 @@
 -- What the lent buffers hold, and what the functions on them promise each other. Definitions only. Assumes nothing.
-use Prim.Native.Nat.{ℕ, _+_, _*_, _≤_, _<_}
+use Prim.Native.Nat.{ℕ, _+_, _*_, _≤_}
 use mathlib.Core.Path.{_≡_}
 use mathlib.Core.Bool.{cond}
 use mathlib.Core.List.{List}
@@ -12,9 +12,8 @@ use Rattle.records.specs.Bytes.{splice}
 use Rattle.editing.specs.Calls.{stateOf}
 use Rattle.session.specs.declared.Core.{Core}
 use Rattle.session.specs.declared.Stepped.{Stepped}
-use Rattle.session.specs.declared.Turn.{Turn}
-use Rattle.session.specs.Lines.{Said, Fed}
-use Rattle.session.specs.Panel.{Panel}
+use Rattle.answering.specs.Lines.{Said}
+use Rattle.answering.specs.Panel.{Panel}
 
 -- the state in the buffers: before the opening, nothing in them counts
 unfoldable pub panelIn : Core → List ℕ → List Float → List ℤ → List ℕ → Panel
@@ -47,19 +46,3 @@ pub record Steps (r : Stepped) (p : Panel) (out₀ out : List ℕ) (at : ℕ) (o
   pub end-is : r .at ≡ at + length (o .text)
   pub short : length (o .text) ≤ 8203
   pub small : r .core .w * r .core .h ≤ 4096
-
--- the line that is held
-pub record Holds (t : Turn) (line : ℕ) : Type 0 where
-  pub line-length : line ≡ 16385
-  pub within : t .len ≤ 16385
-
--- a part of a chunk is taken: some of it, where any is left, with a text that fits
-pub record Onward (from length next at : ℕ) : Type 0 where
-  pub some : from < length → from < next
-  pub inside : next ≤ length
-  pub fits : at ≤ 65536
-
--- state and held line are those that a chunk leaves
-pub record Left (p : Panel) (line : List ℕ) (o : Fed Panel) : Type 0 where
-  pub state-is : p ≡ o .state
-  pub line-is : line ≡ o .line

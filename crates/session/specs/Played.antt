@@ -16,7 +16,7 @@ use Rattle.editing.specs.Editing.{Given, givenOf, editing}
 use Rattle.frames.specs.Reading.{frameOf, changesFrom}
 use Rattle.frames.specs.declared.Frame.{Frame}
 use Rattle.frames.specs.declared.Frame.the-variants.{Open, Pixels, Set, Add, Merge, Undo, Redo, Mark, Malformed}
-use Rattle.session.specs.Panel.{Panel, room, given, stepOf}
+use Rattle.answering.specs.Panel.{Panel, room, given, stepOf}
 
 -- what a frame asks of the history over the state that it meets: one call, or none where 22 or 18 refuses it
 unfoldable pub asked : State editing → Frame → List ℕ → List (Call Given)

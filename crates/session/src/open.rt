@@ -3,8 +3,8 @@ use crate::Core;
 use crate::Stepped;
 use crate::clear::clear_bytes;
 use crate::clear::clear_lab;
-use crate::step::number;
-use crate::step::whole;
+use crate::line::number;
+use crate::line::whole;
 use frames::take_bytes;
 use frames::take_indices;
 use history::fresh;
@@ -18,7 +18,7 @@ ghost use lib.ListN.{length, replicate, take, drop};
 ghost use Rattle.limits.specs.Limits.{storage};
 ghost use Rattle.lists.specs.Lists.{over};
 ghost use Rattle.frames.specs.Reading.{paletteIn, indexOf};
-ghost use Rattle.session.specs.Panel.{openSheet, openOf};
+ghost use Rattle.answering.specs.Panel.{openSheet, openOf};
 ghost use Rattle.session.specs.Memory.{panelIn, Fits, Steps};
 
 // Sides of the sheets that are opened.

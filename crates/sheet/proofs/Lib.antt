@@ -1,14 +1,8 @@
 pub mod Strays
 pub mod Judging
-pub mod Baselines
 pub mod Places
 pub mod Front
 pub mod Pixels
-pub mod Totals
 pub mod Entries
 pub mod LabStorage
-pub mod Counting
-pub mod Slots
-pub mod Shades
-pub mod Mask
 pub mod Answers

@@ -1,4 +1,3 @@
 pub mod Sheet
 pub mod Checks
 pub mod Document
-pub mod Tables

@@ -10,12 +10,11 @@ use limits::STRAY_INDEX;
 use limits::UNFIT_LAB;
 use lists::either;
 ghost use mathlib.Core.Path.{_≡_};
-ghost use mathlib.Core.List.{[]};
 ghost use Prim.Native.Nat.{_≤_};
 ghost use Rattle.lists.specs.Lists.{some};
 ghost use Rattle.limits.specs.Checks.{firstOf};
 ghost use Rattle.sheet.specs.Sheet.{sheetOf, stray, strayZ};
-ghost use Rattle.sheet.specs.Checks.{limitChecks, permittedChecks, Limited, Judged};
+ghost use Rattle.sheet.specs.Checks.{permittedChecks, Limited, Judged};
 
 // Whether an index lies outside -1..k-1. The bound has the index's width, so that a scan stays narrow.
 fn is_stray(z: i16, k: i16) -> bool
@@ -24,7 +23,8 @@ fn is_stray(z: i16, k: i16) -> bool
     either(z < -1, z >= k)
 }
 
-fn any_stray_below(indices: &[i16], k: i16) -> bool
+// Whether some index lies outside -1..k-1, with the bound as the indices have it.
+pub fn any_stray_below(indices: &[i16], k: i16) -> bool
     ensures { λ r. ⌜ r ≡ some (strayZ k) (now (indices .entry)) ⌝ }
 {
     let mut bad = false;

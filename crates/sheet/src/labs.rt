@@ -2,14 +2,13 @@
 use limits::Lab;
 use limits::Rgb;
 ghost use mathlib.Core.Path.{_≡_};
-ghost use mathlib.Core.List.{_++_};
 ghost use Prim.Native.Nat.{_+_, _*_, _≤_};
-ghost use lib.ListN.{length, take, drop};
+ghost use lib.ListN.{length, take};
 ghost use Rattle.lists.specs.Lists.{over};
 ghost use Rattle.sheet.specs.Document.{labsOf, rgbAt, withLab};
 
 // Entry i of the palette.
-pub(crate) fn rgb_at(palette: &[u8], i: usize) -> Rgb
+fn rgb_at(palette: &[u8], i: usize) -> Rgb
     requires { ⌜ 3 * i + 3 ≤ length (now palette) ⌝ }
     ensures { λ r. ⌜ r ≡ rgbAt (now (palette .entry)) i ⌝ }
 {

@@ -8,8 +8,8 @@ use lib.ListN.{length, take, getD, set, length-set, length-map, List·getD-map}
 use lib.Seq.{take-suc, length-take-le}
 use Rattle.lists.specs.Lists.{over}
 use Rattle.lists.proofs.Over.{over-none, over-set}
+use Rattle.lists.proofs.Mapped.{map-set}
 use Rattle.changes.proofs.Packing.{packed-unpacked}
-use Rattle.changes.proofs.Copying.{map-set}
 use Rattle.structs.specs.declared.Change.{Change}
 use Rattle.structs.specs.Struct.{packedOf, structOf}
 

@@ -22,7 +22,7 @@ use Rattle.tiling.proofs.Flipping.{alone-flipped}
 use Rattle.tiles.specs.declared.Extraction.the-variants.{Made, Refused}
 use Rattle.tiles.specs.Flips.{flipOf}
 use Rattle.tiles.specs.Extracts.{Left, left, sideChecks, extractedIn, extractCall}
-use Rattle.tiles.proofs.Laid.{unique-count, entries-count, tiles-long, map-long}
+use Rattle.laying.proofs.Laid.{unique-count, entries-count, tiles-long, map-long}
 
 -- ---- `flip`
 module _ (t : ℕ) (fh fv : Bool) (tile out : List ℤ) where

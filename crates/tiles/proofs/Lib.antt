@@ -1,4 +1,2 @@
-pub mod Numbered
-pub mod Laid
 pub mod Answers
 pub mod Redrawing

@@ -1,3 +1,2 @@
 pub mod Flips
 pub mod Extracts
-pub mod Numbering

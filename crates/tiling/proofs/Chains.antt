@@ -10,11 +10,11 @@ use borrow.Author.Tests.{eq-eqb, eqb-true}
 use lib.Dec.{eqb}
 use lib.IntN.{ℤ}
 use lib.ListN.{getD}
+use Rattle.lists.proofs.Bools.{and-left, and-right}
 use Rattle.ints.proofs.Back.{never}
 use Rattle.tiling.specs.Cells.{orderOf, firstCell, codeOf}
 use Rattle.tiling.specs.Table.{chainOf, scaled, nextIn, bucketOf, lastOn, Chained}
 use Rattle.tiling.proofs.Positions.{cases}
-use Rattle.tiling.proofs.Sameness.{and-left, and-right}
 use Rattle.tiling.proofs.Firsts.{first-le, first-flip, first-first, order-key, code-found, code-self}
 
 module _ (w t : ℕ) (l : List ℤ) (n : ℕ) where

@@ -1,38 +1,18 @@
 -- Tiles compared: part by part, and what it means that they are the same. Assumes nothing.
 use mathlib.Core.Path.{_≡_, refl, sym, ap, _∙_}
-use mathlib.Core.Bool.{Bool, true, false, _&&_}
+use mathlib.Core.Bool.{Bool, true, false, _&&_, and-assoc, and-true, and-false}
 use mathlib.Core.List.{List, [], _∷_, _++_, map, flatMap}
 use Prim.Native.Nat.{ℕ, zero, suc, _+_, _-_, _≤_}
 use native.Mathlib.Nat.{add-zero}
 use native.Mathlib.Omega.{arith}
-use borrow.Author.Tests.{eq-eqb}
-use lib.IntN.{ℤ, pos, negsuc}
+use lib.IntN.{ℤ}
 use lib.ListN.{length}
 use Rattle.lists.specs.Lists.{range}
+use Rattle.lists.proofs.Bools.{and-left, and-right}
 use Rattle.ints.specs.Ints.{eqZ}
-use Rattle.ints.proofs.Back.{never, same-index}
+use Rattle.ints.proofs.Back.{never, eqZ-same, same-index}
 use Rattle.tiling.specs.Tile.{sameTile}
 use Rattle.tiling.proofs.Rows.{length-first, first-next, rows-more, length-rows}
-
-pub and-assoc : (a b c : Bool) → a && (b && c) ≡ (a && b) && c
-and-assoc true b c = refl
-and-assoc false b c = refl
-
-pub and-false : (a : Bool) → a && false ≡ false
-and-false true = refl
-and-false false = refl
-
-pub and-true : (a : Bool) → a && true ≡ a
-and-true true = refl
-and-true false = refl
-
-pub and-left : (a b : Bool) → a && b ≡ true → a ≡ true
-and-left true b e = refl
-and-left false b e = never e
-
-pub and-right : (a b : Bool) → a && b ≡ true → b ≡ true
-and-right true b e = e
-and-right false b e = never e
 
 -- a part after the other
 pub same-append : (k l m n : List ℤ) → length k ≡ length l → sameTile (k ++ m) (l ++ n) ≡ sameTile k l && sameTile m n
@@ -40,16 +20,11 @@ unfolding sameTile
 same-append [] [] m n e = refl
 same-append [] (b ∷ l) m n e = absurd (omega arith)
 same-append (a ∷ k) [] m n e = absurd (omega arith)
-same-append (a ∷ k) (b ∷ l) m n e = ap (λ t. eqZ a b && t) (same-append k l m n (omega arith)) ∙ and-assoc (eqZ a b) (sameTile k l) (sameTile m n)
+same-append (a ∷ k) (b ∷ l) m n e = ap (λ t. eqZ a b && t) (same-append k l m n (omega arith)) ∙ sym (and-assoc (eqZ a b) (sameTile k l) (sameTile m n))
 
 pub same-one : (a b : ℤ) → sameTile (a ∷ []) (b ∷ []) ≡ eqZ a b
 unfolding sameTile
 same-one a b = and-true (eqZ a b)
-
-eq-self : (a : ℤ) → eqZ a a ≡ true
-unfolding eqZ
-eq-self (pos a) = eq-eqb a a refl
-eq-self (negsuc a) = eq-eqb a a refl
 
 -- the same tiles are equal, and a tile is the same as itself
 pub same-equal : (k l : List ℤ) → sameTile k l ≡ true → k ≡ l
@@ -65,7 +40,7 @@ same-equal (a ∷ k) (b ∷ l) e =
 pub same-self : (k : List ℤ) → sameTile k k ≡ true
 unfolding sameTile
 same-self [] = refl
-same-self (a ∷ k) = rw (eq-self a) (same-self k)
+same-self (a ∷ k) = rw (eqZ-same a) (same-self k)
 
 pub equal-same : (k l : List ℤ) → k ≡ l → sameTile k l ≡ true
 equal-same k l e = rw e (same-self l)

@@ -1,9 +1,9 @@
 -- A stroke whose events were computed on one picture: it keeps E13's terms, and its steps give what all its changes give at once. Assumes nothing.
 use Prim.Native.Nat.{ℕ, _*_, _≤_, _^_}
-use mathlib.Core.Path.{_≡_, refl, sym, ap, _∙_}
-use mathlib.Core.List.{List, [], _∷_, _++_}
+use mathlib.Core.Path.{_≡_, sym, ap, _∙_}
+use mathlib.Core.List.{List, [], _++_}
 use lib.IntN.{ℤ, pos}
-use lib.ListN.{length, getD, set}
+use lib.ListN.{length, getD}
 use Rattle.edits.specs.Change.{Change, place, painted, newOf}
 use Rattle.changes.specs.Normal.{normalizeOf}
 use Rattle.changes.specs.Order.{All}

@@ -1,8 +1,7 @@
 -- The calls of op.rs on a list of changes: `normalize`, `Op::pixels`, `is_empty`. Definitions only. Assumes nothing.
 use Prim.Native.Nat.{ℕ}
-use mathlib.Core.Bool.{Bool, false}
 use mathlib.Core.List.{List, [], _∷_, map}
-use lib.Dec.{ltb, eqb}
+use lib.Dec.{ltb}
 use lib.ListN.{length}
 use Rattle.limits.specs.Limits.{maxChanges}
 use Rattle.limits.specs.Numbers.{noSpace, listTooLong}
@@ -10,9 +9,8 @@ use Rattle.limits.specs.Checks.{Check, _when_}
 use Rattle.limits.specs.Answer.{Filled}
 use Rattle.limits.specs.declared.Counted.{Counted}
 use Rattle.limits.specs.declared.Counted.the-variants as counted
-use Rattle.edits.specs.declared.Edit.{Edit}
-use Rattle.edits.specs.declared.Edit.the-variants.{Pixels, PaletteSet, PaletteAdd, PaletteRemove}
-use Rattle.edits.specs.Change.{Change, unpacked}
+use Rattle.edits.specs.declared.Edit.the-variants.{Pixels}
+use Rattle.edits.specs.Change.{unpacked}
 use Rattle.changes.specs.Normal.{normalizeOf}
 use Rattle.changes.specs.Listed.{listed}
 use Rattle.tools.specs.declared.Made.{Made}

@@ -14,9 +14,9 @@ use Rattle.limits.specs.Checks.{firstOf, refusedOr}
 use Rattle.limits.specs.declared.Lab.{Lab}
 use Rattle.lists.specs.Lists.{some}
 use Rattle.cielab.specs.Finite.{unfit, unfitTriple}
-use Rattle.cielab.specs.Nearest.{FirstNearest}
-use Rattle.cielab.specs.declared.Near.{Near}
-use Rattle.cielab.proofs.FirstNearest.{first-nearest}
+use Rattle.distances.specs.Nearest.{FirstNearest}
+use Rattle.distances.specs.declared.Near.{Near}
+use Rattle.distances.proofs.FirstNearest.{first-nearest}
 use Rattle.color.specs.declared.Found.the-variants.{Entry, Refused}
 use Rattle.color.specs.Calls.{nearestChecks, nearestIndexOf, NearestEntry}
 use Rattle.color.proofs.nearest_index.Statement.{statement}

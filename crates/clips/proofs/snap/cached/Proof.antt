@@ -5,8 +5,8 @@ use native.Mathlib.Omega.{arith}
 use borrow.Author.Needs.{needs}
 use lib.ListN.{getD}
 use Rattle.limits.specs.declared.Lab.{Lab}
-use Rattle.cielab.specs.declared.Near.{Near}
-use Rattle.cielab.specs.Nearest.{nearestOf}
+use Rattle.distances.specs.declared.Near.{Near}
+use Rattle.distances.specs.Nearest.{nearestOf}
 use Rattle.clips.specs.Snap.{entryOf}
 use Rattle.clips.proofs.Slots.{entry-small, all-filled, hit}
 use Rattle.clips.proofs.snap.cached.Statement.{statement}

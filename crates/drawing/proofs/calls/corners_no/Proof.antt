@@ -3,7 +3,7 @@ use mathlib.Core.Path.{_≡_, sym}
 use Rattle.limits.specs.Checks.{firstOf}
 use Rattle.ints.proofs.Back.{by-values}
 use Rattle.lines.specs.Line.{point, farPoint}
-use Rattle.drawing.specs.Calls.{cornerChecks}
+use Rattle.brushes.specs.Given.{cornerChecks}
 use borrow.Author.Needs.{needs}
 use Rattle.drawing.proofs.calls.corners_no.Statement.{statement}
 use Rattle.drawing.proofs.calls.corners_no.Tie as tie

@@ -10,10 +10,11 @@ use Rattle.ints.proofs.Back.{by-value}
 use Rattle.sheet.specs.Sheet.{Sheet, sheetOf}
 use Rattle.lines.specs.Line.{point}
 use Rattle.lines.specs.Brush.{stamped}
-use Rattle.drawing.specs.Points.{pencilOf}
-use Rattle.drawing.specs.Calls.{stageOf, cornerChecks, lineCall}
-use Rattle.drawing.proofs.Stamps.{brush-clamped}
-use Rattle.drawing.proofs.Paths.{corners-near, stamped-places}
+use Rattle.brushes.specs.Points.{pencilOf}
+use Rattle.brushes.specs.Given.{cornerChecks}
+use Rattle.drawing.specs.Calls.{stageOf, lineCall}
+use Rattle.brushes.proofs.Stamps.{brush-clamped}
+use Rattle.brushes.proofs.Paths.{corners-near, stamped-places}
 use Rattle.drawing.proofs.Staging.{Ready, ready, ready-fits, refused, answered}
 use Rattle.changes.proofs.InScratch.{scratch-none, scratch-then}
 use borrow.Author.Needs.{needs}

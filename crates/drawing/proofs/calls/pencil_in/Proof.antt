@@ -12,10 +12,11 @@ use Rattle.limits.specs.Checks.{_when_}
 use Rattle.ints.proofs.Back.{by-value}
 use Rattle.sheet.specs.Sheet.{Sheet, sheetOf}
 use Rattle.lines.specs.Brush.{stamped}
-use Rattle.drawing.specs.Points.{pencilOf}
-use Rattle.drawing.specs.Calls.{stageOf, pointsOf, pointChecks, pencilCall}
-use Rattle.drawing.proofs.Stamps.{brush-clamped}
-use Rattle.drawing.proofs.Paths.{points-near, stamped-places}
+use Rattle.brushes.specs.Points.{pencilOf}
+use Rattle.brushes.specs.Given.{pointsOf, pointChecks}
+use Rattle.drawing.specs.Calls.{stageOf, pencilCall}
+use Rattle.brushes.proofs.Stamps.{brush-clamped}
+use Rattle.brushes.proofs.Paths.{points-near, stamped-places}
 use Rattle.drawing.proofs.Staging.{Ready, ready, ready-fits, refused, answered, listed-first, listed-skip}
 use Rattle.changes.proofs.InScratch.{scratch-none, scratch-then}
 use borrow.Author.Needs.{needs}

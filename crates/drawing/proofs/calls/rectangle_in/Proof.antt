@@ -8,8 +8,9 @@ use mir.Facts.{toZ-ofZ}
 use Rattle.ints.proofs.Back.{by-value}
 use Rattle.sheet.specs.Sheet.{Sheet, sheetOf}
 use Rattle.lines.specs.Line.{point}
-use Rattle.drawing.specs.Points.{rectanglePoints, rectangleOf}
-use Rattle.drawing.specs.Calls.{stageOf, cornerChecks, rectangleCall}
+use Rattle.brushes.specs.Points.{rectanglePoints, rectangleOf}
+use Rattle.brushes.specs.Given.{cornerChecks}
+use Rattle.drawing.specs.Calls.{stageOf, rectangleCall}
 use Rattle.drawing.proofs.Staging.{Ready, ready, ready-fits, refused, answered}
 use Rattle.changes.proofs.InScratch.{scratch-none, scratch-then}
 use borrow.Author.Needs.{needs}

@@ -1,5 +1,4 @@
 -- `is_lacking`: by the tests. Assumes nothing.
-use borrow.Author.Tests.{not-true}
 use Rattle.mirror.proofs.Placing.{lacks-flat, lacks-none, lacks-scratch}
 use Rattle.mirror.proofs.packed.is_lacking.Statement.{statement}
 use Rattle.mirror.proofs.packed.is_lacking.Tie as tie

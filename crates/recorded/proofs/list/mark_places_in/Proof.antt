@@ -5,7 +5,7 @@ use native.Mathlib.Omega.{arith}
 use borrow.Author.Needs.{needs}
 use lib.ListN.{length}
 use Rattle.edits.specs.Change.{unpacked, place}
-use Rattle.apply.proofs.Marking.{Marking, marking-none}
+use Rattle.remapping.proofs.Marking.{Marking, marking-none}
 use Rattle.recorded.proofs.Numbers.{numbersIn, inside-in, marking-next-in, marking-all-in}
 use Rattle.recorded.proofs.list.mark_places_in.Statement.{statement}
 use Rattle.recorded.proofs.list.mark_places_in.Tie as tie

@@ -7,7 +7,7 @@ use Rattle.edits.specs.Checks.{remapChecks, leftFrom}
 use Rattle.pixels.specs.Inside.{bare}
 use Rattle.pixels.proofs.Inside.{none-past}
 use Rattle.pixels.proofs.Passing.{last-hit, last-miss}
-use Rattle.apply.proofs.Accepted.{remap-on}
+use Rattle.remapping.proofs.Accepted.{remap-on}
 use Rattle.records.specs.Record.{changesIn}
 use borrow.Author.Needs.{needs}
 use Rattle.recorded.proofs.list.removal_no_in.Statement.{statement}

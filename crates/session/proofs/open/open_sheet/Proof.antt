@@ -1,8 +1,8 @@
 -- `open_sheet`: the sides, the buffers, `new`. Assumes nothing.
 use Rattle.session.proofs.Opening.{open-wide, open-tall, open-many, open-failed, open-done, lab-made, open-state, open-text, new-is}
 use Rattle.session.proofs.Steps.{told-steps, told-failed}
-use Rattle.session.specs.Panel.{Panel}
-use Rattle.session.specs.Lines.{Said}
+use Rattle.answering.specs.Panel.{Panel}
+use Rattle.answering.specs.Lines.{Said}
 use lib.Seq.{length-take-le}
 use native.Mathlib.Omega.{arith}
 use native.Mathlib.Nat.{mul-le-mul}

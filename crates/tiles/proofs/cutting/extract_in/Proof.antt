@@ -11,8 +11,8 @@ use Rattle.tiling.proofs.Rows.{length-first}
 use Rattle.tiling.specs.Cells.{cellCount}
 use Rattle.tiling.specs.Ids.{firstsBelow, idOf}
 use Rattle.tiles.proofs.Answers.{tiles-short, map-short, both-done}
-use Rattle.tiles.proofs.Laid.{tiles-few, tiles-half, ids-small, tiles-are, map-is}
-use Rattle.tiles.proofs.Numbered.{coded-in, ids-in, count-in}
+use Rattle.laying.proofs.Laid.{tiles-few, tiles-half, ids-small, tiles-are, map-is}
+use Rattle.laying.proofs.Numbered.{coded-in, ids-in, count-in}
 use Rattle.tiles.proofs.cutting.extract_in.Statement.{statement}
 use Rattle.tiles.proofs.cutting.extract_in.Tie as tie
 

@@ -1,0 +1,7 @@
+pub mod Painted
+pub mod Clipping
+pub mod Edges
+pub mod Fitting
+pub mod Frames
+pub mod Stamps
+pub mod Paths

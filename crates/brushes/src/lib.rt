@@ -1,0 +1,22 @@
+// The points of the drawing tools, clipped to a selection and painted into a picture laid out in scratch.
+mod brush;
+mod frame;
+mod paint;
+
+pub use brush::clamp;
+pub use brush::paint_path;
+pub use brush::paint_two;
+pub use frame::paint_rectangle;
+
+// The places of one axis that are painted: count of them from start on.
+pub struct Run {
+    pub start: usize,
+    pub count: usize,
+}
+
+// The columns of a rectangle: all of them, the first, and the last where it is another.
+pub struct Columns {
+    pub all: Run,
+    pub left: Run,
+    pub right: Run,
+}

@@ -1,0 +1,79 @@
+-- `answer_some`: what was read is a part of the chunk. Assumes nothing.
+use borrow.Author.Needs.{needs}
+use Rattle.console.proofs.reads.answer_some.Statement.{statement}
+use Rattle.console.proofs.reads.answer_some.Tie as tie
+
+read-requires : tie.Need-read-requires
+read-requires c κs = search needs
+
+count-requires : tie.Need-count-requires
+count-requires c κs = search needs
+
+same-length : tie.Need-same-length
+same-length c = search needs
+
+returns : tie.Need-returns
+returns c = search needs
+
+slice-reshare-prefix-answer-chunk : tie.Need-slice-reshare-prefix-answer-chunk
+slice-reshare-prefix-answer-chunk c = search needs
+
+slice-aggregate-answer-chunk : tie.Need-slice-aggregate-answer-chunk
+slice-aggregate-answer-chunk c = search needs
+
+answer-chunk-requires : tie.Need-answer-chunk-requires
+answer-chunk-requires c κs = search needs
+
+same-length-2 : tie.Need-same-length-2
+same-length-2 c = search needs
+
+same-length-3 : tie.Need-same-length-3
+same-length-3 c = search needs
+
+same-length-4 : tie.Need-same-length-4
+same-length-4 c = search needs
+
+same-length-5 : tie.Need-same-length-5
+same-length-5 c = search needs
+
+same-length-6 : tie.Need-same-length-6
+same-length-6 c = search needs
+
+same-length-7 : tie.Need-same-length-7
+same-length-7 c =
+    let at-read = c .before .before .before .before .before .before .before .before .before .before .before .before .before .before .before .before .before .before .before .before .before .before .before .before .before .before .before .before .before .before in
+    at-read .read .kept .1 .0
+
+same-length-8 : tie.Need-same-length-8
+same-length-8 c = search needs
+
+same-length-9 : tie.Need-same-length-9
+same-length-9 c = search needs
+
+same-length-10 : tie.Need-same-length-10
+same-length-10 c = search needs
+
+returns-2 : tie.Need-returns-2
+returns-2 c = search needs
+
+pub answer-some-spec : {M : Type 1} → statement M
+answer-some-spec =
+    tie.close
+    (tie.spec
+    read-requires
+    count-requires
+    same-length
+    returns
+    slice-reshare-prefix-answer-chunk
+    slice-aggregate-answer-chunk
+    answer-chunk-requires
+    same-length-2
+    same-length-3
+    same-length-4
+    same-length-5
+    same-length-6
+    same-length-7
+    same-length-8
+    same-length-9
+    same-length-10
+    returns-2)

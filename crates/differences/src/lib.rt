@@ -1,0 +1,5 @@
+// Which pixels show another colour than a baseline: `diff_mask` of document.rs.
+mod diff;
+mod masking;
+
+pub use masking::diff_mask;

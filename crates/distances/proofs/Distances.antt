@@ -1,0 +1,56 @@
+-- Where the target and the entries are finite, no distance is a NaN or negative. Assumes nothing.
+use mathlib.Core.Path.{_≡_}
+use mathlib.Core.Bool.{false, _||_}
+use mathlib.Core.List.{List}
+use Prim.Native.Nat.{ℕ, _+_, _*_, _<_, _≤_}
+use native.Mathlib.Omega.{arith}
+use lib.ListN.{length, getD, take}
+use lib.Seq.{getD-take, length-take-le}
+use lib.Ieee.{Float, nan}
+use Rattle.lists.specs.Lists.{some}
+use Rattle.lists.proofs.Scan.{or-left, or-right, some-none}
+use Rattle.limits.specs.declared.Lab.{Lab}
+use Rattle.cielab.specs.Arithmetic.{_⊖_, _⊗_}
+use Rattle.cielab.specs.Finite.{unfit, unfitTriple}
+use Rattle.distances.specs.Nearest.{dist2Of, labAt, distance}
+use Rattle.cielab.proofs.Signs.{Plus, Finite, fit, sub-number, square-plus, add-plus}
+
+pub record FiniteTriple (q : Lab) : Type 0 where
+  pub l : Finite (q .l)
+  pub a : Finite (q .a)
+  pub b : Finite (q .b)
+
+pub fit-triple : (q : Lab) → unfitTriple q ≡ false → FiniteTriple q
+unfolding unfitTriple
+fit-triple q e =
+    let la = or-left (unfit (q .l) || unfit (q .a)) (unfit (q .b)) e in
+    record {
+      l = fit (q .l) (or-left (unfit (q .l)) (unfit (q .a)) la);
+      a = fit (q .a) (or-right (unfit (q .l)) (unfit (q .a)) la);
+      b = fit (q .b) (or-right (unfit (q .l) || unfit (q .a)) (unfit (q .b)) e);
+    }
+
+square-of-difference : {x y : Float} → Finite x → Finite y → Plus ((x ⊖ y) ⊗ (x ⊖ y))
+square-of-difference h k = square-plus (sub-number h k)
+
+pub dist2-plus : {p q : Lab} → FiniteTriple p → FiniteTriple q → Plus (dist2Of p q)
+unfolding dist2Of
+dist2-plus f g =
+    add-plus (add-plus (square-of-difference (f .l) (g .l)) (square-of-difference (f .a) (g .a))) (square-of-difference (f .b) (g .b))
+
+module _ (lab : List Float) (k : ℕ) (none : some unfit (take (3 * k) lab) ≡ false) (room : 3 * k ≤ length lab) where
+  number-finite : (i : ℕ) → i < 3 * k → Finite (getD lab i nan)
+  number-finite i h =
+      fit (getD lab i nan) (rw (getD-take (3 * k) lab i nan h) at (some-none unfit (take (3 * k) lab) i nan none (rw (length-take-le (3 * k) lab room) h)))
+
+  entry-finite : (j : ℕ) → j < k → FiniteTriple (labAt lab j)
+  unfolding labAt
+  entry-finite j h =
+      record {
+        l = number-finite (3 * j) (omega arith);
+        a = number-finite (3 * j + 1) (omega arith);
+        b = number-finite (3 * j + 2) (omega arith);
+      }
+
+  pub distance-plus : (p : Lab) → unfitTriple p ≡ false → (j : ℕ) → j < k → Plus (distance p lab j)
+  distance-plus p e j h = dist2-plus (fit-triple p e) (entry-finite j h)

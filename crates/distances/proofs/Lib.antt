@@ -1,0 +1,4 @@
+pub mod Halves
+pub mod Parts
+pub mod Distances
+pub mod FirstNearest

@@ -1,0 +1,42 @@
+-- The nearest entry of a palette, as `nearest_index` of color.rs finds it. Definitions only. Assumes nothing.
+use Prim.Native.Nat.{ℕ, zero, suc, _+_, _*_, _<_}
+use mathlib.Core.Bool.{cond}
+use lib.Dec.{T}
+use mathlib.Core.List.{List}
+use lib.ListN.{getD}
+use lib.Ieee.{Float, nan, inf, lt, le}
+use mathlib.Core.Bool.{false}
+use Rattle.limits.specs.declared.Lab.{Lab}
+use Rattle.distances.specs.declared.Near.{Near}
+use Rattle.cielab.specs.Arithmetic.{_⊕_, _⊖_, _⊗_}
+
+-- `dist2`
+unfoldable pub dist2Of : Lab → Lab → Float
+dist2Of p q =
+    let d0 = p .l ⊖ q .l in
+    let d1 = p .a ⊖ q .a in
+    let d2 = p .b ⊖ q .b in
+    d0 ⊗ d0 ⊕ d1 ⊗ d1 ⊕ d2 ⊗ d2
+
+-- entry i of the LAB storage
+unfoldable pub labAt : List Float → ℕ → Lab
+labAt lab i = record { l = getD lab (3 * i) nan; a = getD lab (3 * i + 1) nan; b = getD lab (3 * i + 2) nan }
+
+-- how far entry i is
+abbrev pub distance : Lab → List Float → ℕ → Float
+distance p lab i = dist2Of p (labAt lab i)
+
+-- entry i, where it is strictly nearer than the one found before it
+unfoldable pub closer : Lab → List Float → ℕ → Near → Near
+closer p lab i s = cond (lt (distance p lab i) (s .distance)) (record { entry = i; distance = distance p lab i }) s
+
+-- the first with the smallest distance among k entries; entry 0, at an infinite distance, where none is less far than that
+unfoldable pub nearestOf : Lab → List Float → ℕ → Near
+nearestOf p lab zero = record { entry = 0; distance = inf false }
+nearestOf p lab (suc k) = closer p lab k (nearestOf p lab k)
+
+-- What that is, where the target and the k entries are finite: no entry is nearer, and each one before it is strictly farther.
+pub record FirstNearest (p : Lab) (lab : List Float) (k i : ℕ) : Type 0 where
+  pub inside : i < k
+  pub least : (j : ℕ) → j < k → T (le (distance p lab i) (distance p lab j))
+  pub first : (j : ℕ) → j < i → T (lt (distance p lab i) (distance p lab j))

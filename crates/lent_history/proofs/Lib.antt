@@ -1,4 +1,0 @@
-pub mod Replaying
-pub mod PushSteps
-pub mod Finishing
-pub mod Carrying

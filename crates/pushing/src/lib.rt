@@ -1,0 +1,4 @@
+// push: an edit checked, recorded and done.
+mod pushing;
+
+pub use pushing::push;

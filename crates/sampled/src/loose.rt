@@ -1,0 +1,266 @@
+// The calls that are given no sheet.
+use deals::Hand;
+use deals::colour;
+use deals::colours;
+use deals::fill_list;
+use deals::mix;
+use prints::Outcome;
+use prints::mix_answer;
+use prints::mix_edit;
+use prints::mix_number;
+use prints::mix_part;
+use prints::mix_points;
+use prints::mix_triple;
+use prints::mix_words;
+use prints::told;
+
+fn rgb8_to_lab(a: Hand) -> Outcome {
+    let rgb = colour(a.seeds.colour);
+    let mut out = [1.5f64; 3];
+    exports::call_rgb8_to_lab(&rgb, &mut out);
+    told(0, mix_triple(mix_number(0), &out))
+}
+
+fn cbrt(a: Hand) -> Outcome {
+    let mut out = [1.5f64; 3];
+    let no = exports::call_cbrt(a.choice.radicand, &mut out);
+    told(no, mix_triple(mix_number(no), &out))
+}
+
+fn all(a: Hand) -> Outcome {
+    let mut out = [7777u16; 4];
+    let no = exports::call_all(a.sides.wide, a.sides.high, &mut out);
+    told(no, mix_part(mix_number(no), &out))
+}
+
+fn from_corners(a: Hand) -> Outcome {
+    let mut out = [7777u16; 4];
+    let no = exports::call_from_corners(
+        a.spot.x,
+        a.spot.far_y,
+        a.spot.to_x,
+        a.spot.far_to_y,
+        a.sides.wide,
+        a.sides.high,
+        &mut out,
+    );
+    told(no, mix_part(mix_number(no), &out))
+}
+
+fn translated(a: Hand) -> Outcome {
+    let s = a.spot.s;
+    let mut out = [7777u16; 4];
+    let no = exports::call_translated(
+        &s,
+        a.spot.x,
+        a.spot.far_y,
+        a.sides.wide,
+        a.sides.high,
+        &mut out,
+    );
+    told(no, mix_part(mix_number(no), &out))
+}
+
+fn grown(a: Hand) -> Outcome {
+    let s = a.spot.s;
+    let mut out = [7777u16; 4];
+    let no = exports::call_grown(&s, a.sides.margin, a.sides.wide, a.sides.high, &mut out);
+    told(no, mix_part(mix_number(no), &out))
+}
+
+fn region(a: Hand) -> Outcome {
+    let s = a.spot.s;
+    let mut out = [7777u16; 4];
+    let no = exports::call_region(a.spot.whole, &s, a.sides.wide, a.sides.high, &mut out);
+    told(no, mix_part(mix_number(no), &out))
+}
+
+fn one_if(b: bool) -> u64 {
+    if b { 1 } else { 0 }
+}
+
+fn contains(a: Hand) -> Outcome {
+    let s = a.spot.s;
+    told(
+        0,
+        mix(
+            mix_number(0),
+            one_if(exports::call_contains(&s, a.spot.across, a.spot.down)),
+        ),
+    )
+}
+
+fn wide(x: u8) -> u64 {
+    x as u64
+}
+
+// Inside is told as 1 with the number 0.
+fn contains_i(a: Hand) -> Outcome {
+    let s = a.spot.s;
+    let held = exports::call_contains_i(&s, a.spot.x, a.spot.far_y);
+    let no = if held == 1 { 0 } else { held };
+    told(no, mix(mix_number(no), wide(held)))
+}
+
+fn positions(a: Hand) -> Outcome {
+    let s = a.spot.s;
+    let mut r = [7777usize; 5];
+    let mut out = [0x5a5a_5a5ai32; 7];
+    let no = exports::call_positions(&s, &mut out, &mut r);
+    told(no, mix_points(mix_answer(no, &r), &out))
+}
+
+fn bresenham(a: Hand) -> Outcome {
+    let mut r = [7777usize; 5];
+    let mut out = [0x5a5a_5a5ai32; 11];
+    let no = exports::call_bresenham(
+        a.spot.x,
+        a.spot.y,
+        a.spot.to_x,
+        a.spot.to_y,
+        &mut out,
+        &mut r,
+    );
+    told(no, mix_points(mix_answer(no, &r), &out))
+}
+
+fn normalize(a: Hand) -> Outcome {
+    let mut r = [7777usize; 5];
+    let mut list = [0u64; 5];
+    let mut scratch = [0u64; 5];
+    let mut out = [0x5a5a_5a5a_5a5a_5a5au64; 4];
+    fill_list(a.seeds.seed, &mut list);
+    let no = exports::call_normalize(&list, &mut scratch, &mut out, &mut r);
+    told(no, mix_words(mix_answer(no, &r), &out))
+}
+
+fn pixels(a: Hand) -> Outcome {
+    let mut r = [7777usize; 5];
+    let mut bytes = [0x5au8; 8];
+    let mut doubles = [1.5f64; 3];
+    let mut list = [0u64; 5];
+    let mut scratch = [0u64; 5];
+    let mut out = [0x5a5a_5a5a_5a5a_5a5au64; 4];
+    fill_list(a.seeds.seed, &mut list);
+    let no = exports::call_pixels(
+        a.choice.tool,
+        &list,
+        &mut scratch,
+        &mut out,
+        &mut bytes,
+        &mut doubles,
+        &mut r,
+    );
+    told(
+        no,
+        mix_words(mix_edit(mix_answer(no, &r), &bytes, &doubles), &out),
+    )
+}
+
+// An edit: its kind, its tool, and other bytes.
+pub fn edit(a: Hand) -> [u8; 8] {
+    let c = colour(a.seeds.colour);
+    [
+        a.choice.kind,
+        a.choice.tool,
+        a.choice.byte,
+        0,
+        0,
+        c[0],
+        c[1],
+        c[2],
+    ]
+}
+
+// Beside a list of one change, or none.
+fn is_empty(a: Hand) -> Outcome {
+    let doubles = [0.0f64; 3];
+    let bytes = edit(a);
+    let list = [0u64; 1];
+    let none = [0u64; 0];
+    let one = exports::call_is_empty(&bytes, a.choice.from, &doubles, &list);
+    told(
+        0,
+        mix(
+            mix(mix_number(0), one_if(one)),
+            one_if(exports::call_is_empty(&bytes, a.choice.from, &doubles, &none)),
+        ),
+    )
+}
+
+fn kind(a: Hand) -> Outcome {
+    let doubles = [0.0f64; 3];
+    let bytes = edit(a);
+    told(
+        0,
+        mix(
+            mix_number(0),
+            wide(exports::call_kind(&bytes, a.choice.from, &doubles)),
+        ),
+    )
+}
+
+// A stroke whose changes are the normal form of a list, and an event.
+fn extend(a: Hand) -> Outcome {
+    let mut r = [7777usize; 5];
+    let mut first = [7777usize; 5];
+    let mut list = [0u64; 4];
+    let mut event = [0u64; 3];
+    let mut scratch = [0u64; 7];
+    let mut stroke = [0x5a5a_5a5a_5a5a_5a5au64; 5];
+    fill_list(a.seeds.seed, &mut list);
+    fill_list(a.seeds.event, &mut event);
+    exports::call_normalize(&list, &mut scratch, &mut stroke, &mut first);
+    let no = exports::call_extend(&mut stroke, first[0], &event, &mut scratch, &mut r);
+    told(no, mix_words(mix_answer(no, &r), &stroke))
+}
+
+fn stroke(a: Hand) -> Outcome {
+    let mut r = [7777usize; 5];
+    let mut bytes = [0x5au8; 8];
+    let mut doubles = [1.5f64; 3];
+    let no = exports::call_stroke(
+        a.choice.tool,
+        a.choice.from,
+        &mut bytes,
+        &mut doubles,
+        &mut r,
+    );
+    told(no, mix_edit(mix_answer(no, &r), &bytes, &doubles))
+}
+
+fn check_color(a: Hand) -> Outcome {
+    let list = colours(a.seeds.listed);
+    let rgb = colour(a.seeds.colour);
+    let no = exports::call_check_color(a.choice.limited, &list, &rgb);
+    told(no, mix_number(no))
+}
+
+fn chosen(c: usize, a: Hand) -> Outcome {
+    match c {
+        28 => all(a),
+        29 => from_corners(a),
+        30 => contains(a),
+        31 => contains_i(a),
+        32 => translated(a),
+        33 => grown(a),
+        34 => positions(a),
+        _ => region(a),
+    }
+}
+
+pub fn bare_answer(c: usize, a: Hand) -> Outcome {
+    match c {
+        26 => rgb8_to_lab(a),
+        27 => cbrt(a),
+        36 => bresenham(a),
+        37 => normalize(a),
+        38 => pixels(a),
+        39 => is_empty(a),
+        40 => kind(a),
+        41 => extend(a),
+        42 => stroke(a),
+        43 => check_color(a),
+        _ => chosen(c, a),
+    }
+}

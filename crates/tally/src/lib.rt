@@ -1,0 +1,4 @@
+// Pixels per palette entry: `counts` of document.rs.
+mod counting;
+
+pub use counting::counts;

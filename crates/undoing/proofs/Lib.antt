@@ -1,0 +1,2 @@
+pub mod UndoTests
+pub mod UndoKinds
