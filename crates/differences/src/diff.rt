@@ -2,33 +2,21 @@
 //
 // Each palette is turned once into a table with a number for what each index shows, equal where the
 // colours are. A pixel then costs two reads and a comparison, and no branch.
+use entries::rgb_at;
 use limits::Rgb;
 ghost use mathlib.Core.Path.{_≡_};
 ghost use mathlib.Core.Bool.{false, not};
-ghost use Prim.Native.Nat.{_+_, _*_, _≤_};
+ghost use Prim.Native.Nat.{_≤_};
 ghost use lib.Dec.{eqb};
 ghost use lib.ListN.{length, getD};
 ghost use Rattle.lists.specs.Lists.{some, over};
 ghost use Rattle.sheet.specs.Sheet.{stray};
-ghost use Rattle.sheet.specs.Document.{rgbAt, mark};
+ghost use Rattle.sheet.specs.Document.{mark};
 ghost use Rattle.differences.specs.Mask.{maskOf};
 ghost use Rattle.differences.specs.Tables.{slotOf, Numbered, Shades};
 
 // The number of no colour, above every colour's.
 const NO_COLOUR: u32 = 16_777_216;
-
-// Entry i of the palette.
-fn rgb_at(palette: &[u8], i: usize) -> Rgb
-    requires { ⌜ 3 * i + 3 ≤ length (now palette) ⌝ }
-    ensures { λ r. ⌜ r ≡ rgbAt (now (palette .entry)) i ⌝ }
-{
-    let at = 3 * i;
-    Rgb {
-        r: palette[at],
-        g: palette[at + 1],
-        b: palette[at + 2],
-    }
-}
 
 // A colour's bytes as one number.
 fn number(c: Rgb) -> u32
