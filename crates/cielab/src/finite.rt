@@ -6,7 +6,7 @@ ghost use Rattle.lists.specs.Lists.{some};
 ghost use Rattle.cielab.specs.Finite.{unfit, unfitTriple};
 
 // An infinity or a NaN: what is finite gives 0 when it is taken from itself.
-fn is_unfit(x: f64) -> bool
+pub fn is_unfit(x: f64) -> bool
     ensures { λ r. ⌜ r ≡ unfit x ⌝ }
 {
     x - x != 0.0

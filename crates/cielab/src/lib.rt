@@ -10,6 +10,7 @@ pub use cube_root::root;
 pub use curve::linear_in;
 pub use curve::table;
 pub use finite::any_unfit;
+pub use finite::is_unfit;
 pub use finite::unfit_triple;
 
 // A colour's three linear values, from 0 to 1.

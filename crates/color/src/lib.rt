@@ -10,8 +10,11 @@ use limits::Rgb;
 use limits::STORAGE;
 use limits::UNFIT_LAB;
 ghost use mathlib.Core.Path.{_≡_};
+ghost use mathlib.Core.Bool.{false};
+ghost use Rattle.lists.specs.Lists.{some};
 ghost use Rattle.cielab.specs.Curve.{Linear};
 ghost use Rattle.cielab.specs.Convert.{labOf, Converted};
+ghost use Rattle.cielab.specs.Finite.{unfit};
 ghost use Rattle.distances.specs.Nearest.{dist2Of};
 ghost use Rattle.color.specs.Calls.{CubeRoot, NearestEntry};
 
@@ -62,6 +65,18 @@ pub fn dist2(p: Lab, q: Lab) -> f64
     distances::dist2(p, q)
 }
 
+// Whether some number of the entries is not finite. Where the sum of their distances from a target is
+// finite, none is, and they are not gone through.
+fn any_unfit_in(lab: &[f64], total: f64) -> bool
+    requires { ⌜ (unfit total ≡ false → some unfit (now lab) ≡ false) ⌝ }
+    ensures { λ r. ⌜ r ≡ some unfit (now (lab .entry)) ⌝ }
+{
+    if cielab::is_unfit(total) {
+        return cielab::any_unfit(lab);
+    }
+    false
+}
+
 // The nearest of the first k entries of a LAB storage, the first of them where several are. A k or a
 // length past the limits is 1, a number among the k entries or in the target that is not finite 3, and
 // no entry at all 7.
@@ -75,7 +90,8 @@ pub fn nearest_index(target: Lab, lab: &[f64], k: usize) -> Found
         return Found::Refused(BAD_SHEET);
     }
     let n = 3 * k;
-    if cielab::any_unfit(&lab[..n]) {
+    let s = distances::search_in(target, lab, k);
+    if any_unfit_in(&lab[..n], s.total) {
         return Found::Refused(UNFIT_LAB);
     }
     if cielab::unfit_triple(target) {
@@ -84,6 +100,5 @@ pub fn nearest_index(target: Lab, lab: &[f64], k: usize) -> Found
     if k == 0 {
         return Found::Refused(NO_SUCH_ENTRY);
     }
-    let near = distances::nearest_in(target, lab, k);
-    Found::Entry(near.entry)
+    Found::Entry(s.near.entry)
 }

@@ -20,15 +20,15 @@ pub record FiniteTriple (q : Lab) : Type 0 where
   pub a : Finite (q .a)
   pub b : Finite (q .b)
 
-pub fit-triple : (q : Lab) → unfitTriple q ≡ false → FiniteTriple q
+-- each number of a triple
+pub each-fit : (q : Lab) → unfitTriple q ≡ false → (unfit (q .l) ≡ false) × (unfit (q .a) ≡ false) × (unfit (q .b) ≡ false)
 unfolding unfitTriple
-fit-triple q e =
+each-fit q e =
     let la = or-left (unfit (q .l) || unfit (q .a)) (unfit (q .b)) e in
-    record {
-      l = fit (q .l) (or-left (unfit (q .l)) (unfit (q .a)) la);
-      a = fit (q .a) (or-right (unfit (q .l)) (unfit (q .a)) la);
-      b = fit (q .b) (or-right (unfit (q .l) || unfit (q .a)) (unfit (q .b)) e);
-    }
+    (or-left (unfit (q .l)) (unfit (q .a)) la, or-right (unfit (q .l)) (unfit (q .a)) la, or-right (unfit (q .l) || unfit (q .a)) (unfit (q .b)) e)
+
+pub fit-triple : (q : Lab) → unfitTriple q ≡ false → FiniteTriple q
+fit-triple q e = let h = each-fit q e in record { l = fit (q .l) (h .0); a = fit (q .a) (h .1); b = fit (q .b) (h .2) }
 
 square-of-difference : {x y : Float} → Finite x → Finite y → Plus ((x ⊖ y) ⊗ (x ⊖ y))
 square-of-difference h k = square-plus (sub-number h k)

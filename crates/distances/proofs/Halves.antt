@@ -80,16 +80,12 @@ module _ (p : Lab) (lab : List Float) where
   from s a zero = s
   from s a (suc n) = closer p lab (a + n) (from s a n)
 
-  pub turn : (s : Near) (i : ℕ) → s ≡ nearestOf p lab i → closer p lab i s ≡ nearestOf p lab (i + 1)
-  unfolding nearestOf
-  turn s i e = simp (e, towards-suc)
-
   pub from-turn : (s u : Near) (a i : ℕ) → u ≡ from s a i → closer p lab (a + i) u ≡ from s a (i + 1)
   unfolding from
   from-turn s u a i e = simp (e, towards-suc)
 
   -- the later entries, after what was found among the first a
-  after : (a n : ℕ) → from (nearestOf p lab a) a n ≡ nearestOf p lab (a + n)
+  pub after : (a n : ℕ) → from (nearestOf p lab a) a n ≡ nearestOf p lab (a + n)
   unfolding from nearestOf
   after a zero = rw add-zero
   after a (suc n) = rw (add-suc, after a n)
@@ -141,6 +137,3 @@ module _ (p : Lab) (lab : List Float) where
 
   pub in-two : (a n : ℕ) → both (nearestOf p lab a) (from far a n) ≡ nearestOf p lab (a + n)
   in-two a n = sym (joined (nearestOf p lab a) a n (nearest-plus a)) ∙ after a n
-
-  pub halves : (h : ℕ) → both (nearestOf p lab h) (from far h h) ≡ nearestOf p lab (h + h)
-  halves h = in-two h h

@@ -3,12 +3,16 @@ use Prim.Native.Nat.{ℕ, zero, suc, _+_, _*_, _<_}
 use mathlib.Core.Bool.{cond}
 use lib.Dec.{T}
 use mathlib.Core.List.{List}
-use lib.ListN.{getD}
+use lib.ListN.{getD, take}
 use lib.Ieee.{Float, nan, inf, lt, le}
 use mathlib.Core.Bool.{false}
+use mathlib.Core.Path.{_≡_}
 use Rattle.limits.specs.declared.Lab.{Lab}
+use Rattle.lists.specs.Lists.{some}
 use Rattle.distances.specs.declared.Near.{Near}
+use Rattle.distances.specs.declared.Search.{Search}
 use Rattle.cielab.specs.Arithmetic.{_⊕_, _⊖_, _⊗_}
+use Rattle.cielab.specs.Finite.{unfit}
 
 -- `dist2`
 unfoldable pub dist2Of : Lab → Lab → Float
@@ -40,3 +44,17 @@ pub record FirstNearest (p : Lab) (lab : List Float) (k i : ℕ) : Type 0 where
   pub inside : i < k
   pub least : (j : ℕ) → j < k → T (le (distance p lab i) (distance p lab j))
   pub first : (j : ℕ) → j < i → T (lt (distance p lab i) (distance p lab j))
+
+-- ---- the search, and the sum of the distances that it meets
+-- entry i, looked at after others
+unfoldable pub searched : Lab → List Float → ℕ → Search → Search
+searched p lab i s = record { near = closer p lab i (s .near); total = s .total ⊕ distance p lab i }
+
+-- two searches, the first of them among earlier entries
+unfoldable pub joined : Search → Search → Search
+joined s u = record { near = cond (lt (u .near .distance) (s .near .distance)) (u .near) (s .near); total = s .total ⊕ u .total }
+
+-- What a search of k entries tells: the nearest and, where the sum is finite, that each of their numbers is.
+pub record Searched (p : Lab) (lab : List Float) (k : ℕ) (r : Search) : Type 0 where
+  pub near : r .near ≡ nearestOf p lab k
+  pub finite : unfit (r .total) ≡ false → some unfit (take (3 * k) lab) ≡ false

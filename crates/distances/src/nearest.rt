@@ -1,12 +1,13 @@
 // The nearest entry: `dist2` and `nearest_index` of color.rs.
 use crate::Near;
+use crate::Search;
 use limits::Lab;
 ghost use mathlib.Core.Path.{_≡_};
 ghost use mathlib.Core.Bool.{cond};
 ghost use Prim.Native.Nat.{_+_, _*_, _≤_};
 ghost use lib.ListN.{length};
 ghost use lib.Ieee.{lt};
-ghost use Rattle.distances.specs.Nearest.{dist2Of, labAt, distance, closer, nearestOf};
+ghost use Rattle.distances.specs.Nearest.{dist2Of, labAt, distance, nearestOf, searched, joined, Searched};
 
 // The squared distance of two colours.
 pub fn dist2(p: Lab, q: Lab) -> f64
@@ -39,22 +40,6 @@ fn distance_to(target: Lab, lab: &[f64], i: usize) -> f64
     dist2(target, lab_at(lab, i))
 }
 
-// Entry i takes over where it is strictly nearer.
-fn take(s: Near, target: Lab, lab: &[f64], i: usize) -> Near
-    requires { ⌜ 3 * (i + 1) ≤ length (now lab) ⌝ }
-    ensures { λ r. ⌜ r ≡ closer target (now (lab .entry)) i s ⌝ }
-{
-    let d = distance_to(target, lab, i);
-    if d < s.distance {
-        Near {
-            entry: i,
-            distance: d,
-        }
-    } else {
-        s
-    }
-}
-
 // The nearer of two that were found, the one before where both are as near.
 fn nearer(s: Near, u: Near) -> Near
     ensures { λ r. ⌜ r ≡ cond (lt (u .distance) (s .distance)) u s ⌝ }
@@ -62,28 +47,69 @@ fn nearer(s: Near, u: Near) -> Near
     if u.distance < s.distance { u } else { s }
 }
 
-// The nearest of the first k entries, the first of them where several are. The two halves are searched
-// side by side: neither waits for the other, and no branch is left in the machine code of a turn.
-pub fn nearest_in(target: Lab, lab: &[f64], k: usize) -> Near
-    requires { ⌜ 3 * k ≤ length (now lab) ⌝ }
-    ensures { λ r. ⌜ r ≡ nearestOf target (now (lab .entry)) k ⌝ }
+// The search goes on to entry i, which takes over where it is strictly nearer.
+fn take(s: Search, target: Lab, lab: &[f64], i: usize) -> Search
+    requires { ⌜ 3 * (i + 1) ≤ length (now lab) ⌝ }
+    ensures { λ r. ⌜ r ≡ searched target (now (lab .entry)) i s ⌝ }
 {
-    let far = Near {
-        entry: 0,
-        distance: f64::from_bits(0x7ff0_0000_0000_0000),
+    let d = distance_to(target, lab, i);
+    let near = s.near;
+    let here = Near {
+        entry: i,
+        distance: d,
+    };
+    Search {
+        near: nearer(near, here),
+        total: s.total + d,
+    }
+}
+
+// What two searches found, the first of them among earlier entries.
+fn join(s: Search, u: Search) -> Search
+    ensures { λ r. ⌜ r ≡ joined s u ⌝ }
+{
+    let before = s.near;
+    let after = u.near;
+    Search {
+        near: nearer(before, after),
+        total: s.total + u.total,
+    }
+}
+
+// The search of the first k entries. The two halves are searched side by side: neither waits for the
+// other, and no branch is left in the machine code of a turn.
+pub fn search_in(target: Lab, lab: &[f64], k: usize) -> Search
+    requires { ⌜ 3 * k ≤ length (now lab) ⌝ }
+    ensures { λ r. ⌜ Searched target (now (lab .entry)) k r ⌝ }
+{
+    let start = Search {
+        near: Near {
+            entry: 0,
+            distance: f64::from_bits(0x7ff0_0000_0000_0000),
+        },
+        total: 0.0,
     };
     let half = k / 2;
-    let mut s = far;
-    let mut u = far;
+    let mut s = start;
+    let mut u = start;
     let mut i = 0;
     while i < half {
         s = take(s, target, lab, i);
         u = take(u, target, lab, half + i);
         i += 1;
     }
-    let near = nearer(s, u);
+    let both = join(s, u);
     if half + half < k {
-        return take(near, target, lab, half + half);
+        return take(both, target, lab, half + half);
     }
-    near
+    both
+}
+
+// The nearest of the first k entries, the first of them where several are.
+pub fn nearest_in(target: Lab, lab: &[f64], k: usize) -> Near
+    requires { ⌜ 3 * k ≤ length (now lab) ⌝ }
+    ensures { λ r. ⌜ r ≡ nearestOf target (now (lab .entry)) k ⌝ }
+{
+    let s = search_in(target, lab, k);
+    s.near
 }

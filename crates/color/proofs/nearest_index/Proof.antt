@@ -42,11 +42,14 @@ returns-2 c = refused _ _ _ _ (rw (le-ltb _ _ (c .before .if1 .left), ne-eqb _ _
 mul-n : tie.Need-mul-n
 mul-n c = search needs
 
-slice-aggregate-any-unfit : tie.Need-slice-aggregate-any-unfit
-slice-aggregate-any-unfit c = sym (length-take-le _ _ (omega arith))
+search-in-requires : tie.Need-search-in-requires
+search-in-requires c κs = search needs
 
-any-unfit-requires : tie.Need-any-unfit-requires
-any-unfit-requires c κs = search needs
+slice-aggregate-any-unfit-in : tie.Need-slice-aggregate-any-unfit-in
+slice-aggregate-any-unfit-in c = sym (length-take-le _ _ (omega arith))
+
+any-unfit-in-requires : tie.Need-any-unfit-in-requires
+any-unfit-in-requires c κs = search needs
 
 -- past the third check: k and the length are within their limits, and the k entries are finite
 record Past (lab : List Float) (k : ℕ) : Type 0 where
@@ -54,17 +57,17 @@ record Past (lab : List Float) (k : ℕ) : Type 0 where
   sized : eqb (length lab) 765 ≡ true
   fit : some unfit (take (3 * k) lab) ≡ false
 
-past-storage : (c : tie.Else3) → Past (c .before .before .before .before .before .before .args .lab .now) (c .before .before .before .before .before .before .args .k)
+past-storage : (c : tie.Else3) → Past (c .before .before .before .before .before .before .before .args .lab .now) (c .before .before .before .before .before .before .before .args .k)
 past-storage c =
     record {
-      few = le-ltb _ _ (c .before .before .before .before .if1 .left);
-      sized = eq-eqb _ _ (c .before .before .before .if2 .left);
-      fit = sym (c .before .any-unfit .ensures) ∙ c .if3 .left;
+      few = le-ltb _ _ (c .before .before .before .before .before .if1 .left);
+      sized = eq-eqb _ _ (c .before .before .before .before .if2 .left);
+      fit = sym (c .before .any-unfit-in .ensures) ∙ c .if3 .left;
     }
 
 returns-3 : tie.Need-returns-3
 unfolding nearestIndexOf nearestChecks firstOf refusedOr
-returns-3 c = refused _ _ _ _ (rw (le-ltb _ _ (c .before .before .before .before .if1 .left), eq-eqb _ _ (c .before .before .before .if2 .left), ← c .before .any-unfit .ensures, c .if3 .taken))
+returns-3 c = refused _ _ _ _ (rw (le-ltb _ _ (c .before .before .before .before .before .if1 .left), eq-eqb _ _ (c .before .before .before .before .if2 .left), ← c .before .any-unfit-in .ensures, c .if3 .taken))
 
 unfit-triple-requires : tie.Need-unfit-triple-requires
 unfit-triple-requires c κs = search needs
@@ -74,24 +77,21 @@ unfolding nearestIndexOf nearestChecks firstOf refusedOr
 returns-4 c = let h = past-storage (c .before .before) in refused _ _ _ _ (rw (h .few, h .sized, h .fit, ← c .before .unfit-triple .ensures, c .if4 .taken))
 
 -- past the fourth check the triple is finite too
-past-triple : (c : tie.Else4) → unfitTriple (c .before .before .before .before .before .before .before .before .args .target) ≡ false
+past-triple : (c : tie.Else4) → unfitTriple (c .before .before .before .before .before .before .before .before .before .args .target) ≡ false
 past-triple c = sym (c .before .unfit-triple .ensures) ∙ c .if4 .left
 
 returns-5 : tie.Need-returns-5
 unfolding nearestIndexOf nearestChecks firstOf refusedOr
 returns-5 c = let h = past-storage (c .before .before .before) in refused _ _ _ _ (rw (h .few, h .sized, h .fit, past-triple (c .before), eq-eqb _ _ (c .if5 .taken)))
 
-nearest-in-requires : tie.Need-nearest-in-requires
-nearest-in-requires c κs = search needs
-
 returns-6 : tie.Need-returns-6
 unfolding nearestIndexOf nearestChecks firstOf refusedOr
 returns-6 c =
-    let h = past-storage (c .before .before .before .before) in
-    let e = ap (λ (s : Near). s .entry) (c .nearest-in .ensures) in
+    let h = past-storage (c .before .before .before) in
+    let e = ap (λ (s : Near). s .entry) (c .before .before .before .before .before .before .search-in .ensures .near) in
     entry _ _ _ _
-    (rw (h .few, h .sized, h .fit, past-triple (c .before .before), ne-eqb _ _ (c .before .if5 .left)) (ap Entry e))
-    (subst (FirstNearest _ _ _) (sym e) (first-nearest _ _ _ (past-triple (c .before .before)) (h .fit) (omega arith) (omega arith)))
+    (rw (h .few, h .sized, h .fit, past-triple (c .before), ne-eqb _ _ (c .if5 .left)) (ap Entry e))
+    (subst (FirstNearest _ _ _) (sym e) (first-nearest _ _ _ (past-triple (c .before)) (h .fit) (omega arith) (omega arith)))
 
 pub nearest-index-spec : {M : Type 1} → statement M
 nearest-index-spec =
@@ -100,11 +100,11 @@ nearest-index-spec =
     returns
     returns-2
     mul-n
-    slice-aggregate-any-unfit
-    any-unfit-requires
+    search-in-requires
+    slice-aggregate-any-unfit-in
+    any-unfit-in-requires
     returns-3
     unfit-triple-requires
     returns-4
     returns-5
-    nearest-in-requires
     returns-6)
