@@ -1,9 +1,13 @@
 //! Times the proved calls beside the Rust original and prints three tables; `bench/run` builds and runs it.
 //!
-//! Ours is crates/bench, as `rt staticlib` compiles it. `color_platform` and `color_exact` are one and the same
-//! color.rs of pixelforge, built over the two stand-ins for its `libm`; `pixelforge` has its editor. All get the same
-//! inputs, and the results are compared bit for bit: a difference from the exact build ends the run.
+//! Ours is crates/exports, and crates/bench for loops over colours, as `rt staticlib` compiles them. `color_platform`
+//! and `color_exact` are one and the same color.rs of pixelforge, built over the two stand-ins for its `libm`;
+//! `pixelforge` has its editor. All get the same inputs, and the results are compared bit for bit: a difference from
+//! the exact build ends the run.
 
+#[path = "../compare/calls.rs"]
+#[allow(dead_code)]
+mod calls;
 mod moves;
 mod sheets;
 

@@ -3,81 +3,12 @@
 //! Ours is lent a sheet, which it checks in every call, and a journal; the Rust checks when a document is made, and
 //! keeps its edits in a Vec. So the Rust has two figures: the call alone, and the call with `with_lab`'s scan before it.
 
+use crate::calls::{call_push, call_redo, call_undo};
 use crate::figures;
 use crate::sheets::{document_of, random, stray, Sheet, ENTRIES};
 use pixelforge::editor::{Document, History, Op, PixelChange};
 use std::hint::black_box;
 use std::time::Instant;
-
-extern "C" {
-    fn bench_push_pixels(
-        w: usize,
-        h: usize,
-        palette: *mut u8,
-        bytes: usize,
-        lab: *mut f64,
-        doubles: usize,
-        indices: *mut i16,
-        pixels: usize,
-        permitted: *const u8,
-        colours: usize,
-        list: *const u64,
-        changes: usize,
-        journal: *mut u8,
-        size: usize,
-        scratch: *mut u8,
-        places: usize,
-        state: *mut [usize; 6],
-    ) -> u8;
-    fn bench_push_remove(
-        w: usize,
-        h: usize,
-        palette: *mut u8,
-        bytes: usize,
-        lab: *mut f64,
-        doubles: usize,
-        indices: *mut i16,
-        pixels: usize,
-        permitted: *const u8,
-        colours: usize,
-        index: usize,
-        list: *const u64,
-        changes: usize,
-        journal: *mut u8,
-        size: usize,
-        scratch: *mut u8,
-        places: usize,
-        state: *mut [usize; 6],
-    ) -> u8;
-    fn bench_undo(
-        w: usize,
-        h: usize,
-        palette: *mut u8,
-        bytes: usize,
-        lab: *mut f64,
-        doubles: usize,
-        indices: *mut i16,
-        pixels: usize,
-        journal: *const u8,
-        size: usize,
-        state: *mut [usize; 6],
-    ) -> u8;
-    fn bench_redo(
-        w: usize,
-        h: usize,
-        palette: *mut u8,
-        bytes: usize,
-        lab: *mut f64,
-        doubles: usize,
-        indices: *mut i16,
-        pixels: usize,
-        journal: *const u8,
-        size: usize,
-        scratch: *mut u8,
-        places: usize,
-        state: *mut [usize; 6],
-    ) -> u8;
-}
 
 /// Pixels, or the removal of an entry with its remap.
 #[derive(Clone)]
@@ -134,8 +65,6 @@ struct Ours {
     refused: usize,
 }
 
-// The calls are safe: each pointer goes with its own slice's length, no two slices overlap, and the functions
-// called are proved to stay inside.
 impl Ours {
     fn of(sheet: Sheet, edits: &[Edit]) -> Ours {
         let size = edits.iter().map(|e| 37 + 8 * e.changes.len()).sum();
@@ -151,91 +80,36 @@ impl Ours {
 
     fn back(&mut self) -> u8 {
         let s = &mut self.sheet;
-        unsafe {
-            bench_undo(
-                s.side,
-                s.side,
-                s.palette.as_mut_ptr(),
-                s.palette.len(),
-                s.lab.as_mut_ptr(),
-                s.lab.len(),
-                s.indices.as_mut_ptr(),
-                s.indices.len(),
-                self.journal.as_ptr(),
-                self.journal.len(),
-                &mut self.state,
-            )
-        }
+        call_undo(s.side, s.side, &mut s.palette, &mut s.lab, &mut s.indices, &self.journal, &mut self.state)
     }
 
     fn forth(&mut self) -> u8 {
         let s = &mut self.sheet;
-        unsafe {
-            bench_redo(
-                s.side,
-                s.side,
-                s.palette.as_mut_ptr(),
-                s.palette.len(),
-                s.lab.as_mut_ptr(),
-                s.lab.len(),
-                s.indices.as_mut_ptr(),
-                s.indices.len(),
-                self.journal.as_ptr(),
-                self.journal.len(),
-                self.scratch.as_mut_ptr(),
-                self.scratch.len(),
-                &mut self.state,
-            )
-        }
+        let (journal, scratch) = (&self.journal, &mut self.scratch);
+        call_redo(s.side, s.side, &mut s.palette, &mut s.lab, &mut s.indices, journal, scratch, &mut self.state)
     }
 
     fn pushed(&mut self, i: usize) -> u8 {
         let s = &mut self.sheet;
         let (removed, list) = &self.edits[i];
-        let permitted = [0; 0];
-        unsafe {
-            match *removed {
-                None => bench_push_pixels(
-                    s.side,
-                    s.side,
-                    s.palette.as_mut_ptr(),
-                    s.palette.len(),
-                    s.lab.as_mut_ptr(),
-                    s.lab.len(),
-                    s.indices.as_mut_ptr(),
-                    s.indices.len(),
-                    permitted.as_ptr(),
-                    permitted.len(),
-                    list.as_ptr(),
-                    list.len(),
-                    self.journal.as_mut_ptr(),
-                    self.journal.len(),
-                    self.scratch.as_mut_ptr(),
-                    self.scratch.len(),
-                    &mut self.state,
-                ),
-                Some(index) => bench_push_remove(
-                    s.side,
-                    s.side,
-                    s.palette.as_mut_ptr(),
-                    s.palette.len(),
-                    s.lab.as_mut_ptr(),
-                    s.lab.len(),
-                    s.indices.as_mut_ptr(),
-                    s.indices.len(),
-                    permitted.as_ptr(),
-                    permitted.len(),
-                    index,
-                    list.as_ptr(),
-                    list.len(),
-                    self.journal.as_mut_ptr(),
-                    self.journal.len(),
-                    self.scratch.as_mut_ptr(),
-                    self.scratch.len(),
-                    &mut self.state,
-                ),
-            }
-        }
+        let mut bytes = [0; 8];
+        bytes[0] = if removed.is_none() { 1 } else { 4 };
+        call_push(
+            s.side,
+            s.side,
+            &mut s.palette,
+            &mut s.lab,
+            &mut s.indices,
+            false,
+            &[],
+            &bytes,
+            removed.unwrap_or(0),
+            &[0.0; 3],
+            list,
+            &mut self.journal,
+            &mut self.scratch,
+            &mut self.state,
+        )
     }
 }
 

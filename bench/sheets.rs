@@ -3,6 +3,7 @@
 //! Ours makes checks 1 to 3 in every call, and writes where its caller says; the Rust checks when a document is
 //! made, and answers in a new Vec. An index has two bytes in ours and eight in the Rust.
 
+use crate::calls::{call_check, call_counts, call_diff_mask, call_new};
 use crate::{colour, differing, row, timed, Side, STORAGE};
 use pixelforge::config::Config;
 use pixelforge::editor::{Document, Origin};
@@ -16,61 +17,6 @@ const PIXELS: usize = 1 << 22;
 const NEWS: usize = 100;
 pub const ENTRIES: usize = STORAGE / 3;
 
-extern "C" {
-    fn bench_check(
-        w: usize,
-        h: usize,
-        k: usize,
-        palette: *const u8,
-        bytes: usize,
-        lab: *const f64,
-        doubles: usize,
-        indices: *const i16,
-        pixels: usize,
-    ) -> u8;
-    fn bench_new(
-        w: usize,
-        h: usize,
-        k: usize,
-        palette: *const u8,
-        bytes: usize,
-        lab: *mut f64,
-        doubles: usize,
-        indices: *const i16,
-        pixels: usize,
-    ) -> u8;
-    fn bench_counts(
-        w: usize,
-        h: usize,
-        k: usize,
-        palette: *const u8,
-        bytes: usize,
-        lab: *const f64,
-        doubles: usize,
-        indices: *const i16,
-        pixels: usize,
-        out: *mut u32,
-        places: usize,
-    ) -> usize;
-    fn bench_diff_mask(
-        w: usize,
-        h: usize,
-        k: usize,
-        palette: *const u8,
-        bytes: usize,
-        lab: *const f64,
-        doubles: usize,
-        indices: *const i16,
-        pixels: usize,
-        base: *const u8,
-        base_bytes: usize,
-        base_indices: *const i16,
-        base_pixels: usize,
-        mask: *mut u8,
-        places: usize,
-    ) -> usize;
-}
-
 /// A square sheet as our calls are lent it.
 pub struct Sheet {
     pub side: usize,
@@ -80,8 +26,6 @@ pub struct Sheet {
     pub indices: Vec<i16>,
 }
 
-// The calls are safe: each pointer goes with its own slice's length, no two slices overlap, and the functions
-// called are proved to stay inside.
 impl Sheet {
     pub fn of(side: usize, k: usize, picture: Picture) -> Sheet {
         let palette: Vec<u8> = (0..ENTRIES as u32).flat_map(colour).collect();
@@ -95,75 +39,28 @@ impl Sheet {
     }
 
     fn check(&self) -> u8 {
-        unsafe {
-            bench_check(
-                self.side,
-                self.side,
-                self.k,
-                self.palette.as_ptr(),
-                self.palette.len(),
-                self.lab.as_ptr(),
-                self.lab.len(),
-                self.indices.as_ptr(),
-                self.indices.len(),
-            )
-        }
+        call_check(self.side, self.side, self.k, &self.palette, &self.lab, &self.indices)
     }
 
     fn new(&mut self) -> u8 {
-        unsafe {
-            bench_new(
-                self.side,
-                self.side,
-                self.k,
-                self.palette.as_ptr(),
-                self.palette.len(),
-                self.lab.as_mut_ptr(),
-                self.lab.len(),
-                self.indices.as_ptr(),
-                self.indices.len(),
-            )
-        }
+        call_new(self.side, self.side, self.k, &self.palette, &mut self.lab, &self.indices)
     }
 
+    /// How many counts there are, or 0 for a refusal.
     fn counts(&self, out: &mut [u32]) -> usize {
-        unsafe {
-            bench_counts(
-                self.side,
-                self.side,
-                self.k,
-                self.palette.as_ptr(),
-                self.palette.len(),
-                self.lab.as_ptr(),
-                self.lab.len(),
-                self.indices.as_ptr(),
-                self.indices.len(),
-                out.as_mut_ptr(),
-                out.len(),
-            )
-        }
+        let mut r = [0; 5];
+        call_counts(self.side, self.side, self.k, &self.palette, &self.lab, &self.indices, out, &mut r);
+        r[0]
     }
 
+    /// How many pixels were compared, or 0 for a refusal.
     fn diff_mask(&self, base: &Sheet, mask: &mut [u8]) -> usize {
-        unsafe {
-            bench_diff_mask(
-                self.side,
-                self.side,
-                self.k,
-                self.palette.as_ptr(),
-                self.palette.len(),
-                self.lab.as_ptr(),
-                self.lab.len(),
-                self.indices.as_ptr(),
-                self.indices.len(),
-                base.palette.as_ptr(),
-                base.palette.len(),
-                base.indices.as_ptr(),
-                base.indices.len(),
-                mask.as_mut_ptr(),
-                mask.len(),
-            )
-        }
+        let (side, k, mut r) = (self.side, self.k, [0; 5]);
+        let (palette, indices) = (&base.palette, &base.indices);
+        call_diff_mask(
+            side, side, k, &self.palette, &self.lab, &self.indices, side, side, k, palette, indices, mask, &mut r,
+        );
+        r[0]
     }
 }
 

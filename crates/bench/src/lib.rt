@@ -1,9 +1,6 @@
-// What bench/driver.rs times, exported to C over slices: as many calls as there are inputs, and none
-// where the results have too few places. Of these loops it is proved that they stay inside and end; what
-// the calls answer stands in their own contracts.
-mod moves;
-mod sheets;
-
+// What bench/driver.rs times of the colours, exported to C over slices: as many calls as there are inputs,
+// and none where the results have too few places. Of these loops it is proved that they stay inside and
+// end; what the calls answer stands in their own contracts.
 use color::Found;
 use color::Root;
 use limits::Lab;

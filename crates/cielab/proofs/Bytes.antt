@@ -9,17 +9,18 @@ use lib.Dec.{T, lit≤}
 use lib.Ieee.{Float, binary64, toBits, lt, fits}
 use lib.Ieee.Fits.{sub-fits, mul-fits}
 use Rattle.limits.specs.declared.Rgb.{Rgb}
-use Rattle.cielab.specs.Arithmetic.{decimal}
-use Rattle.cielab.specs.NearestDouble.{unitsOf, aboveMiddle, nearestDouble}
-use Rattle.cielab.specs.CubeRoot.{inRootRange, rootOf, rootPattern}
+use Rattle.doubles.specs.Arithmetic.{decimal}
+use Rattle.doubles.specs.NearestDouble.{unitsOf, aboveMiddle, nearestDouble}
+use Rattle.roots.specs.CubeRoot.{inRootRange, rootOf, rootPattern}
 use Rattle.cielab.specs.Curve.{linearRgb}
-use Rattle.cielab.specs.Range.{AtMost}
+use Rattle.doubles.specs.Range.{AtMost}
 use Rattle.cielab.specs.Convert.{labF, labFrom, labOfLinear, labOf, LinearValues, FiniteLab}
-use Rattle.cielab.proofs.Floats.{range-bits}
-use Rattle.cielab.proofs.Units.{units-mono}
-use Rattle.cielab.proofs.NearestDouble.{at-most}
+use Rattle.roots.proofs.RootRange.{range-bits}
+use Rattle.doubles.proofs.Units.{units-mono}
+use Rattle.doubles.proofs.Magnitude.{pattern-small}
+use Rattle.doubles.proofs.NearestDouble.{at-most}
 use Rattle.cielab.proofs.LinearTable.{linear-linear}
-use Rattle.cielab.proofs.Range.{x-small, y-small, z-small, in-range, pattern-small, line-small, lab-finite}
+use Rattle.cielab.proofs.Range.{x-small, y-small, z-small, in-range, line-small, lab-finite}
 
 -- ---- the root of a number of at most 2 is at most 2
 abbrev two : ℕ

@@ -1,12 +1,3 @@
-pub mod Units
-pub mod NearestDouble
-pub mod Floats
-pub mod LinearTable
-pub mod Cubes
-pub mod RootPattern
-pub mod Signs
-pub mod Order
-pub mod Magnitude
-pub mod Range
-pub mod OwnDifference
+mod LinearTable
+mod Range
 pub mod Bytes

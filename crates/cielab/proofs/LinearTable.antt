@@ -13,13 +13,13 @@ use lib.ListN.{length, getD}
 use lib.Ieee.{Float, nan, binary64, ofBits, toBits, ofInt, round, div, le, lt, eq}
 use lib.Ieee.Fits.{and-l, and-r}
 use borrow.Author.Tests.{le-leb, lt-leb}
-use Rattle.cielab.specs.Arithmetic.{decimal}
-use Rattle.cielab.specs.NearestDouble.{unitsOf, aboveMiddle, nearestDouble, NoneNearer}
+use Rattle.doubles.specs.Arithmetic.{decimal}
+use Rattle.doubles.specs.NearestDouble.{unitsOf, aboveMiddle, nearestDouble, NoneNearer}
 use Rattle.cielab.specs.Curve.{linearOf, linearFrom, linearTable, Linear}
 use Rattle.cielab.specs.Convert.{isLinear}
-use Rattle.cielab.proofs.Floats.{bits-back}
-use Rattle.cielab.proofs.Units.{below-or-not}
-use Rattle.cielab.proofs.NearestDouble.{nearestTest, Passed, passed}
+use Rattle.doubles.proofs.Floats.{bits-back}
+use Rattle.doubles.proofs.Units.{below-or-not}
+use Rattle.doubles.proofs.NearestDouble.{nearestTest, Passed, passed}
 
 -- the bit patterns of the code's literals
 unfoldable pub linearBits : List ℕ

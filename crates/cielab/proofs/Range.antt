@@ -2,27 +2,21 @@
 -- operation keeps a bound on the magnitude. Assumes nothing.
 use mathlib.Core.Path.{_≡_, refl}
 use Prim.Native.Nat.{ℕ, _+_, _*_, _^_, _≤_, _<_}
-use native.Mathlib.Nat.{le-trans, le-of-eq, mul-one}
 use native.Mathlib.Omega.{arith}
 use mathlib.Core.Bool.{true, false}
 use lib.Dec.{T, eqb, leb→le, le→leb, ltb→lt, eqb→eq, lit<, lit≤}
 use lib.IntN.{ℤ}
-use lib.Pow.{pow-pos}
-use lib.Ieee.{Float, nan, inf, fin, binary64, up, down, round, add, sub, mul, div, lt, le, eq, ofBits}
-use lib.Ieee.Exact.{HasValue}
+use lib.Ieee.{Float, nan, inf, fin, binary64, up, down, round, add, sub, mul, div, lt, le, eq}
 use lib.Ieee.Fits.{and-i, and-l, and-r, down-pos}
 use lib.Ieee.Order.{le-of-values}
-use lib.Ieee.Positive.{through}
 use Rattle.cielab.specs.declared.LinearRgb.{LinearRgb}
-use Rattle.cielab.specs.Arithmetic.{decimal}
-use Rattle.cielab.specs.NearestDouble.{unitsOf}
-use Rattle.cielab.specs.CubeRoot.{inRootRange}
-use Rattle.cielab.specs.Range.{AtMost}
+use Rattle.doubles.specs.Arithmetic.{decimal}
+use Rattle.roots.specs.CubeRoot.{inRootRange}
+use Rattle.doubles.specs.Range.{AtMost}
 use Rattle.cielab.specs.Convert.{rowOf, xOf, yOf, zOf, labFrom, isLinear, LinearValues, FiniteLab}
-use Rattle.cielab.proofs.Floats.{least, most}
-use Rattle.cielab.proofs.Units.{units-mono, units-value}
-use Rattle.cielab.proofs.Order.{or-le}
-use Rattle.cielab.proofs.Magnitude.{Mag, mag-finite, Exact, mul-mag, add-mag, sub-mag, div-mag, atLeast}
+use Rattle.roots.proofs.RootRange.{least, most}
+use Rattle.doubles.proofs.Order.{or-le}
+use Rattle.doubles.proofs.Magnitude.{Mag, mag-finite, Exact, mul-mag, add-mag, sub-mag, div-mag, atLeast}
 
 -- ---- a linear value is at most 1
 abbrev zero-double : Float
@@ -100,20 +94,7 @@ in-range (fin false m e) g h =
     lower : (U D : ℕ) → 2552568211199559 * D < U * 2 ^ 58 → 1 * D ≤ U * 128
     lower U D h = omega arith
 
--- ---- a root is at most 2, and so each f value at most 32
-value-mag : (x : Float) (a c p r : ℕ) → HasValue x false a c → 0 < c → a * r ≤ p * c → Mag p r x
-value-mag nan a c p r v C k = absurd v
-value-mag (inf s) a c p r v C k = absurd v
-value-mag (fin s m e) a c p r v C k = le→leb (m * up e * r) (p * down e) (through (m * up e) a p (down e) c r C (le-of-eq (v .1)) k)
-
-pub pattern-small : (g : ℕ) → g ≤ 0x4000_0000_0000_0000 → AtMost 32 (ofBits binary64 g)
-pattern-small g h =
-    value-mag (ofBits binary64 g) (unitsOf g) (2 ^ 1074) 32 1 (units-value g (omega arith)) (pow-pos 1074)
-    (le-trans (le-of-eq (mul-one (unitsOf g))) (le-trans (units-mono g 0x4000_0000_0000_0000 h) two))
-  where
-    two : unitsOf 0x4000_0000_0000_0000 ≤ 32 * 2 ^ 1074
-    two = unfold unitsOf in lit≤ tt
-
+-- ---- each f value is at most 32
 pub line-small : (t : Float) → AtMost 2 t
     → AtMost 32 (add binary64 (mul binary64 (decimal 7787 3) t) (div binary64 (decimal 16 0) (decimal 116 0)))
 unfolding decimal round

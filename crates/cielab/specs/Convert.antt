@@ -7,8 +7,8 @@ use lib.Ieee.Scale.{finite}
 use Rattle.limits.specs.declared.Lab.{Lab}
 use Rattle.limits.specs.declared.Rgb.{Rgb}
 use Rattle.cielab.specs.declared.LinearRgb.{LinearRgb}
-use Rattle.cielab.specs.Arithmetic.{decimal, _⊕_, _⊖_, _⊗_, _⊘_}
-use Rattle.cielab.specs.CubeRoot.{rootOf}
+use Rattle.doubles.specs.Arithmetic.{decimal, _⊕_, _⊖_, _⊗_, _⊘_}
+use Rattle.roots.specs.CubeRoot.{rootOf}
 use Rattle.cielab.specs.Curve.{linearRgb}
 
 -- `lab_f`

@@ -8,8 +8,8 @@ use lib.IntN.{pos}
 use lib.Ieee.{Float, binary64, ofInt, toBits}
 use Rattle.limits.specs.declared.Rgb.{Rgb}
 use Rattle.cielab.specs.declared.LinearRgb.{LinearRgb}
-use Rattle.cielab.specs.Arithmetic.{decimal, _⊘_}
-use Rattle.cielab.specs.NearestDouble.{nearestDouble, NoneNearer}
+use Rattle.doubles.specs.Arithmetic.{decimal, _⊘_}
+use Rattle.doubles.specs.NearestDouble.{nearestDouble, NoneNearer}
 
 -- "For byte c ≤ 10 the linear value is (c/255)/12.92 in doubles. For the others .. the double nearest to ((40c+561)/10761)^(12/5)":
 -- the fifth root of (40c+561)^12 / 10761^12

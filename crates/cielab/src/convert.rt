@@ -1,13 +1,13 @@
 // 8-bit sRGB to CIELAB (D65): `rgb_to_lab_one` of color.rs, its operations in its order.
 use crate::LinearRgb;
-use crate::cube_root::root;
 use crate::curve::linear_rgb_in;
 use limits::Lab;
 use limits::Rgb;
+use roots::root;
 ghost use mathlib.Core.Path.{_≡_};
 ghost use Rattle.cielab.specs.Curve.{linearTable};
 ghost use Rattle.cielab.specs.Convert.{labF, rowOf, labOfLinear, labOf, LinearValues, Converted};
-ghost use Rattle.cielab.specs.Range.{AtMost, Bounded};
+ghost use Rattle.doubles.specs.Range.{AtMost, Bounded};
 
 // The root where t is above 0.008856, and the line below it. For a ratio of at most 2 the root is never
 // asked outside its range.

@@ -11,9 +11,9 @@ use Rattle.limits.specs.Numbers.{badSheet, unfitLab, noSuchEntry, rootRange}
 use Rattle.limits.specs.Checks.{Check, _when_, checked}
 use Rattle.limits.specs.declared.Lab.{Lab}
 use Rattle.lists.specs.Lists.{some}
-use Rattle.cielab.specs.NearestDouble.{unitsOf, NoneNearer}
-use Rattle.cielab.specs.CubeRoot.{inRootRange, rootOf}
-use Rattle.cielab.specs.Finite.{unfit, unfitTriple}
+use Rattle.doubles.specs.NearestDouble.{unitsOf, NoneNearer}
+use Rattle.roots.specs.CubeRoot.{inRootRange, rootOf}
+use Rattle.doubles.specs.Finite.{unfit, unfitTriple}
 use Rattle.distances.specs.Nearest.{nearestOf, FirstNearest}
 use Rattle.color.specs.declared.Root.{Root}
 use Rattle.color.specs.declared.Root.the-variants as root

@@ -14,7 +14,7 @@ ghost use mathlib.Core.Bool.{false};
 ghost use Rattle.lists.specs.Lists.{some};
 ghost use Rattle.cielab.specs.Curve.{Linear};
 ghost use Rattle.cielab.specs.Convert.{labOf, Converted};
-ghost use Rattle.cielab.specs.Finite.{unfit};
+ghost use Rattle.doubles.specs.Finite.{unfit};
 ghost use Rattle.distances.specs.Nearest.{dist2Of};
 ghost use Rattle.color.specs.Calls.{CubeRoot, NearestEntry};
 
@@ -44,7 +44,7 @@ pub fn cbrt(t: f64) -> Root
 {
     if t >= 0.0078125 {
         if t <= 2.0 {
-            return Root::Value(cielab::root(t));
+            return Root::Value(roots::root(t));
         }
     }
     Root::Refused(ROOT_RANGE)
@@ -71,8 +71,8 @@ fn any_unfit_in(lab: &[f64], total: f64) -> bool
     requires { ⌜ (unfit total ≡ false → some unfit (now lab) ≡ false) ⌝ }
     ensures { λ r. ⌜ r ≡ some unfit (now (lab .entry)) ⌝ }
 {
-    if cielab::is_unfit(total) {
-        return cielab::any_unfit(lab);
+    if doubles::is_unfit(total) {
+        return doubles::any_unfit(lab);
     }
     false
 }
@@ -94,7 +94,7 @@ pub fn nearest_index(target: Lab, lab: &[f64], k: usize) -> Found
     if any_unfit_in(&lab[..n], s.total) {
         return Found::Refused(UNFIT_LAB);
     }
-    if cielab::unfit_triple(target) {
+    if doubles::unfit_triple(target) {
         return Found::Refused(UNFIT_LAB);
     }
     if k == 0 {

@@ -10,10 +10,10 @@ use lib.Ieee.{Float, nan}
 use Rattle.lists.specs.Lists.{some}
 use Rattle.lists.proofs.Scan.{or-left, or-right, some-none}
 use Rattle.limits.specs.declared.Lab.{Lab}
-use Rattle.cielab.specs.Arithmetic.{_⊖_, _⊗_}
-use Rattle.cielab.specs.Finite.{unfit, unfitTriple}
+use Rattle.doubles.specs.Arithmetic.{_⊖_, _⊗_}
+use Rattle.doubles.specs.Finite.{unfit, unfitTriple}
 use Rattle.distances.specs.Nearest.{dist2Of, labAt, distance}
-use Rattle.cielab.proofs.Signs.{Plus, Finite, fit, sub-number, square-plus, add-plus}
+use Rattle.doubles.proofs.Signs.{Plus, Finite, fit, sub-number, square-plus, add-plus}
 
 pub record FiniteTriple (q : Lab) : Type 0 where
   pub l : Finite (q .l)

@@ -12,10 +12,10 @@ use lib.Ieee.{Float, inf, lt}
 use Rattle.lists.specs.Lists.{some}
 use Rattle.limits.specs.declared.Lab.{Lab}
 use Rattle.distances.specs.declared.Near.{Near}
-use Rattle.cielab.specs.Finite.{unfit, unfitTriple}
+use Rattle.doubles.specs.Finite.{unfit, unfitTriple}
 use Rattle.distances.specs.Nearest.{distance, closer, nearestOf, FirstNearest}
-use Rattle.cielab.proofs.Signs.{Plus, infinity, number}
-use Rattle.cielab.proofs.Order.{le-self, not-lt→le, lt-le→lt, lt→le}
+use Rattle.doubles.proofs.Signs.{Plus, infinity, number}
+use Rattle.doubles.proofs.Order.{le-self, not-lt→le, lt-le→lt, lt→le}
 use Rattle.distances.proofs.Distances.{distance-plus}
 
 -- s is what is found among the first n entries, and how far that is

@@ -10,10 +10,10 @@ use lib.Dec.{T}
 use lib.Ieee.{Float, nan, inf, fin, lt, add, mul}
 use Rattle.limits.specs.declared.Lab.{Lab}
 use Rattle.distances.specs.declared.Near.{Near}
-use Rattle.cielab.specs.Arithmetic.{_⊕_, _⊗_}
+use Rattle.doubles.specs.Arithmetic.{_⊕_, _⊗_}
 use Rattle.distances.specs.Nearest.{dist2Of, distance, closer, nearestOf}
-use Rattle.cielab.proofs.Signs.{Plus, infinity, number, square-plus, add-plus}
-use Rattle.cielab.proofs.Order.{not-lt→le, lt-le→lt, lt→le}
+use Rattle.doubles.proofs.Signs.{Plus, infinity, number, square-plus, add-plus}
+use Rattle.doubles.proofs.Order.{not-lt→le, lt-le→lt, lt→le}
 
 -- ---- a distance is not negative, or a NaN, which nothing is nearer than
 pub data Reading : Float → Type 0 where

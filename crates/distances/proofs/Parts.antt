@@ -12,7 +12,7 @@ use lib.Ieee.{Float, nan, inf, lt}
 use Rattle.limits.specs.declared.Lab.{Lab}
 use Rattle.distances.specs.declared.Near.{Near}
 use Rattle.distances.specs.Nearest.{labAt, distance, closer, nearestOf}
-use Rattle.cielab.proofs.Signs.{Plus, infinity, number}
+use Rattle.doubles.proofs.Signs.{Plus, infinity, number}
 use Rattle.distances.proofs.Halves.{Reading, plus, read-dist2, lt-plus, not-beyond, far, both, from, nearest-plus, in-two}
 
 -- what is nearer than something is less far than the infinity

@@ -12,9 +12,9 @@ use lib.Seq.{getD-take, length-take-le}
 use lib.Ieee.{Float, nan, inf, fin, add, sub, mul, neg}
 use Rattle.lists.proofs.Nowhere.{nowhere-of}
 use Rattle.limits.specs.declared.Lab.{Lab}
-use Rattle.cielab.specs.Arithmetic.{_⊕_, _⊖_, _⊗_}
-use Rattle.cielab.specs.Finite.{unfit, unfitTriple}
-use Rattle.cielab.proofs.Units.{below-or-not}
+use Rattle.doubles.specs.Arithmetic.{_⊕_, _⊖_, _⊗_}
+use Rattle.doubles.specs.Finite.{unfit, unfitTriple}
+use Rattle.doubles.proofs.Units.{below-or-not}
 use Rattle.distances.specs.declared.Search.{Search}
 use Rattle.distances.specs.Nearest.{dist2Of, labAt, distance, nearestOf, searched, joined, Searched}
 use Rattle.distances.proofs.Distances.{each-fit}

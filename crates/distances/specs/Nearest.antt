@@ -11,8 +11,8 @@ use Rattle.limits.specs.declared.Lab.{Lab}
 use Rattle.lists.specs.Lists.{some}
 use Rattle.distances.specs.declared.Near.{Near}
 use Rattle.distances.specs.declared.Search.{Search}
-use Rattle.cielab.specs.Arithmetic.{_⊕_, _⊖_, _⊗_}
-use Rattle.cielab.specs.Finite.{unfit}
+use Rattle.doubles.specs.Arithmetic.{_⊕_, _⊖_, _⊗_}
+use Rattle.doubles.specs.Finite.{unfit}
 
 -- `dist2`
 unfoldable pub dist2Of : Lab → Lab → Float

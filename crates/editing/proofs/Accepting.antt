@@ -13,7 +13,7 @@ use Rattle.limits.specs.Limits.{maxChanges, maxJournal}
 use Rattle.limits.specs.declared.Answer.the-variants.{Done}
 use Rattle.lists.specs.Lists.{over}
 use Rattle.lists.proofs.Scan.{some-none}
-use Rattle.cielab.specs.Finite.{unfit}
+use Rattle.doubles.specs.Finite.{unfit}
 use Rattle.distances.specs.Nearest.{labAt}
 use Rattle.cielab.specs.Convert.{labOf}
 use Rattle.sheet.specs.Sheet.{Sheet}

@@ -14,7 +14,7 @@ use Rattle.limits.specs.Checks.{Check, _when_, firstOf}
 use Rattle.limits.specs.declared.Rgb.{Rgb}
 use Rattle.limits.specs.declared.Lab.{Lab}
 use Rattle.lists.specs.Lists as lists
-use Rattle.cielab.specs.Finite.{unfit}
+use Rattle.doubles.specs.Finite.{unfit}
 use Rattle.cielab.specs.Convert.{labOf}
 use Rattle.sheet.specs.Sheet.{Sheet, Picture, view, stray}
 use Rattle.sheet.specs.Checks.{permittedChecks, sheetChecks}

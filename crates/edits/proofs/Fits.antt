@@ -12,7 +12,7 @@ use lib.Ieee.Scale.{finite}
 use lib.ListN.{length, take}
 use Rattle.limits.specs.declared.Lab.{Lab}
 use Rattle.lists.specs.Lists.{some}
-use Rattle.cielab.specs.Finite.{unfit}
+use Rattle.doubles.specs.Finite.{unfit}
 use Rattle.cielab.specs.Convert.{FiniteLab}
 use Rattle.sheet.specs.Sheet.{Sheet, sheetOf, view, stray}
 use Rattle.sheet.specs.Checks.{Limits, WellFormed}

@@ -7,7 +7,7 @@ use native.Mathlib.Omega.{arith}
 use lib.ListN.{take, length-map}
 use Rattle.limits.specs.declared.Rgb.{Rgb}
 use Rattle.limits.specs.declared.Lab.{Lab}
-use Rattle.cielab.specs.Finite.{unfit}
+use Rattle.doubles.specs.Finite.{unfit}
 use Rattle.sheet.specs.Sheet.{Sheet, view, stray}
 use Rattle.sheet.specs.Checks.{WellFormed}
 use Rattle.edits.specs.declared.Edit.{Edit}

@@ -4,7 +4,7 @@ use mathlib.Core.List.{flatMap}
 use lib.Ieee.{span, climb, odd, units, ofFields, ofBits, toBits, size}
 use Rattle.limits.specs.Checks.{firstOf, refusedOr}
 use Rattle.lists.specs.Lists as lists
-use Rattle.cielab.specs.Finite.{unfit}
+use Rattle.doubles.specs.Finite.{unfit}
 use Rattle.distances.specs.Nearest.{labAt}
 use Rattle.ints.specs.Ints.{eqZ}
 use Rattle.sheet.specs.Sheet.{view, stray}

@@ -14,7 +14,7 @@ use Rattle.limits.specs.declared.Lab.{Lab}
 use Rattle.lists.specs.Lists.{some}
 use Rattle.lists.proofs.Scan.{some-none}
 use Rattle.lists.proofs.Nowhere.{or-both, nowhere-take}
-use Rattle.cielab.specs.Finite.{unfit, unfitTriple}
+use Rattle.doubles.specs.Finite.{unfit, unfitTriple}
 use Rattle.distances.specs.declared.Near.{Near}
 use Rattle.distances.specs.Nearest.{dist2Of, labAt, distance, nearestOf, FirstNearest}
 use Rattle.distances.proofs.FirstNearest.{first-nearest}

@@ -13,7 +13,7 @@ use Rattle.limits.specs.declared.Lab.{Lab}
 use Rattle.limits.specs.declared.Answer.{Answer}
 use Rattle.limits.specs.declared.Answer.the-variants as answer
 use Rattle.lists.specs.Lists.{range, over}
-use Rattle.cielab.specs.Arithmetic.{decimal}
+use Rattle.doubles.specs.Arithmetic.{decimal}
 use Rattle.sheet.specs.Sheet.{Sheet}
 use Rattle.sheet.specs.Checks.{permittedChecks, sheetChecks, WellFormed}
 use Rattle.sheet.specs.Document.{rgbAt, mark}

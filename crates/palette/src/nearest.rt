@@ -10,7 +10,7 @@ ghost use mathlib.Core.Bool.{false};
 ghost use Prim.Native.Nat.{_*_, _<_, _≤_};
 ghost use lib.ListN.{length, take};
 ghost use Rattle.lists.specs.Lists.{some};
-ghost use Rattle.cielab.specs.Finite.{unfit};
+ghost use Rattle.doubles.specs.Finite.{unfit};
 ghost use Rattle.sheet.specs.Sheet.{sheetOf};
 ghost use Rattle.palette.specs.Nearest.{Removable, Nearest, NearestOther};
 

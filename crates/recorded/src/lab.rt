@@ -1,12 +1,12 @@
 // A LAB in the bytes of a record.
-use cielab::unfit_triple;
+use doubles::unfit_triple;
 use limits::Lab;
 use records::Real;
 use records::get_f64;
 ghost use mathlib.Core.Path.{_≡_};
 ghost use Prim.Native.Nat.{_+_, _≤_};
 ghost use lib.ListN.{length};
-ghost use Rattle.cielab.specs.Finite.{unfitTriple};
+ghost use Rattle.doubles.specs.Finite.{unfitTriple};
 ghost use Rattle.records.specs.Record.{doubleIn, labIn};
 ghost use Rattle.recorded.specs.LabRead.{doubleOf};
 

@@ -1,7 +1,7 @@
 // Storage and journal set to zero, which an opening starts from.
 ghost use mathlib.Core.Path.{_≡_};
 ghost use lib.ListN.{length, replicate};
-ghost use Rattle.cielab.specs.Arithmetic.{decimal};
+ghost use Rattle.doubles.specs.Arithmetic.{decimal};
 
 pub(crate) fn clear_bytes(out: &mut [u8])
     ensures { λ _. ⌜ now (out .exit) ≡ replicate (length (now (out .entry))) 0 ⌝ }

@@ -13,7 +13,7 @@ use Rattle.limits.specs.Numbers.{strayIndex, unfitLab}
 use Rattle.limits.proofs.First.{first-past, first-here, refused-first, past, past-both}
 use Rattle.lists.specs.Lists.{some}
 use Rattle.lists.proofs.Scan.{or-left, or-right}
-use Rattle.cielab.specs.Finite.{unfit}
+use Rattle.doubles.specs.Finite.{unfit}
 use Rattle.sheet.specs.Sheet.{Sheet, stray}
 use Rattle.sheet.specs.Checks.{limitChecks, indexChecks, labChecks, sheetChecks, Limits, Limited, WellFormed, Judged}
 

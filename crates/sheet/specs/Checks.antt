@@ -9,7 +9,7 @@ use Rattle.limits.specs.Limits.{maxSide, maxEntries, storage, maxPermitted, max
 use Rattle.limits.specs.Numbers.{badSheet, strayIndex, unfitLab}
 use Rattle.limits.specs.Checks.{Check, _when_, firstOf}
 use Rattle.lists.specs.Lists.{some}
-use Rattle.cielab.specs.Finite.{unfit}
+use Rattle.doubles.specs.Finite.{unfit}
 use Rattle.sheet.specs.Sheet.{Sheet, stray}
 
 -- 1: "w and h 0 to 1,024; k palette entries, 0 to 255; w × h signed 16-bit indices .. Palette storage is 765 bytes, LAB storage 765 doubles"

@@ -1,6 +1,6 @@
 // Checks 1 to 3, which every call on a sheet begins with. The scans have no early exit, so that they
 // are compiled to vector code.
-use cielab::any_unfit;
+use doubles::any_unfit;
 use limits::BAD_SHEET;
 use limits::MAX_ENTRIES;
 use limits::MAX_PERMITTED;

@@ -14,7 +14,7 @@ use Rattle.limits.specs.declared.Rgb.{Rgb}
 use Rattle.limits.specs.declared.Lab.{Lab}
 use Rattle.lists.specs.Lists.{some}
 use Rattle.lists.proofs.Nowhere.{nowhere-take, nowhere-drop, nowhere-weaker, some-map}
-use Rattle.cielab.specs.Finite.{unfit, unfitTriple}
+use Rattle.doubles.specs.Finite.{unfit, unfitTriple}
 use Rattle.sheet.specs.Sheet.{Sheet, sheetOf, stray}
 use Rattle.sheet.specs.Checks.{sheetChecks, Limits, WellFormed}
 use Rattle.sheet.proofs.Judging.{limited-bad, judged-limits, judged-index, judged-lab, judged-fine}

@@ -7,7 +7,7 @@ use lib.IntN.{ℤ}
 use Rattle.limits.specs.Limits.{maxEntries}
 use Rattle.limits.specs.declared.Lab.{Lab}
 use Rattle.lists.specs.Lists.{some}
-use Rattle.cielab.specs.Finite.{unfitTriple}
+use Rattle.doubles.specs.Finite.{unfitTriple}
 use Rattle.sheet.specs.Sheet.{stray}
 use Rattle.edits.specs.Change.{Change, outside, painted, oldOf}
 

@@ -13,7 +13,7 @@ use lib.Ieee.{Float}
 use Rattle.limits.specs.Checks.{firstOf, refusedOr}
 use Rattle.limits.specs.declared.Lab.{Lab}
 use Rattle.lists.specs.Lists.{some}
-use Rattle.cielab.specs.Finite.{unfit, unfitTriple}
+use Rattle.doubles.specs.Finite.{unfit, unfitTriple}
 use Rattle.distances.specs.Nearest.{FirstNearest}
 use Rattle.distances.specs.declared.Near.{Near}
 use Rattle.distances.proofs.FirstNearest.{first-nearest}

@@ -1,6 +1,6 @@
 -- `no_lab`: the literals are the definition's. Assumes nothing.
 use Rattle.palette.specs.Colours.{noLab}
-use Rattle.cielab.specs.Arithmetic.{decimal}
+use Rattle.doubles.specs.Arithmetic.{decimal}
 use lib.Ieee.{round, ofBits}
 use mathlib.Core.Path.{refl}
 use Rattle.answering.proofs.acting.no_lab.Statement.{statement}

@@ -2,7 +2,7 @@
 use mathlib.Core.Path.{sym, subst}
 use lib.Dec.{T}
 use lib.Ieee.{ofBits, round}
-use Rattle.cielab.specs.Arithmetic.{decimal}
+use Rattle.doubles.specs.Arithmetic.{decimal}
 use Rattle.cielab.specs.Convert.{labF}
 use Rattle.cielab.proofs.Range.{in-range, line-small}
 use Rattle.cielab.proofs.convert.lab_f.Statement.{statement}

@@ -1,7 +1,7 @@
 -- `lab_of_linear`: each ratio is at most 2, and the results are the definition's. Assumes nothing.
 use mathlib.Core.Path.{_≡_, ap, _∙_}
 use lib.Ieee.{Float, binary64, ofBits, round, div}
-use Rattle.cielab.specs.Arithmetic.{decimal}
+use Rattle.doubles.specs.Arithmetic.{decimal}
 use Rattle.cielab.specs.Convert.{labF, xOf, yOf, zOf, labFrom, labOfLinear}
 use Rattle.cielab.proofs.Range.{x-small, y-small, z-small, lab-finite}
 use Rattle.cielab.proofs.convert.lab_of_linear.Statement.{statement}

@@ -1,7 +1,7 @@
 -- `no_lab`: the literals are the definition's. Assumes nothing.
 use mathlib.Core.Path.{refl}
 use lib.Ieee.{round, ofBits}
-use Rattle.cielab.specs.Arithmetic.{decimal}
+use Rattle.doubles.specs.Arithmetic.{decimal}
 use Rattle.palette.specs.Colours.{noLab}
 use Rattle.palette.proofs.colours.no_lab.Statement.{statement}
 use Rattle.palette.proofs.colours.no_lab.Tie as tie

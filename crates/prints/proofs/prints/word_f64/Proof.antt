@@ -1,5 +1,5 @@
 -- `word_f64` is safe and ends. A double that lies on either side of another is a number. Assumes nothing.
-use Rattle.cielab.proofs.Floats.{lt-no-nan}
+use Rattle.doubles.proofs.Floats.{lt-no-nan}
 use Rattle.prints.proofs.Doubles.{gt-no-nan}
 use borrow.Author.Needs.{needs}
 use Rattle.prints.proofs.prints.word_f64.Statement.{statement}

@@ -1,6 +1,6 @@
 -- `clear_lab`: the first i are zero. Assumes nothing.
 use lib.Ieee.{round, ofBits}
-use Rattle.cielab.specs.Arithmetic.{decimal}
+use Rattle.doubles.specs.Arithmetic.{decimal}
 use Rattle.session.proofs.Clearing.{Cleared, cleared-none, cleared-next, cleared-all}
 use lib.ListN.{length}
 use Prim.Native.Nat.{_-_}

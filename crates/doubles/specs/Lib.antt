@@ -1,0 +1,4 @@
+pub mod Arithmetic
+pub mod NearestDouble
+pub mod Range
+pub mod Finite

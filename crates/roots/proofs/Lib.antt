@@ -1,0 +1,3 @@
+mod Cubes
+mod RootPattern
+pub mod RootRange

@@ -1,0 +1,2 @@
+pub mod CubeRoot
+pub mod Cubes
