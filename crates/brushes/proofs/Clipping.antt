@@ -13,8 +13,9 @@ use lib.Signed.{nonNeg}
 use Rattle.lists.specs.Lists.{range}
 use Rattle.lists.proofs.Collect.{flatMap-append}
 use Rattle.ints.specs.Ints.{fromZero}
+use Rattle.spans.specs.Spans.{inSpan}
 use Rattle.selection.specs.declared.Selection.{Selection}
-use Rattle.selection.specs.Selection.{inSpan, contains, containsI}
+use Rattle.selection.specs.Selection.{contains, containsI}
 use Rattle.lines.specs.Line.{point}
 use Rattle.brushes.specs.Places.{placeAt, placesOf}
 

@@ -10,8 +10,8 @@ use lib.ListN.{length, set, take, drop, length-map, length-set}
 use Rattle.lists.specs.Lists.{range, over}
 use Rattle.lists.proofs.Over.{over-none, over-set, over-lent, length-over}
 use Rattle.lists.proofs.Collect.{length-range, range-next, flatMap-append, flatMap-one}
-use Rattle.selection.specs.Selection.{Position, position, row}
-use Rattle.selection.proofs.Rows.{rows, length-rows}
+use Rattle.spans.specs.Positions.{Position, position, row, rows}
+use Rattle.spans.proofs.Rows.{length-rows}
 use Rattle.clips.specs.Clips.{fromRows}
 
 module _ (g : ℕ → ℤ) where

@@ -15,8 +15,9 @@ use Rattle.lists.specs.Lists.{over}
 use Rattle.sheet.specs.Sheet.{Sheet}
 use Rattle.sheet.specs.Checks.{sheetChecks}
 use Rattle.sheet.specs.Document.{rgbAt}
+use Rattle.spans.specs.Positions.{Position}
 use Rattle.selection.specs.declared.Area.{Area}
-use Rattle.selection.specs.Selection.{Position, positions}
+use Rattle.selection.specs.Selection.{positions}
 use Rattle.selection.specs.Region.{regionChecks, regionIn}
 use Rattle.clips.specs.declared.Copied.{Copied}
 use Rattle.clips.specs.declared.Copied.the-variants as copied

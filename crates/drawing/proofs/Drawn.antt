@@ -8,8 +8,9 @@ use lib.IntN.{ℤ, pos, negsuc, natAbs}
 use lib.ListN.{length, getD}
 use Rattle.lists.proofs.Bools.{and-left, and-right}
 use Rattle.ints.proofs.Back.{never}
+use Rattle.spans.specs.Spans.{inSpan}
 use Rattle.selection.specs.declared.Selection.{Selection}
-use Rattle.selection.specs.Selection.{inSpan, contains, containsI}
+use Rattle.selection.specs.Selection.{contains, containsI}
 use Rattle.selection.proofs.Regions.{Within, below-span}
 use Rattle.lines.specs.Line.{Point}
 use Rattle.edits.specs.Change.{Change, place}

@@ -11,10 +11,11 @@ use Rattle.limits.specs.Checks.{firstOf, refusedOr}
 use Rattle.lists.proofs.Bools.{and-left, and-right}
 use Rattle.ints.specs.Ints.{far, fromZero}
 use Rattle.ints.proofs.Back.{never}
+use Rattle.spans.specs.Spans.{inSpan}
 use Rattle.selection.specs.declared.Selection.{Selection}
 use Rattle.selection.specs.declared.Held.{Held}
 use Rattle.selection.specs.declared.Held.the-variants as held
-use Rattle.selection.specs.Selection.{inside, inSpan, contains, containsI}
+use Rattle.selection.specs.Selection.{inside, contains, containsI}
 use Rattle.selection.specs.Calls.{farAway, containsIOf}
 use Rattle.selection.proofs.Regions.{below-span}
 

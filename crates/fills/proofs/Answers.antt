@@ -22,10 +22,11 @@ use Rattle.sheet.specs.Sheet.{Sheet}
 use Rattle.sheet.specs.Checks.{sheetChecks, WellFormed, Judged}
 use Rattle.sheet.specs.Document.{indexAt}
 use Rattle.sheet.proofs.Judging.{past-sheet}
+use Rattle.spans.specs.Spans.{inSpan}
 use Rattle.selection.specs.declared.Selection.{Selection}
 use Rattle.selection.specs.declared.Area.{Area}
 use Rattle.selection.specs.declared.Held.the-variants as held
-use Rattle.selection.specs.Selection.{inSpan, contains, containsI, positions}
+use Rattle.selection.specs.Selection.{contains, containsI, positions}
 use Rattle.selection.specs.Calls.{farAway, containsIOf}
 use Rattle.selection.specs.Region.{regionChecks, regionIn}
 use Rattle.selection.proofs.Regions.{Within, below-span}

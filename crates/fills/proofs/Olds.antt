@@ -11,8 +11,9 @@ use Rattle.sheet.specs.Sheet.{Sheet}
 use Rattle.sheet.specs.declared.Got.{Got}
 use Rattle.sheet.specs.declared.Got.the-variants as got
 use Rattle.sheet.specs.Document.{indexAt}
+use Rattle.spans.specs.Positions.{Position}
 use Rattle.selection.specs.declared.Selection.{Selection}
-use Rattle.selection.specs.Selection.{Position, positions, containsI}
+use Rattle.selection.specs.Selection.{positions, containsI}
 use Rattle.edits.specs.Change.{Change, place}
 use Rattle.changes.specs.Order.{All}
 use Rattle.changes.specs.Laws.{SheetOlds}

@@ -13,8 +13,7 @@ use Rattle.lists.specs.Lists.{range, over}
 use Rattle.lists.proofs.Over.{over-none, over-lent, length-over}
 use Rattle.lists.proofs.Collect.{range-next, range-append, flatMap-append, flatMap-one}
 use Rattle.ints.specs.Ints.{eqZ}
-use Rattle.selection.specs.Selection.{Position, position, row}
-use Rattle.selection.proofs.Rows.{rows}
+use Rattle.spans.specs.Positions.{Position, position, row, rows}
 use Rattle.edits.specs.Change.{packed}
 use Rattle.pixels.specs.Listing.{placesFrom}
 use Rattle.pixels.proofs.Places.{places-few}

@@ -16,9 +16,10 @@ use Rattle.sheet.specs.declared.Got.the-variants as got
 use Rattle.sheet.specs.Sheet.{Sheet}
 use Rattle.sheet.specs.Checks.{sheetChecks}
 use Rattle.sheet.specs.Document.{indexAt}
+use Rattle.spans.specs.Positions.{Position}
 use Rattle.selection.specs.declared.Selection.{Selection}
 use Rattle.selection.specs.declared.Area.{Area}
-use Rattle.selection.specs.Selection.{Position, positions, containsI}
+use Rattle.selection.specs.Selection.{positions, containsI}
 use Rattle.selection.specs.Region.{regionChecks, regionIn}
 use Rattle.edits.specs.Change.{Change, packed}
 

@@ -23,10 +23,11 @@ use Rattle.ints.specs.Ints.{eqZ}
 use Rattle.sheet.specs.Sheet.{Sheet}
 use Rattle.sheet.specs.Checks.{sheetChecks, WellFormed, Judged}
 use Rattle.sheet.proofs.Judging.{none-applied, past-sheet}
+use Rattle.spans.specs.Spans.{between, first, last}
 use Rattle.selection.specs.declared.Selection.{Selection}
 use Rattle.selection.specs.declared.Chosen.{Chosen}
 use Rattle.selection.specs.declared.Chosen.the-variants as chosen
-use Rattle.selection.specs.Selection.{inside, rectangle, between, fromCorners, first, last, translated}
+use Rattle.selection.specs.Selection.{inside, rectangle, fromCorners, translated}
 use Rattle.selection.specs.Calls.{tooLarge, farAway, shiftChecks, translatedOf}
 use Rattle.selection.proofs.Checks.{near}
 use Rattle.selection.proofs.Regions.{part-other}

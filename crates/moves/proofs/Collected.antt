@@ -6,8 +6,9 @@ use native.Mathlib.Omega.{arith}
 use native.Mathlib.Decide.{decLt}
 use Rattle.lists.specs.Lists.{range}
 use Rattle.lists.proofs.Collect.{range-append, flatMap-append}
+use Rattle.spans.specs.Positions.{Position, position, row}
 use Rattle.selection.specs.declared.Selection.{Selection}
-use Rattle.selection.specs.Selection.{Position, position, row, positions}
+use Rattle.selection.specs.Selection.{positions}
 use Rattle.changes.specs.Order.{All}
 use Rattle.changes.proofs.Order.{all-append}
 

@@ -6,9 +6,11 @@ use lib.IntN.{ℤ, pos, negsuc}
 use Rattle.lists.specs.Lists.{range}
 use Rattle.ints.specs.Ints.{eqZ, fromZero, minZ, maxZ}
 use Rattle.sheet.specs.Document.{indexAt}
+use Rattle.spans.specs.Spans.{first, last, between, movedFirst, movedLast}
+use Rattle.spans.specs.Positions.{row}
 use Rattle.selection.specs.declared.Selection.{Selection}
 use Rattle.selection.specs.declared.Chosen.the-variants.{Part, Nothing}
-use Rattle.selection.specs.Selection.{rectangle, first, last, between, fromCorners, movedFirst, movedLast, translated, row, positions, all}
+use Rattle.selection.specs.Selection.{rectangle, fromCorners, translated, positions, all}
 use Rattle.edits.specs.Change.{place, painted, newOf}
 use Rattle.changes.specs.Normal.{keyOf, joined, enter, entered, kept, changing, normalizeOf}
 use Rattle.moves.specs.Moves.{ontoGot, onto, landed, cleared, moveChanges, unmoved, movedList, movedSelection, pasteChanges, pastedSelection}

@@ -13,8 +13,9 @@ use Rattle.ints.specs.Ints.{fromZero}
 use Rattle.lists.specs.Lists.{range}
 use Rattle.sheet.specs.Document.{indexAt}
 use Rattle.sheet.specs.declared.Got.the-variants as got
+use Rattle.spans.specs.Positions.{Position, position}
 use Rattle.selection.specs.declared.Selection.{Selection}
-use Rattle.selection.specs.Selection.{Position, position, positions, all}
+use Rattle.selection.specs.Selection.{positions, all}
 use Rattle.edits.specs.Change.{Change, place, painted, newOf, packed}
 use Rattle.changes.specs.Normal.{normalizeOf, Front}
 use Rattle.changes.specs.Order.{All}

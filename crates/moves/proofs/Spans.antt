@@ -9,9 +9,11 @@ use lib.Dec.{ltb, eqb}
 use lib.IntN.{ℤ, pos, negsuc, predℤ, _+ℤ_, _-ℤ_, +ℤ-sucℤ, +ℤ-idl, +ℤ-comm, -ℤ-one, pred-suc}
 use lib.Signed.{ltZ}
 use Rattle.ints.specs.Ints.{far, minZ, maxZ, fromZero, upTo}
+use Rattle.spans.specs.Spans.{between}
+use Rattle.spans.proofs.Spans.{half-open}
 use Rattle.selection.specs.declared.Chosen.{Chosen}
-use Rattle.selection.specs.Selection.{rectangle, between, fromCorners}
-use Rattle.selection.proofs.Spans as spans
+use Rattle.selection.specs.Selection.{rectangle, fromCorners}
+use Rattle.selection.proofs.Spans.{clipped}
 use Rattle.moves.specs.declared.Landing.{Landing}
 use Rattle.moves.specs.Blocks.{landing, placedOf}
 use Rattle.moves.specs.Moves.{pastedSelection}
@@ -91,7 +93,7 @@ module _ (count : ℕ) (d : ℤ) (side : ℕ) (near : far d ≡ false) where
 
     pub start-is : between d (d +ℤ pos count -ℤ pos 1) side .start ≡ landing 0 count (offsetOf d) side .to
     unfolding landing
-    start-is = rw (spans.half-open d (d +ℤ pos count -ℤ pos 1) side, low) (omega arith)
+    start-is = rw (half-open d (d +ℤ pos count -ℤ pos 1) side, low) (omega arith)
 
     pub count-is : between d (d +ℤ pos count -ℤ pos 1) side .count ≡ landing 0 count (offsetOf d) side .count
     unfolding landing c
@@ -99,7 +101,7 @@ module _ (count : ℕ) (d : ℤ) (side : ℕ) (near : far d ≡ false) where
         let o : ℕ = offsetOf d in
         let past : suc (count - 1 + o) ≡ 0 + o + count = omega arith in
         let from : o ≡ 0 + o = omega arith in
-        rw (spans.half-open d (d +ℤ pos count -ℤ pos 1) side, low, high)
+        rw (half-open d (d +ℤ pos count -ℤ pos 1) side, low, high)
         (ap (λ (k : ℕ). min (k - 65536) side - (o - 65536)) past ∙ ap (λ (k : ℕ). min (0 + o + count - 65536) side - (k - 65536)) from)
 
   pub span-none : count ≡ 0 → landing 0 count (offsetOf d) side .count ≡ 0
@@ -112,7 +114,7 @@ module _ (cw ch : ℕ) (x y : ℤ) (w h : ℕ) (p : far x ≡ false) (q : far y 
   unfolding placedOf rectangle
   corners i j =
       rw (← start-is cw x w p i, ← count-is cw x w p i, ← start-is ch y h q j, ← count-is ch y h q j)
-      (spans.clipped x y (x +ℤ pos cw -ℤ pos 1) (y +ℤ pos ch -ℤ pos 1) w h {x = between x (x +ℤ pos cw -ℤ pos 1) w} {y = between y (y +ℤ pos ch -ℤ pos 1) h} refl refl)
+      (clipped x y (x +ℤ pos cw -ℤ pos 1) (y +ℤ pos ch -ℤ pos 1) w h {x = between x (x +ℤ pos cw -ℤ pos 1) w} {y = between y (y +ℤ pos ch -ℤ pos 1) h} refl refl)
 
   pub placed-is : {c : Chosen} → c ≡ placedOf a b → c ≡ pastedSelection cw ch x y w h
   unfolding placedOf pastedSelection

@@ -16,10 +16,11 @@ use Rattle.sheet.specs.Checks.{sheetChecks}
 use Rattle.sheet.specs.Document.{indexAt}
 use Rattle.sheet.specs.declared.Got.{Got}
 use Rattle.sheet.specs.declared.Got.the-variants as got
+use Rattle.spans.specs.Positions.{Position}
 use Rattle.selection.specs.declared.Selection.{Selection}
 use Rattle.selection.specs.declared.Chosen.{Chosen}
 use Rattle.selection.specs.declared.Chosen.the-variants as chosen
-use Rattle.selection.specs.Selection.{Position, positions, all, fromCorners, translated}
+use Rattle.selection.specs.Selection.{positions, all, fromCorners, translated}
 use Rattle.selection.specs.Calls.{shiftChecks}
 use Rattle.edits.specs.Change.{Change}
 use Rattle.changes.specs.Normal.{normalizeOf}

@@ -7,9 +7,11 @@ use Rattle.limits.specs.Checks.{firstOf, refusedOr}
 use Rattle.limits.specs.declared.Counted.the-variants as counted
 use Rattle.lists.specs.Lists.{range, over}
 use Rattle.ints.specs.Ints.{far, fromZero, minZ, maxZ}
+use Rattle.spans.specs.Spans.{first, last, between, movedFirst, movedLast, widened}
+use Rattle.spans.specs.Positions.{row, flat}
 use Rattle.selection.specs.declared.Selection.{Selection}
 use Rattle.selection.specs.declared.Chosen.the-variants.{Part, Nothing, Refused}
-use Rattle.selection.specs.Selection.{inside, rectangle, first, last, between, fromCorners, movedFirst, movedLast, translated, widened, grown, row, positions, flat}
+use Rattle.selection.specs.Selection.{inside, rectangle, fromCorners, translated, grown, positions}
 use Rattle.selection.specs.Calls.{tooLarge, farAway, cornerChecks, fromCornersOf, shiftChecks, translatedOf, marginChecks, grownOf, positionsOf}
 use Rattle.limits.specs.Answer.{filled}
 

@@ -1,6 +1,5 @@
 pub mod Checks
 pub mod Spans
-pub mod Moved
 pub mod Pointer
 pub mod Rows
 mod Examples

@@ -8,11 +8,12 @@ use borrow.Author.Tests.{ltb-true, le-ltb, leb-true}
 use lib.Dec.{leb, ltb}
 use Rattle.limits.specs.Checks.{firstOf, refusedOr}
 use Rattle.lists.proofs.Bools.{and-left, and-right}
+use Rattle.spans.specs.Spans.{inSpan}
 use Rattle.selection.specs.declared.Selection.{Selection}
 use Rattle.selection.specs.declared.Area.{Area}
 use Rattle.selection.specs.declared.Area.the-variants as area
 use Rattle.selection.specs.declared.Chosen.the-variants as chosen
-use Rattle.selection.specs.Selection.{all, inside, inSpan}
+use Rattle.selection.specs.Selection.{all, inside}
 use Rattle.selection.specs.Calls.{tooLarge, allOf, regionOf}
 use Rattle.selection.specs.Region.{regionChecks, regionIn, Fits}
 

@@ -1,36 +1,16 @@
--- The code's spans, from a start to an end that is not part of them and without a sign, are the Rust's, with both ends and a sign. Assumes nothing.
-use mathlib.Core.Path.{_≡_, sym}
+-- The spans that the code makes fit 16 bits, and two of them clipped are the Rust's rectangle. Assumes nothing.
+use mathlib.Core.Path.{_≡_}
 use mathlib.Core.Bool.{cond, _||_}
-use Prim.Native.Nat.{ℕ, _-_, _^_, _<_, _≤_, min}
+use Prim.Native.Nat.{ℕ, _^_, _<_, _≤_}
 use native.Mathlib.Omega.{arith}
 use lib.Dec.{eqb}
-use lib.IntN.{ℤ, pos}
-use lib.Signed.{ltZ}
-use Rattle.ints.specs.Ints.{minZ, maxZ, fromZero, upTo}
-use Rattle.ints.proofs.Sums.{count-from}
-use Rattle.ints.proofs.Clip.{max-zero, up-to-within, none-from}
-use Rattle.selection.specs.declared.Span.{Span}
+use lib.IntN.{ℤ}
+use Rattle.spans.specs.declared.Span.{Span}
+use Rattle.spans.specs.Spans.{between, widened}
+use Rattle.spans.proofs.Spans.{none-is, half-open}
 use Rattle.selection.specs.declared.Chosen.the-variants.{Part, Nothing}
 use Rattle.selection.specs.Asked.{Narrow}
-use Rattle.selection.specs.Selection.{rectangle, first, last, between, fromCorners, widened}
-
--- x0 is the lesser corner from 0 on
-first-is : (a b : ℤ) → first a b ≡ pos (fromZero (minZ a b))
-unfolding first
-first-is a b = max-zero (minZ a b)
-
--- x1 - x0 + 1 is what the code counts
-count-is : (a b : ℤ) (side : ℕ) → upTo (last a b side) - fromZero (minZ a b) ≡ between a b side .count
-unfolding between
-count-is a b side = rw (first-is a b) (sym (count-from (last a b side) (fromZero (minZ a b))))
-
--- x0 > x1 where nothing is counted
-none-is : (a b : ℤ) (side : ℕ) → eqb (between a b side .count) 0 ≡ ltZ (last a b side) (first a b)
-none-is a b side = rw (← count-is a b side, first-is a b) (sym (none-from (last a b side) (fromZero (minZ a b))))
-
-pub half-open : (a b : ℤ) (side : ℕ) → between a b side ≡ record { start = fromZero (minZ a b); count = min (upTo (maxZ a b)) side - fromZero (minZ a b) }
-unfolding between last fromZero
-half-open a b side = rw (first-is a b, count-from, up-to-within)
+use Rattle.selection.specs.Selection.{rectangle, fromCorners}
 
 pub narrow : (a b : ℤ) (side : ℕ) {s : Span} → side ≤ 1024 → s ≡ between a b side → 0 < s .count → Narrow s
 narrow a b side h e = rw (e, half-open a b side) (λ k. record { start = omega arith; count = omega arith })

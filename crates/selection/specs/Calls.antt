@@ -12,6 +12,7 @@ use Rattle.limits.specs.Answer.{Filled, filled}
 use Rattle.limits.specs.declared.Counted.the-variants as counted
 use Rattle.lists.specs.Lists.{over}
 use Rattle.ints.specs.Ints.{far}
+use Rattle.spans.specs.Positions.{flat}
 use Rattle.selection.specs.declared.Selection.{Selection}
 use Rattle.selection.specs.declared.Area.{Area}
 use Rattle.selection.specs.declared.Area.the-variants as area
@@ -19,7 +20,7 @@ use Rattle.selection.specs.declared.Chosen.{Chosen}
 use Rattle.selection.specs.declared.Chosen.the-variants as chosen
 use Rattle.selection.specs.declared.Held.{Held}
 use Rattle.selection.specs.declared.Held.the-variants as held
-use Rattle.selection.specs.Selection.{all, fromCorners, containsI, translated, grown, positions, flat, inside}
+use Rattle.selection.specs.Selection.{all, fromCorners, containsI, translated, grown, positions, inside}
 
 -- ---- document 01's number for each answer, 0 where it is none
 abbrev pub chosenNumber : Chosen → ℕ

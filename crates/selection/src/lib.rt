@@ -1,14 +1,9 @@
 // The rectangular selection, in pixel coordinates: selection.rs. A selection is four 16-bit numbers that
 // may lie anywhere; a call that is given an image's size asks that it lies inside.
 //
-// Each axis is worked out by itself, as a span of places, and two spans make a rectangle.
+// Each axis is worked out by itself, as a span of places (crate spans), and two spans make a rectangle.
 use ints::from_zero;
 use ints::is_far;
-use ints::max_i32;
-use ints::min_i32;
-use ints::min_usize;
-use ints::saturating_sub;
-use ints::up_to;
 use limits::BAD_SHEET;
 use limits::Counted;
 use limits::MAX_DISTANCE;
@@ -16,17 +11,20 @@ use limits::MAX_SIDE;
 use limits::NO_SPACE;
 use limits::OFF_THE_SHEET;
 use limits::TOO_FAR;
+use spans::Span;
+use spans::between;
+use spans::in_span;
+use spans::shifted;
+use spans::widened;
+use spans::write_rows;
 ghost use mathlib.Core.Path.{_≡_};
-ghost use mathlib.Core.Bool.{false, cond, _||_};
-ghost use Prim.Native.Nat.{_*_, _<_, _≤_};
+ghost use mathlib.Core.Bool.{cond, _||_};
+ghost use Prim.Native.Nat.{_<_};
 ghost use lib.Dec.{eqb};
-ghost use lib.ListN.{length};
-ghost use Rattle.lists.specs.Lists.{over};
-ghost use Rattle.ints.specs.Ints.{far};
-ghost use Rattle.selection.specs.Selection.{inside, rectangle, between, inSpan, contains, moved, widened, row, positions, flat};
+ghost use Rattle.selection.specs.Selection.{inside, rectangle, contains};
 ghost use Rattle.selection.specs.Calls.{tooLarge, farAway, allOf, fromCornersOf, containsIOf, translatedOf, grownOf, positionsOf, regionOf};
 ghost use Rattle.limits.specs.Answer.{filled};
-ghost use Rattle.selection.specs.Asked.{Narrow, RowFits};
+ghost use Rattle.selection.specs.Asked.{Narrow};
 
 // The same limit of a margin, which has no sign.
 const MAX_MARGIN: usize = MAX_DISTANCE as usize;
@@ -57,12 +55,6 @@ pub enum Held {
     Inside,
     Outside,
     Refused(u8),
-}
-
-// The places that a rectangle takes of one axis: count of them from start on.
-struct Span {
-    start: usize,
-    count: usize,
 }
 
 impl Selection {
@@ -174,7 +166,7 @@ impl Selection {
         if out.len() / 2 < count {
             return Counted::Refused(NO_SPACE);
         }
-        write_rows(self, out);
+        write_rows(self.x, self.y, self.w, self.h, out);
         Counted::Count(count)
     }
 
@@ -220,50 +212,6 @@ fn far_away(x: i32, y: i32) -> bool
     is_far(x) || is_far(y)
 }
 
-// Whether a place is one of count from start on.
-fn in_span(start: u16, count: u16, at: usize) -> bool
-    ensures { λ r. ⌜ r ≡ inSpan start count at ⌝ }
-{
-    let from = start as usize;
-    let end = from + count as usize;
-    from <= at && at < end
-}
-
-// The places from a to b (both included, in any order) that an image's side has.
-fn between(a: i32, b: i32, side: usize) -> Span
-    ensures { λ r. ⌜ r ≡ between a b side ⌝ }
-{
-    let start = from_zero(min_i32(a, b));
-    let end = min_usize(up_to(max_i32(a, b)), side);
-    Span {
-        start: start,
-        count: saturating_sub(end, start),
-    }
-}
-
-// The places of a span moved by d that an image's side has.
-fn shifted(start: u16, count: u16, d: i32, side: usize) -> Span
-    requires { ⌜ far d ≡ false ⌝ }
-    ensures { λ r. ⌜ r ≡ moved start count d side ⌝ }
-{
-    let a = start as i32 + d;
-    let b = a + count as i32 - 1;
-    between(a, b, side)
-}
-
-// The places of a span grown by margin on both ends that an image's side has.
-fn widened(start: u16, count: u16, margin: usize, side: usize) -> Span
-    requires { ⌜ margin ≤ 65536 ⌝ }
-    ensures { λ r. ⌜ r ≡ widened start count margin side ⌝ }
-{
-    let from = saturating_sub(start as usize, margin);
-    let end = min_usize(start as usize + count as usize + margin, side);
-    Span {
-        start: from,
-        count: saturating_sub(end, from),
-    }
-}
-
 // The rectangle that takes these places of its two axes.
 fn rectangle(x: Span, y: Span) -> Selection
     requires { ⌜ Narrow x × Narrow y ⌝ }
@@ -289,31 +237,4 @@ fn clip(x: Span, y: Span) -> Chosen
         return Chosen::Nothing;
     }
     Chosen::Part(rectangle(x, y))
-}
-
-// Writes the positions of a selection to the front of out, which has room for them.
-fn write_rows(s: Selection, out: &mut [i32])
-    requires { ⌜ 2 * (s .w * s .h) ≤ length (now out) ⌝ }
-    ensures { λ _. ⌜ now (out .exit) ≡ over (flat (positions s)) (now (out .entry)) ⌝ }
-{
-    let x = s.x as usize;
-    let y = s.y as usize;
-    let w = s.w as usize;
-    let h = s.h as usize;
-    for j in 0..h {
-        let at = 2 * (j * w);
-        write_row(x, w, y + j, &mut out[at..]);
-    }
-}
-
-// Writes the positions x .. x + w of row y to the front of out.
-fn write_row(x: usize, w: usize, y: usize, out: &mut [i32])
-    requires { ⌜ RowFits x w y (now out) ⌝ }
-    ensures { λ _. ⌜ now (out .exit) ≡ over (flat (row x w y)) (now (out .entry)) ⌝ }
-{
-    for i in 0..w {
-        let at = 2 * i;
-        out[at] = (x + i) as i32;
-        out[at + 1] = y as i32;
-    }
 }

@@ -4,8 +4,8 @@ use Prim.Native.Nat.{_+_, _*_, _≤_, _-_}
 use native.Mathlib.Omega.{arith}
 use borrow.Author.Needs.{needs}
 use lib.ListN.{length, length-take, length-drop}
+use Rattle.spans.proofs.Rows.{room}
 use Rattle.selection.specs.Selection.{positions}
-use Rattle.selection.proofs.Rows.{room}
 use Rattle.selection.proofs.Regions.{row-inside}
 use Rattle.clips.specs.Clips.{indexOf}
 use Rattle.clips.proofs.Rows.{Rows, rows-none, rows-next}

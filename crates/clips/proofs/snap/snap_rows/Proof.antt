@@ -5,8 +5,8 @@ use native.Mathlib.Nat.{mul-comm}
 use native.Mathlib.Omega.{arith}
 use borrow.Author.Needs.{needs}
 use lib.ListN.{length, length-take, length-drop}
+use Rattle.spans.proofs.Rows.{room}
 use Rattle.selection.specs.Selection.{all, positions}
-use Rattle.selection.proofs.Rows.{room}
 use Rattle.clips.specs.Snap.{snapAt}
 use Rattle.clips.specs.Cache.{allOk}
 use Rattle.clips.proofs.Rows.{Rows, rows-none, rows-next}

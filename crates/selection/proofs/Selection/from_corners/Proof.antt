@@ -4,7 +4,7 @@ use mathlib.Core.Bool.{false}
 use borrow.Author.Needs.{needs}
 use Rattle.limits.specs.Checks.{firstOf, refusedOr}
 use Rattle.ints.proofs.Back.{by-values}
-use Rattle.selection.specs.Selection.{between}
+use Rattle.spans.specs.Spans.{between}
 use Rattle.selection.specs.Calls.{tooLarge, farAway, cornerChecks, fromCornersOf}
 use Rattle.selection.proofs.Checks.{sides}
 use Rattle.selection.proofs.Spans.{narrow, clipped}

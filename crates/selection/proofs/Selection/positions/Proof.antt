@@ -5,6 +5,7 @@ use native.Mathlib.Omega.{arith}
 use borrow.Author.Needs.{needs}
 use borrow.Author.Tests.{lt-ltb, le-ltb}
 use Rattle.limits.specs.Checks.{firstOf, refusedOr}
+use Rattle.selection.specs.Selection.{positions}
 use Rattle.selection.specs.Calls.{positionsOf}
 use Rattle.selection.proofs.Rows.{length-positions}
 use Rattle.selection.proofs.Selection.positions.Statement.{statement}
@@ -36,7 +37,7 @@ same-length : tie.Need-same-length
 same-length c = search needs
 
 returns-2 : tie.Need-returns-2
-unfolding positionsOf firstOf refusedOr
+unfolding positionsOf positions firstOf refusedOr
 returns-2 c = rw (length-positions (c .before .before .before .before .before .before .args .self), le-ltb _ _ (c .before .before .before .if1 .left), c .before .write-rows .ensures)
 
 pub positions-spec : {M : Type 1} → statement M

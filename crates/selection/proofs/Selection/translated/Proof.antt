@@ -5,7 +5,8 @@ use borrow.Author.Needs.{needs}
 use mir.Facts.{toZ-ofZ}
 use Rattle.limits.specs.Checks.{firstOf, refusedOr}
 use Rattle.ints.proofs.Back.{by-value, by-values}
-use Rattle.selection.specs.Selection.{moved, translated}
+use Rattle.spans.specs.Spans.{moved}
+use Rattle.selection.specs.Selection.{translated}
 use Rattle.selection.specs.Calls.{tooLarge, farAway, shiftChecks, translatedOf}
 use Rattle.selection.proofs.Checks.{sides, near}
 use Rattle.selection.proofs.Spans.{narrow, clipped}

@@ -1,8 +1,8 @@
 -- `widened`: the ends are the definition's. Assumes nothing.
 use borrow.Author.Needs.{needs}
-use Rattle.selection.specs.Selection.{widened}
-use Rattle.selection.proofs.widened.Statement.{statement}
-use Rattle.selection.proofs.widened.Tie as tie
+use Rattle.spans.specs.Spans.{widened}
+use Rattle.spans.proofs.widened.Statement.{statement}
+use Rattle.spans.proofs.widened.Tie as tie
 
 saturating-sub-requires : tie.Need-saturating-sub-requires
 saturating-sub-requires c κs = search needs

@@ -1,9 +1,9 @@
 -- `in_span`: its two tests are the definition's. Assumes nothing.
 use borrow.Author.Needs.{needs}
 use borrow.Author.Tests.{le-leb, lt-leb}
-use Rattle.selection.specs.Selection.{inSpan}
-use Rattle.selection.proofs.in_span.Statement.{statement}
-use Rattle.selection.proofs.in_span.Tie as tie
+use Rattle.spans.specs.Spans.{inSpan}
+use Rattle.spans.proofs.in_span.Statement.{statement}
+use Rattle.spans.proofs.in_span.Tie as tie
 
 add-end : tie.Need-add-end
 add-end c = search needs

@@ -7,35 +7,23 @@ use borrow.Author.Needs.{needs}
 use lib.ListN.{length, length-take, length-drop}
 use Rattle.lists.specs.Lists.{range, over}
 use Rattle.lists.proofs.Over.{over-none}
-use Rattle.selection.specs.Selection.{flat, positions}
-use Rattle.selection.proofs.Rows.{rows, rows-step, room}
-use Rattle.selection.proofs.write_rows.Statement.{statement}
-use Rattle.selection.proofs.write_rows.Tie as tie
+use Rattle.spans.specs.Positions.{flat, rows}
+use Rattle.spans.proofs.Rows.{rows-step, room}
+use Rattle.spans.proofs.write_rows.Statement.{statement}
+use Rattle.spans.proofs.write_rows.Tie as tie
 
 abbrev Inv-loop : tie.InvT-loop
-Inv-loop out₀ x y w h j₀ out j = (j ≤ h) × (length out ≡ length out₀) × (out ≡ over (flat (rows x w y j)) out₀)
+Inv-loop x y w h out₀ x₁ y₁ w₁ h₁ j₀ out j = (j ≤ h) × (length out ≡ length out₀) × (out ≡ over (flat (rows x w y j)) out₀)
 
 abbrev μ-loop : tie.MeasureT-loop
-μ-loop out₀ x y w h j₀ out j = h - j
-
-cast-x : tie.Need-cast-x Inv-loop μ-loop
-cast-x c = search needs
-
-cast-y : tie.Need-cast-y Inv-loop μ-loop
-cast-y c = search needs
-
-cast-w : tie.Need-cast-w Inv-loop μ-loop
-cast-w c = search needs
-
-cast-h : tie.Need-cast-h Inv-loop μ-loop
-cast-h c = search needs
+μ-loop x y w h out₀ x₁ y₁ w₁ h₁ j₀ out j = h - j
 
 loop-holds : tie.Need-loop-holds Inv-loop μ-loop
 unfolding flat range flatMap
 loop-holds c = (search needs, search needs, over-none _)
 
-here : (c : tie.In-loop Inv-loop μ-loop) → let w = c .before .before .before .before .before .before .args .s .w in 2 * (c .before .loop .j * w) + 2 * w ≤ length (c .before .loop .out)
-here c = omega (arith, room (c .before .before .before .before .before .before .args .s .w) (c .loop-test .taken))
+here : (c : tie.In-loop Inv-loop μ-loop) → let w = c .before .before .args .w in 2 * (c .before .loop .j * w) + 2 * w ≤ length (c .before .loop .out)
+here c = omega (arith, room (c .before .before .args .w) (c .loop-test .taken))
 
 mul-at : tie.Need-mul-at Inv-loop μ-loop
 mul-at c = omega (arith, here c)
@@ -74,8 +62,7 @@ same-length : tie.Need-same-length Inv-loop μ-loop
 same-length c = search needs
 
 returns : tie.Need-returns Inv-loop μ-loop
-unfolding positions
-returns c = let all : c .before .loop .j ≡ c .before .before .before .before .before .before .args .s .h = omega arith in rw all at (c .before .loop .inv .2)
+returns c = let all : c .before .loop .j ≡ c .before .before .args .h = omega arith in rw all at (c .before .loop .inv .2)
 
 pub write-rows-spec : {M : Type 1} → statement M
 write-rows-spec =
@@ -83,10 +70,6 @@ write-rows-spec =
     (tie.spec
     Inv-loop
     μ-loop
-    cast-x
-    cast-y
-    cast-w
-    cast-h
     loop-holds
     mul-at
     mul-at-2

@@ -2,10 +2,10 @@
 use native.Mathlib.Omega.{arith}
 use borrow.Author.Needs.{needs}
 use mir.Facts.{toZ-ofZ}
-use Rattle.selection.specs.Selection.{movedFirst, movedLast}
-use Rattle.selection.proofs.Moved.{Corners, corners}
-use Rattle.selection.proofs.shifted.Statement.{statement}
-use Rattle.selection.proofs.shifted.Tie as tie
+use Rattle.spans.specs.Spans.{movedFirst, movedLast}
+use Rattle.spans.proofs.Moved.{Corners, corners}
+use Rattle.spans.proofs.shifted.Statement.{statement}
+use Rattle.spans.proofs.shifted.Tie as tie
 
 cast-a : tie.Need-cast-a
 cast-a c = search needs

@@ -9,10 +9,10 @@ use mir.Syntax.{w32}
 use mir.Facts.{toZ-pos}
 use Rattle.lists.specs.Lists.{range, over}
 use Rattle.lists.proofs.Over.{over-none}
-use Rattle.selection.specs.Selection.{row, flat}
-use Rattle.selection.proofs.Rows.{row-step}
-use Rattle.selection.proofs.write_row.Statement.{statement}
-use Rattle.selection.proofs.write_row.Tie as tie
+use Rattle.spans.specs.Positions.{row, flat}
+use Rattle.spans.proofs.Rows.{row-step}
+use Rattle.spans.proofs.write_row.Statement.{statement}
+use Rattle.spans.proofs.write_row.Tie as tie
 
 abbrev Inv-loop : tie.InvT-loop
 Inv-loop x w y out₀ i₀ out i = (i ≤ w) × (length out ≡ length out₀) × (out ≡ over (flat (row x i y)) out₀)

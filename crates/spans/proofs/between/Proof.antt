@@ -4,9 +4,9 @@ use borrow.Author.Needs.{needs}
 use mir.Syntax.{w32}
 use Rattle.ints.specs.Ints.{minZ, maxZ, fromZero, upTo}
 use Rattle.ints.proofs.Back.{by-values, by-result}
-use Rattle.selection.proofs.Spans.{half-open}
-use Rattle.selection.proofs.between.Statement.{statement}
-use Rattle.selection.proofs.between.Tie as tie
+use Rattle.spans.proofs.Spans.{half-open}
+use Rattle.spans.proofs.between.Statement.{statement}
+use Rattle.spans.proofs.between.Tie as tie
 
 min-i32-requires : tie.Need-min-i32-requires
 min-i32-requires c κs = search needs

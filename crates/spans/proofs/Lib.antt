@@ -1,0 +1,3 @@
+pub mod Spans
+mod Moved
+pub mod Rows
