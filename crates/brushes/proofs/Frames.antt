@@ -17,7 +17,7 @@ use Rattle.ints.proofs.Sums.{suc-up-to}
 use Rattle.lines.specs.Line.{Point}
 use Rattle.lines.proofs.Toward.{from-less}
 use Rattle.selection.specs.declared.Selection.{Selection}
-use Rattle.changes.specs.Normal.{kept}
+use Rattle.normal.specs.Normal.{kept}
 use Rattle.brushes.specs.declared.Run.{Run}
 use Rattle.brushes.specs.Points.{through, rowOf, rectanglePoints}
 use Rattle.brushes.specs.Places.{placesOf, clipped, columnsOf, rowPlaces, partPlaces, framePlaces}

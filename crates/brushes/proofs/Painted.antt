@@ -15,7 +15,7 @@ use Rattle.lines.specs.Line.{Point}
 use Rattle.edits.specs.Change.{place, painted, newOf}
 use Rattle.changes.specs.Between.{laidOut}
 use Rattle.changes.proofs.Copying.{laid-set}
-use Rattle.changes.proofs.Pictures.{painted-append}
+use Rattle.normal.proofs.Pictures.{painted-append}
 use Rattle.brushes.specs.Points.{changeAt, changesAt}
 use Rattle.brushes.specs.Places.{setAll, placeAt, placesOf}
 

@@ -11,7 +11,7 @@ use Rattle.selection.specs.Selection.{containsI}
 use Rattle.lines.specs.Line.{Point, point}
 use Rattle.lines.specs.Brush.{stamped}
 use Rattle.edits.specs.Change.{Change}
-use Rattle.changes.specs.Normal.{kept, normalizeOf}
+use Rattle.normal.specs.Normal.{kept, normalizeOf}
 
 -- ---- `change`: "A change setting `(x, y)` to `index`, if the position is in the image and the region"; old is `doc.get(x, y)`
 unfoldable pub changeAt : ℕ → List ℤ → Selection → ℤ → Point → List Change

@@ -15,9 +15,9 @@ use Rattle.ints.proofs.Back.{by-value}
 use lib.Seq.{take-suc, take-all, take-at, length-take-le, take-set-lt, take-set-le, set-out}
 use Rattle.lists.specs.Lists.{over}
 use Rattle.lists.proofs.Mapped.{map-set}
-use Rattle.changes.specs.Order.{All}
+use Rattle.sorting.specs.Order.{All}
+use Rattle.sorting.proofs.Order.{all-at}
 use Rattle.changes.specs.Between.{laidOut}
-use Rattle.changes.proofs.Order.{all-at}
 use Rattle.lists.proofs.Over.{over-none, over-set, length-over}
 
 -- bits that were an index are that index

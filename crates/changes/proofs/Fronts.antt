@@ -1,12 +1,13 @@
--- The first numbers of a buffer that are a list: how many they are, and a buffer of which a part was lent. Assumes nothing.
-use Prim.Native.Nat.{ℕ, _≤_}
-use mathlib.Core.Path.{_≡_, sym, ap, _∙_}
-use mathlib.Core.List.{List, _++_}
+-- The first numbers of a buffer that are a list: how many they are, a buffer of which a part was lent, and one number more. Assumes nothing.
+use Prim.Native.Nat.{ℕ, _+_, _≤_, _<_}
+use mathlib.Core.Path.{_≡_, refl, sym, ap, _∙_}
+use mathlib.Core.List.{List, [], _∷_, _++_, append-nil}
 use native.Mathlib.Omega.{arith}
 use native.Mathlib.Decide.{decLe}
-use lib.ListN.{length, take}
-use lib.Seq.{length-take-le, take-append-le, take-all}
-use Rattle.changes.specs.Normal.{Front}
+use native.Mathlib.Numerals.{add-one}
+use lib.ListN.{length, take, set}
+use lib.Seq.{length-take-le, take-append-le, take-all, take-suc-set, drop-set-lt}
+use Rattle.changes.specs.Fronts.{Front, Put}
 
 pub front-of : {l s : List ℕ} {r : ℕ} → take r s ≡ l → r ≤ length s → Front l s r
 front-of {l} {s} {r} e h = record { front = e; count = ap length (sym e) ∙ length-take-le r s h }
@@ -22,3 +23,15 @@ module _ {l s : List ℕ} {r : ℕ} (f : Front l s r) where
   -- `&mut s[..n]`, lent to a callee that left them there
   pub front-lent : (t : List ℕ) → Front l (s ++ t) r
   front-lent t = record { front = take-append-le r s t front-within ∙ f .front; count = f .count }
+
+-- one number put, or none
+pub put-one : (l : List ℕ) (m c : ℕ) → m < length l → Put l m (c ∷ []) (m + 1) (set l m c) (m + 1)
+put-one l m c h =
+    record {
+      front = rw add-one (take-suc-set l m c h);
+      most = omega arith;
+      behind = drop-set-lt (m + 1) l m c (omega arith);
+    }
+
+pub put-none : (l : List ℕ) (m : ℕ) → Put l m [] (m + 1) l m
+put-none l m = record { front = sym (append-nil (take m l)); most = omega arith; behind = refl }

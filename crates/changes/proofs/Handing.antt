@@ -12,7 +12,7 @@ use Rattle.limits.specs.declared.Counted.the-variants.{Count, Refused}
 use Rattle.limits.proofs.First.{refused-first, result-first}
 use Rattle.lists.specs.Lists.{over}
 use Rattle.edits.specs.Change.{Change, packed}
-use Rattle.changes.specs.Normal.{Front}
+use Rattle.changes.specs.Fronts.{Front}
 use Rattle.changes.specs.Listed.{handed, listed}
 
 module _ (s out : List ℕ) (n : ℕ) (h : n ≤ length s) where

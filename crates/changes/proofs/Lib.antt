@@ -1,17 +1,3 @@
-pub mod Packing
-pub mod Order
-pub mod Lent
-pub mod Sorting
-pub mod Splitting
-pub mod Bounding
-pub mod Group
-pub mod Keying
-pub mod Compacting
-pub mod Steps
-pub mod Shortest
-pub mod ByPlace
-pub mod Pictures
-pub mod Examples
 pub mod Copying
 pub mod Fronts
 pub mod Handing

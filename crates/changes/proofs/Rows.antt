@@ -20,13 +20,11 @@ use Rattle.lists.proofs.Mapped.{map-take}
 use Rattle.ints.specs.Ints.{eqZ}
 use Rattle.ints.proofs.Back.{eq-back, by-value}
 use Rattle.edits.specs.Change.{packed}
-use Rattle.changes.specs.Order.{All}
-use Rattle.changes.specs.Keys.{Put}
+use Rattle.sorting.specs.Order.{All}
+use Rattle.sorting.proofs.Order.{all-at}
 use Rattle.changes.specs.Between.{betweenFrom, between, laidOut, differenceOf, rowFrom}
-use Rattle.changes.specs.Normal.{Front}
-use Rattle.changes.proofs.Order.{all-at}
-use Rattle.changes.proofs.Fronts.{front-of}
-use Rattle.changes.proofs.Keying.{put-one, put-none}
+use Rattle.changes.specs.Fronts.{Front, Put}
+use Rattle.changes.proofs.Fronts.{front-of, put-one, put-none}
 
 -- the index that a number's lowest 16 bits are
 abbrev indexOf : ℕ → ℤ

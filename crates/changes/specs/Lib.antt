@@ -1,6 +1,3 @@
-pub mod Normal
-pub mod Order
-pub mod Keys
-pub mod Laws
+pub mod Fronts
 pub mod Listed
 pub mod Between

@@ -9,9 +9,8 @@ ghost use mir.Syntax.{w16};
 ghost use mir.Val.{SFits, ofZ};
 ghost use Rattle.lists.specs.Lists.{over};
 ghost use Rattle.edits.specs.Change.{packed};
-ghost use Rattle.changes.specs.Normal.{Front};
-ghost use Rattle.changes.specs.Order.{All};
-ghost use Rattle.changes.specs.Keys.{Put};
+ghost use Rattle.sorting.specs.Order.{All};
+ghost use Rattle.changes.specs.Fronts.{Front, Put};
 ghost use Rattle.changes.specs.Between.{between, laidOut, differenceOf, rowFrom};
 
 // The values of one part, and the units in which a change counts its row, its old and its new.

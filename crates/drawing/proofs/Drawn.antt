@@ -14,12 +14,12 @@ use Rattle.selection.specs.Selection.{contains, containsI}
 use Rattle.selection.proofs.Regions.{Within, below-span}
 use Rattle.lines.specs.Line.{Point}
 use Rattle.edits.specs.Change.{Change, place}
-use Rattle.changes.specs.Order.{All}
-use Rattle.changes.specs.Laws.{On}
+use Rattle.sorting.specs.Order.{All}
+use Rattle.sorting.proofs.Order.{all-append}
 use Rattle.changes.specs.Between.{between}
-use Rattle.changes.proofs.Order.{all-append}
-use Rattle.changes.proofs.Shortest.{first-olds}
-use Rattle.changes.proofs.Pictures.{normal-between}
+use Rattle.normal.specs.Laws.{On}
+use Rattle.normal.proofs.Shortest.{first-olds}
+use Rattle.normal.proofs.Pictures.{normal-between}
 use Rattle.brushes.specs.Points.{changeAt, changesAt, drawn}
 use Rattle.brushes.specs.Places.{setAll, placesOf}
 use Rattle.brushes.proofs.Painted.{painted-places}

@@ -22,7 +22,7 @@ use Rattle.selection.specs.declared.Area.{Area}
 use Rattle.selection.specs.Selection.{containsI}
 use Rattle.sheet.specs.Sheet.{Sheet}
 use Rattle.edits.specs.Change.{Change, packed}
-use Rattle.changes.specs.Normal.{Front}
+use Rattle.changes.specs.Fronts.{Front}
 use Rattle.changes.specs.Listed.{handed}
 use Rattle.changes.proofs.Fronts.{front-within}
 use Rattle.changes.proofs.Handing.{handed-full, handed-done}

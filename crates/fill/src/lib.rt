@@ -26,7 +26,7 @@ ghost use Rattle.ints.specs.Ints.{far};
 ghost use Rattle.selection.specs.Selection.{containsI};
 ghost use Rattle.sheet.specs.Sheet.{sheetOf};
 ghost use Rattle.edits.specs.Change.{packed};
-ghost use Rattle.changes.specs.Normal.{Front};
+ghost use Rattle.changes.specs.Fronts.{Front};
 ghost use Rattle.changes.specs.Listed.{countOf, InScratch};
 ghost use Rattle.selection.specs.Region.{regionIn};
 ghost use Rattle.fill.specs.Fill.{offSheet, fillOf, floodFillOf, Fillable, Ready};

@@ -15,8 +15,8 @@ use Rattle.spans.specs.Positions.{Position}
 use Rattle.selection.specs.declared.Selection.{Selection}
 use Rattle.selection.specs.Selection.{positions, containsI}
 use Rattle.edits.specs.Change.{Change, place}
-use Rattle.changes.specs.Order.{All}
-use Rattle.changes.specs.Laws.{SheetOlds}
+use Rattle.sorting.specs.Order.{All}
+use Rattle.normal.specs.Laws.{SheetOlds}
 use Rattle.fills.specs.Fills.{filter, hasIndex, replacing, replaced, fromPixel, global}
 
 module _ (w : ℕ) (l : List ℤ) where

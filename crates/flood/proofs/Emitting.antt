@@ -12,7 +12,7 @@ use lib.Seq.{drop-set-lt, getD-set-same, getD-set-other, take-suc-set, ext-getD}
 use borrow.Author.Tests.{eq-eqb, ne-eqb}
 use Rattle.lists.specs.Lists.{range}
 use Rattle.lists.proofs.Behind.{same-at, further}
-use Rattle.changes.specs.Normal.{kept}
+use Rattle.normal.specs.Normal.{kept}
 use Rattle.flood.specs.Cells.{placed, emitted}
 
 -- ---- clearing

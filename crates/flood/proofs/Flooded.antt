@@ -10,7 +10,7 @@ use lib.ListN.{length, getD}
 use Rattle.lists.specs.Lists.{range}
 use Rattle.selection.specs.declared.Selection.{Selection}
 use Rattle.edits.specs.Change.{packed}
-use Rattle.changes.specs.Normal.{kept}
+use Rattle.normal.specs.Normal.{kept}
 use Rattle.flood.specs.Flood.{changeAt, flooded, floodOf}
 use Rattle.flood.specs.Cells.{placed, emitted, pairOf, Fills}
 

@@ -15,9 +15,9 @@ use Rattle.ints.proofs.Back.{same-index}
 use Rattle.selection.specs.declared.Selection.{Selection}
 use Rattle.selection.specs.Selection.{contains}
 use Rattle.edits.specs.Change.{Change, place}
-use Rattle.changes.specs.Normal.{kept}
-use Rattle.changes.specs.Order.{All}
-use Rattle.changes.specs.Laws.{SheetOlds}
+use Rattle.sorting.specs.Order.{All}
+use Rattle.normal.specs.Normal.{kept}
+use Rattle.normal.specs.Laws.{SheetOlds}
 use Rattle.flood.specs.Flood.{neighbour, passable, reached, flooded, changeAt, floodOf}
 use Rattle.flood.proofs.Reachable.{or-case}
 

@@ -15,9 +15,9 @@ use Rattle.lists.specs.Lists.{range, some}
 use Rattle.ints.specs.Ints.{eqZ}
 use Rattle.selection.specs.declared.Selection.{Selection}
 use Rattle.edits.specs.Change.{Change}
-use Rattle.changes.specs.Normal.{keyOf, joined, enter, entered, kept, changing, normalizeOf}
-use Rattle.changes.specs.Order.{All}
-use Rattle.changes.proofs.Group.{enter-none, enter-less, enter-same, enter-more}
+use Rattle.sorting.specs.Order.{All}
+use Rattle.normal.specs.Normal.{keyOf, joined, enter, entered, kept, changing, normalizeOf}
+use Rattle.normal.proofs.Group.{enter-none, enter-less, enter-same, enter-more}
 use Rattle.flood.specs.Flood.{changeAt, flooded, floodOf}
 use Rattle.flood.proofs.Flooded.{kept-same}
 

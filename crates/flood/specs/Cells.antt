@@ -10,7 +10,7 @@ use mir.Syntax.{w16}
 use mir.Val.{ofZ}
 use Rattle.lists.specs.Lists.{range}
 use Rattle.selection.specs.declared.Selection.{Selection}
-use Rattle.changes.specs.Normal.{kept}
+use Rattle.normal.specs.Normal.{kept}
 use Rattle.flood.specs.Flood.{flooded}
 
 -- what the steps ask: a picture of at most 1,024 rows and columns, a place of it, and a cell for each of its places

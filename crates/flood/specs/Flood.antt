@@ -11,7 +11,7 @@ use Rattle.ints.specs.Ints.{eqZ}
 use Rattle.selection.specs.declared.Selection.{Selection}
 use Rattle.selection.specs.Selection.{contains}
 use Rattle.edits.specs.Change.{Change}
-use Rattle.changes.specs.Normal.{kept}
+use Rattle.normal.specs.Normal.{kept}
 
 -- "4-neighbours": those of place p, of n places in rows of w: left, right, above, below; n where there is none
 unfoldable pub neighbour : ℕ → ℕ → ℕ → ℕ → ℕ

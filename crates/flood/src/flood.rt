@@ -7,7 +7,7 @@ ghost use mathlib.Core.List.{map};
 ghost use Prim.Native.Nat.{_*_, _≤_, _<_};
 ghost use lib.ListN.{length};
 ghost use Rattle.edits.specs.Change.{packed};
-ghost use Rattle.changes.specs.Normal.{Front};
+ghost use Rattle.changes.specs.Fronts.{Front};
 ghost use Rattle.flood.specs.Flood.{floodOf};
 ghost use Rattle.flood.specs.Cells.{Ground};
 

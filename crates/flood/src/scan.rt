@@ -3,7 +3,7 @@ use pixels::bits_of;
 ghost use mathlib.Core.Path.{_≡_};
 ghost use Prim.Native.Nat.{_*_, _%_, _≤_, _<_, _^_};
 ghost use lib.ListN.{length};
-ghost use Rattle.changes.specs.Normal.{Front};
+ghost use Rattle.changes.specs.Fronts.{Front};
 ghost use Rattle.flood.specs.Cells.{pairOf, placed, emitted};
 
 // The units in which a change counts its row, its old and its new.

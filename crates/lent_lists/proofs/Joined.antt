@@ -13,10 +13,11 @@ use Rattle.limits.specs.declared.Counted.{Counted}
 use Rattle.limits.specs.declared.Counted.the-variants.{Refused}
 use Rattle.lists.specs.Lists.{over}
 use Rattle.edits.specs.Change.{unpacked}
-use Rattle.changes.specs.Normal.{normalPacked, Front}
+use Rattle.changes.specs.Fronts.{Front}
 use Rattle.changes.specs.Listed.{handed, InScratch}
 use Rattle.changes.proofs.Handing.{listed-refused, listed-done}
 use Rattle.changes.proofs.InScratch.{scratch-none, scratch-then}
+use Rattle.normal.specs.Normal.{normalPacked}
 use Rattle.structs.specs.Struct.{least}
 use Rattle.tools.specs.Stroke.{extended, extendChecks, extendCall}
 use Rattle.tools.proofs.Extending.{extend-fine}

@@ -2,8 +2,8 @@
 // another, and the structs are filled from there.
 use changes::count_of;
 use changes::counted;
-use changes::normalize_joined;
 use limits::Counted;
+use normal::normalize_joined;
 use structs::Change;
 use structs::lesser;
 use structs::pack;

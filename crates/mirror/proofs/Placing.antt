@@ -26,7 +26,7 @@ use Rattle.sheet.specs.Sheet.{Sheet}
 use Rattle.sheet.specs.Checks.{sheetChecks, WellFormed, Judged}
 use Rattle.sheet.proofs.Judging.{past-sheet, refused-sheet}
 use Rattle.edits.specs.Change.{packed, unpacked}
-use Rattle.changes.specs.Normal.{Front}
+use Rattle.changes.specs.Fronts.{Front}
 use Rattle.changes.specs.Listed.{handed, countOf, InScratch}
 use Rattle.changes.proofs.InScratch.{scratch-none, scratch-then}
 use Rattle.mirroring.specs.Mirror.{mirrored}

@@ -23,7 +23,7 @@ use Rattle.sheet.specs.Sheet.{Sheet}
 use Rattle.sheet.specs.Checks.{sheetChecks, WellFormed, Judged}
 use Rattle.sheet.proofs.Judging.{none-applied, past-sheet, refused-sheet}
 use Rattle.edits.specs.Change.{packed, unpacked}
-use Rattle.changes.specs.Normal.{Front}
+use Rattle.changes.specs.Fronts.{Front}
 use Rattle.changes.specs.Listed.{handed}
 use Rattle.mirroring.specs.Mirror.{mirrored}
 use Rattle.mirror.specs.declared.Stage.the-variants.{Canvas, Refused}

@@ -16,8 +16,8 @@ use borrow.Author.Tests.{eq-eqb, ne-eqb, le-leb}
 use Rattle.selection.specs.declared.Selection.{Selection}
 use Rattle.selection.specs.Selection.{contains}
 use Rattle.edits.specs.Change.{Change, unpacked}
-use Rattle.changes.specs.Normal.{joined}
-use Rattle.changes.specs.Laws.{folded, firstLast}
+use Rattle.normal.specs.Normal.{joined}
+use Rattle.normal.specs.Laws.{folded, firstLast}
 use Rattle.mirroring.specs.Marks.{run, placeAt, oldBits, newBits, lastIn, elsewhere, markBy, landBy, pendingBy}
 use Rattle.mirroring.proofs.Runs.{run-hit, run-miss, run-none}
 

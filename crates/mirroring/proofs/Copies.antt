@@ -15,10 +15,10 @@ use Rattle.lists.specs.Lists.{range}
 use Rattle.selection.specs.declared.Selection.{Selection}
 use Rattle.selection.specs.Selection.{contains}
 use Rattle.edits.specs.Change.{Change, place}
-use Rattle.changes.specs.Normal.{keyOf, kept}
-use Rattle.changes.specs.Order.{All}
-use Rattle.changes.specs.Laws.{On, atPlace}
-use Rattle.changes.proofs.Order.{all-append}
+use Rattle.sorting.specs.Order.{All}
+use Rattle.sorting.proofs.Order.{all-append}
+use Rattle.normal.specs.Normal.{keyOf, kept}
+use Rattle.normal.specs.Laws.{On, atPlace}
 use Rattle.tiling.specs.Tile.{turned}
 use Rattle.tiling.specs.Cells.{Tiled, cellCount, firstCell}
 use Rattle.tiling.specs.Extract.{Extracted, entryOf, extractOf}

@@ -11,7 +11,7 @@ use mir.Syntax.{w16}
 use mir.Val.{ofZ}
 use Rattle.lists.specs.Lists.{range}
 use Rattle.lists.proofs.Behind.{same-at, further}
-use Rattle.changes.specs.Keys.{Put}
+use Rattle.changes.specs.Fronts.{Put}
 use Rattle.changes.specs.Between.{differenceOf}
 use Rattle.mirroring.specs.Marks.{newBits, oldIn, emitted, emittedAll}
 

@@ -18,10 +18,10 @@ use Rattle.lists.proofs.Collect.{flatMap-append, flatMap-one}
 use Rattle.selection.specs.declared.Selection.{Selection}
 use Rattle.selection.specs.Selection.{contains}
 use Rattle.edits.specs.Change.{Change, packed, unpacked, place}
-use Rattle.changes.specs.Normal.{keyOf, kept, changing}
-use Rattle.changes.specs.Order.{All}
-use Rattle.changes.specs.Laws.{On, atPlace, firstLast}
-use Rattle.changes.proofs.Order.{all-append}
+use Rattle.sorting.specs.Order.{All}
+use Rattle.sorting.proofs.Order.{all-append}
+use Rattle.normal.specs.Normal.{keyOf, kept, changing}
+use Rattle.normal.specs.Laws.{On, atPlace, firstLast}
 use Rattle.tiling.specs.Cells.{cellCount, codeOf, firstCells}
 use Rattle.tiling.specs.Extract.{extractOf}
 use Rattle.tiling.proofs.Rows.{getD-map, length-first, first-next, first-at}

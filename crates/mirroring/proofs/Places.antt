@@ -9,13 +9,13 @@ use lib.Arith.{digits-div, digits-mod}
 use borrow.Author.Tests.{eq-eqb, ne-eqb}
 use Rattle.lists.specs.Lists.{range}
 use Rattle.edits.specs.Change.{Change, place}
-use Rattle.changes.specs.Normal.{keyOf, entered, kept, changing, normalizeOf}
-use Rattle.changes.specs.Order.{All}
-use Rattle.changes.specs.Laws.{On, Ordered, atPlace, firstLast}
-use Rattle.changes.proofs.Order.{all-map}
-use Rattle.changes.proofs.Shortest.{all-kept, normal-ordered, inside, on-entered}
-use Rattle.changes.proofs.Pictures.{all-later}
-use Rattle.changes.proofs.ByPlace.{normal-place}
+use Rattle.sorting.specs.Order.{All}
+use Rattle.sorting.proofs.Order.{all-map}
+use Rattle.normal.specs.Normal.{keyOf, entered, kept, changing, normalizeOf}
+use Rattle.normal.specs.Laws.{On, Ordered, atPlace, firstLast}
+use Rattle.normal.proofs.Shortest.{all-kept, normal-ordered, inside, on-entered}
+use Rattle.normal.proofs.ByPlace.{normal-place}
+use Rattle.normal.proofs.Pictures.{all-later}
 
 pub flat-same : {A : Type 0} (f g : ℕ → List A) (i k : ℕ) → ((p : ℕ) → i ≤ p → p < i + k → f p ≡ g p) → flatMap f (range i k) ≡ flatMap g (range i k)
 unfolding flatMap range

@@ -11,9 +11,9 @@ use mir.Syntax.{w16}
 use mir.Val.{SFits, toZ, ofZ}
 use mir.ValLaws.{ofZ-toZ, toZ-ofZ, ofZ-fits}
 use Rattle.edits.specs.Change.{packed}
-use Rattle.changes.specs.Normal.{kept, changing}
 use Rattle.changes.specs.Between.{differenceOf}
-use Rattle.changes.proofs.Packing.{eqZ-bits}
+use Rattle.normal.specs.Normal.{kept, changing}
+use Rattle.normal.proofs.Packing.{eqZ-bits}
 use Rattle.mirroring.specs.Marks.{newBits, oldIn, emitted}
 use Rattle.mirroring.proofs.AtPlace.{waitingAt}
 

@@ -9,7 +9,7 @@ use Rattle.lists.specs.Lists.{range}
 use Rattle.selection.specs.declared.Selection.{Selection}
 use Rattle.selection.specs.Selection.{contains}
 use Rattle.edits.specs.Change.{Change}
-use Rattle.changes.specs.Normal.{kept, normalizeOf}
+use Rattle.normal.specs.Normal.{kept, normalizeOf}
 use Rattle.tiling.specs.Tile.{turned}
 use Rattle.tiling.specs.Extract.{Entry, Extracted, extractOf}
 

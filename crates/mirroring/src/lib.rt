@@ -20,7 +20,7 @@ ghost use mathlib.Core.List.{map};
 ghost use Prim.Native.Nat.{_*_, _≤_};
 ghost use lib.ListN.{length};
 ghost use Rattle.edits.specs.Change.{packed, unpacked};
-ghost use Rattle.changes.specs.Normal.{Front};
+ghost use Rattle.changes.specs.Fronts.{Front};
 ghost use Rattle.mirroring.specs.Mirror.{mirrored};
 ghost use Rattle.mirroring.specs.Marks.{Mirrorable};
 

@@ -7,9 +7,8 @@ ghost use Prim.Native.Nat.{ℕ, _+_, _*_, _≤_, _<_, _^_};
 ghost use lib.ListN.{length, getD};
 ghost use mir.Syntax.{w16};
 ghost use mir.Val.{ofZ};
-ghost use Rattle.changes.specs.Normal.{Front};
+ghost use Rattle.changes.specs.Fronts.{Front, Put};
 ghost use Rattle.changes.specs.Between.{differenceOf};
-ghost use Rattle.changes.specs.Keys.{Put};
 ghost use Rattle.mirroring.specs.Marks.{pendingBy, pending, oldIn, emitted, emittedAll, Listed};
 
 // The units in which a number counts what is pending, and that its old is the caller's.

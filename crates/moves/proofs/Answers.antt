@@ -32,10 +32,11 @@ use Rattle.selection.specs.Calls.{tooLarge, farAway, shiftChecks, translatedOf}
 use Rattle.selection.proofs.Checks.{near}
 use Rattle.selection.proofs.Regions.{part-other}
 use Rattle.edits.specs.Change.{Change, packed}
-use Rattle.changes.specs.Normal.{normalizeOf, Front}
+use Rattle.changes.specs.Fronts.{Front}
 use Rattle.changes.specs.Listed.{handed, countOf, InScratch}
 use Rattle.changes.proofs.Handing.{listed-refused, listed-done}
 use Rattle.changes.proofs.InScratch.{scratch-then}
+use Rattle.normal.specs.Normal.{normalizeOf}
 use Rattle.moves.specs.declared.Shifted.{Shifted}
 use Rattle.moves.specs.declared.Shifted.the-variants as shifted-of
 use Rattle.moves.specs.Blocks.{Movable}

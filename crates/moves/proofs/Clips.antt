@@ -22,8 +22,9 @@ use Rattle.sheet.proofs.Judging.{none-applied, past-sheet}
 use Rattle.selection.specs.declared.Chosen.{Chosen}
 use Rattle.selection.specs.Selection.{all}
 use Rattle.edits.specs.Change.{packed}
-use Rattle.changes.specs.Normal.{normalizeOf, Front}
+use Rattle.changes.specs.Fronts.{Front}
 use Rattle.changes.specs.Listed.{handed}
+use Rattle.normal.specs.Normal.{normalizeOf}
 use Rattle.moves.specs.declared.Shifted.{Shifted}
 use Rattle.moves.specs.declared.Shifted.the-variants as shifted-of
 use Rattle.moves.specs.Blocks.{Pastable}

@@ -9,8 +9,8 @@ use Rattle.lists.proofs.Collect.{range-append, flatMap-append}
 use Rattle.spans.specs.Positions.{Position, position, row}
 use Rattle.selection.specs.declared.Selection.{Selection}
 use Rattle.selection.specs.Selection.{positions}
-use Rattle.changes.specs.Order.{All}
-use Rattle.changes.proofs.Order.{all-append}
+use Rattle.sorting.specs.Order.{All}
+use Rattle.sorting.proofs.Order.{all-append}
 
 module _ {A : Type 0} (f : ℕ → List A) where
   pub none-collected : (start count : ℕ) → ((i : ℕ) → start ≤ i → i < start + count → f i ≡ []) → flatMap f (range start count) ≡ []

@@ -12,7 +12,7 @@ use Rattle.selection.specs.declared.Selection.{Selection}
 use Rattle.selection.specs.declared.Chosen.the-variants.{Part, Nothing}
 use Rattle.selection.specs.Selection.{rectangle, fromCorners, translated, positions, all}
 use Rattle.edits.specs.Change.{place, painted, newOf}
-use Rattle.changes.specs.Normal.{keyOf, joined, enter, entered, kept, changing, normalizeOf}
+use Rattle.normal.specs.Normal.{keyOf, joined, enter, entered, kept, changing, normalizeOf}
 use Rattle.moves.specs.Moves.{ontoGot, onto, landed, cleared, moveChanges, unmoved, movedList, movedSelection, pasteChanges, pastedSelection}
 
 abbrev pub at : ℕ → ℕ → ℕ → ℕ → Selection

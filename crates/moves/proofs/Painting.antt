@@ -8,7 +8,7 @@ use lib.ListN.{set}
 use Rattle.lists.specs.Lists.{range}
 use Rattle.lists.proofs.Collect.{range-suc, flatMap-append, flatMap-one}
 use Rattle.edits.specs.Change.{Change, place, painted, newOf}
-use Rattle.changes.proofs.Pictures.{painted-append}
+use Rattle.normal.proofs.Pictures.{painted-append}
 use Rattle.moves.specs.Blocks.{written, block}
 
 -- one change, to z at a place

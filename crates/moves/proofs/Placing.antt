@@ -17,13 +17,14 @@ use Rattle.spans.specs.Positions.{Position, position}
 use Rattle.selection.specs.declared.Selection.{Selection}
 use Rattle.selection.specs.Selection.{positions, all}
 use Rattle.edits.specs.Change.{Change, place, painted, newOf, packed}
-use Rattle.changes.specs.Normal.{normalizeOf, Front}
-use Rattle.changes.specs.Order.{All}
-use Rattle.changes.specs.Laws.{On}
+use Rattle.sorting.specs.Order.{All}
+use Rattle.sorting.proofs.Order.{all-map, all-append}
+use Rattle.changes.specs.Fronts.{Front}
 use Rattle.changes.specs.Between.{between, laidOut}
-use Rattle.changes.proofs.Order.{all-map, all-append}
-use Rattle.changes.proofs.Shortest.{first-olds}
-use Rattle.changes.proofs.Pictures.{painted-append, normal-between}
+use Rattle.normal.specs.Normal.{normalizeOf}
+use Rattle.normal.specs.Laws.{On}
+use Rattle.normal.proofs.Shortest.{first-olds}
+use Rattle.normal.proofs.Pictures.{painted-append, normal-between}
 use Rattle.moves.specs.declared.Landing.{Landing}
 use Rattle.moves.specs.Blocks.{block, sourceAt, landing, Rows, Lands, Movable, Pastable}
 use Rattle.moves.specs.Moves.{indexIn, ontoGot, onto, landed, cleared, moveChanges, pasteChanges}

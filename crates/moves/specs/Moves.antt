@@ -23,8 +23,8 @@ use Rattle.selection.specs.declared.Chosen.the-variants as chosen
 use Rattle.selection.specs.Selection.{positions, all, fromCorners, translated}
 use Rattle.selection.specs.Calls.{shiftChecks}
 use Rattle.edits.specs.Change.{Change}
-use Rattle.changes.specs.Normal.{normalizeOf}
 use Rattle.changes.specs.Listed.{listed}
+use Rattle.normal.specs.Normal.{normalizeOf}
 use Rattle.moves.specs.declared.Shifted.{Shifted}
 use Rattle.moves.specs.declared.Shifted.the-variants as shifted-of
 

@@ -18,8 +18,9 @@ ghost use Rattle.limits.specs.Checks.{firstOf};
 ghost use Rattle.sheet.specs.Sheet.{sheetOf};
 ghost use Rattle.selection.specs.Calls.{shiftChecks};
 ghost use Rattle.edits.specs.Change.{packed};
-ghost use Rattle.changes.specs.Normal.{normalizeOf, Front};
+ghost use Rattle.changes.specs.Fronts.{Front};
 ghost use Rattle.changes.specs.Listed.{InScratch};
+ghost use Rattle.normal.specs.Normal.{normalizeOf};
 ghost use Rattle.moves.specs.Blocks.{Movable};
 ghost use Rattle.moves.specs.Moves.{unmoved, moveChanges, movedList, movedSelection, shiftedOf, moveChecks, moveCall, left, shiftedCount};
 

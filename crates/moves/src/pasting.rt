@@ -26,8 +26,9 @@ ghost use Rattle.limits.specs.Checks.{firstOf};
 ghost use Rattle.ints.specs.Ints.{far};
 ghost use Rattle.sheet.specs.Sheet.{sheetOf};
 ghost use Rattle.edits.specs.Change.{packed};
-ghost use Rattle.changes.specs.Normal.{normalizeOf, Front};
+ghost use Rattle.changes.specs.Fronts.{Front};
 ghost use Rattle.changes.specs.Listed.{InScratch};
+ghost use Rattle.normal.specs.Normal.{normalizeOf};
 ghost use Rattle.moves.specs.Blocks.{Pastable, placedOf};
 ghost use Rattle.moves.specs.Moves.{pasteChanges, pastedSelection, clipChecks, pasteChecks, pasteCall, left, shiftedCount};
 

@@ -6,7 +6,7 @@ use lib.IntN.{ℤ, pos, negsuc}
 use Rattle.selection.specs.declared.Selection.{Selection}
 use Rattle.lines.specs.Line.{Point, point, lineOf}
 use Rattle.edits.specs.Change.{Change, painted, newOf}
-use Rattle.changes.specs.Normal.{normalizeOf}
+use Rattle.normal.specs.Normal.{normalizeOf}
 use Rattle.moves.specs.Moves.{movedList}
 use Rattle.history.specs.Examples.{Examples}
 

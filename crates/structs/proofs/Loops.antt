@@ -9,7 +9,7 @@ use lib.Seq.{take-suc, length-take-le}
 use Rattle.lists.specs.Lists.{over}
 use Rattle.lists.proofs.Over.{over-none, over-set}
 use Rattle.lists.proofs.Mapped.{map-set}
-use Rattle.changes.proofs.Packing.{packed-unpacked}
+use Rattle.normal.proofs.Packing.{packed-unpacked}
 use Rattle.structs.specs.declared.Change.{Change}
 use Rattle.structs.specs.Struct.{packedOf, structOf}
 

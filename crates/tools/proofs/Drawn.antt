@@ -5,13 +5,13 @@ use mathlib.Core.List.{List, [], _++_}
 use lib.IntN.{ℤ, pos}
 use lib.ListN.{length, getD}
 use Rattle.edits.specs.Change.{Change, place, painted, newOf}
-use Rattle.changes.specs.Normal.{normalizeOf}
-use Rattle.changes.specs.Order.{All}
-use Rattle.changes.specs.Laws.{On}
+use Rattle.sorting.specs.Order.{All}
+use Rattle.sorting.proofs.Order.{all-append}
 use Rattle.changes.specs.Between.{between}
-use Rattle.changes.proofs.Order.{all-append}
-use Rattle.changes.proofs.Shortest.{first-olds, normal-on, normal-olds, same-picture}
-use Rattle.changes.proofs.Pictures.{painted-append, normal-between}
+use Rattle.normal.specs.Normal.{normalizeOf}
+use Rattle.normal.specs.Laws.{On}
+use Rattle.normal.proofs.Shortest.{first-olds, normal-on, normal-olds, same-picture}
+use Rattle.normal.proofs.Pictures.{painted-append, normal-between}
 use Rattle.tools.specs.Stroke.{extended}
 
 module _ (w h : ℕ) (small : w ≤ 2 ^ 16) (l : List ℤ) (size : length l ≡ w * h) where

@@ -15,10 +15,11 @@ use Rattle.limits.specs.declared.Counted.{Counted}
 use Rattle.limits.specs.declared.Counted.the-variants.{Refused}
 use Rattle.limits.proofs.First.{past}
 use Rattle.edits.specs.Change.{Change, unpacked}
-use Rattle.changes.specs.Normal.{normalizeOf, normalPacked, Front}
+use Rattle.changes.specs.Fronts.{Front}
 use Rattle.changes.specs.Listed.{handed}
 use Rattle.changes.proofs.Handing.{listed-refused, listed-done}
-use Rattle.changes.proofs.ByPlace.{normal-again}
+use Rattle.normal.specs.Normal.{normalizeOf, normalPacked}
+use Rattle.normal.proofs.ByPlace.{normal-again}
 use Rattle.tools.specs.Stroke.{extended, extendChecks, extendCall}
 
 module _ (count places n room : ℕ) where

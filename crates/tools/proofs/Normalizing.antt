@@ -11,10 +11,11 @@ use Rattle.limits.specs.Answer.{filled}
 use Rattle.limits.specs.declared.Counted.{Counted}
 use Rattle.limits.specs.declared.Counted.the-variants.{Count, Refused}
 use Rattle.edits.specs.Change.{unpacked}
-use Rattle.changes.specs.Normal.{normalizeOf, normalPacked, Front}
+use Rattle.changes.specs.Fronts.{Front}
 use Rattle.changes.specs.Listed.{handed, countOf, InScratch}
 use Rattle.changes.proofs.Handing.{listed-refused, listed-done}
 use Rattle.changes.proofs.InScratch.{scratch-then}
+use Rattle.normal.specs.Normal.{normalizeOf, normalPacked}
 use Rattle.tools.specs.declared.Made.{Made}
 use Rattle.tools.specs.Op.{normalizeChecks, normalizeCall, made, madeCount, pixelsOf, pixelsCall}
 

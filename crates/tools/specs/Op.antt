@@ -11,8 +11,8 @@ use Rattle.limits.specs.declared.Counted.{Counted}
 use Rattle.limits.specs.declared.Counted.the-variants as counted
 use Rattle.edits.specs.declared.Edit.the-variants.{Pixels}
 use Rattle.edits.specs.Change.{unpacked}
-use Rattle.changes.specs.Normal.{normalizeOf}
 use Rattle.changes.specs.Listed.{listed}
+use Rattle.normal.specs.Normal.{normalizeOf}
 use Rattle.tools.specs.declared.Made.{Made}
 use Rattle.tools.specs.declared.Made.the-variants as made-of
 

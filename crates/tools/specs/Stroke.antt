@@ -8,8 +8,8 @@ use Rattle.limits.specs.Numbers.{noSpace, listTooLong}
 use Rattle.limits.specs.Checks.{Check, _when_}
 use Rattle.limits.specs.Answer.{Filled}
 use Rattle.edits.specs.Change.{Change, unpacked}
-use Rattle.changes.specs.Normal.{normalizeOf}
 use Rattle.changes.specs.Listed.{listed}
+use Rattle.normal.specs.Normal.{normalizeOf}
 
 -- `self.changes.extend(changes); self.changes = normalize(..)`
 unfoldable pub extended : List Change → List Change → List Change

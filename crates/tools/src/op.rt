@@ -30,7 +30,7 @@ pub fn normalize_in(list: &[u64], scratch: &mut [u64], room: usize) -> Counted
     if scratch.len() < list.len() {
         return Counted::Refused(NO_SPACE);
     }
-    let n = changes::normalize_in(list, scratch);
+    let n = normal::normalize_in(list, scratch);
     counted(n, room)
 }
 

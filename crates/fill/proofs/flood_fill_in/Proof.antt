@@ -5,7 +5,7 @@ use lib.ListN.{length}
 use mir.Facts.{toZ-ofZ}
 use Rattle.sheet.specs.Sheet.{Sheet, sheetOf}
 use Rattle.edits.specs.Change.{packed}
-use Rattle.changes.specs.Normal.{Front}
+use Rattle.changes.specs.Fronts.{Front}
 use Rattle.changes.proofs.Fronts.{front-within}
 use Rattle.limits.specs.Checks.{firstOf}
 use Rattle.selection.specs.Region.{regionIn}

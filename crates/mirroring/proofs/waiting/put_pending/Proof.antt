@@ -8,7 +8,7 @@ use mir.Syntax.{w16}
 use lib.ListN.{getD}
 use mir.Val.{ofZ}
 use Rattle.mirroring.specs.Marks.{oldIn}
-use Rattle.changes.proofs.Keying.{put-none}
+use Rattle.changes.proofs.Fronts.{put-none}
 use Rattle.mirroring.proofs.Emitting.{emitted-some, emitted-none}
 use Rattle.ints.proofs.Back.{back}
 use borrow.Author.Needs.{needs}

@@ -1,0 +1,9 @@
+pub mod Packing
+pub mod Group
+pub mod Keying
+pub mod Compacting
+pub mod Steps
+pub mod Shortest
+pub mod ByPlace
+pub mod Pictures
+pub mod Examples
