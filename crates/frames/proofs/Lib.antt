@@ -1,8 +1,5 @@
-pub mod Hexes
-pub mod Digits
 pub mod Filling
 pub mod Changes
-pub mod Indices
 pub mod Sizes
 pub mod Lines
 pub mod Trips

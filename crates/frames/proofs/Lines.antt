@@ -8,9 +8,9 @@ use lib.IntN.{ℤ}
 use lib.ListN.{length, length-append, length-map}
 use Rattle.records.specs.Bytes.{le, splice}
 use Rattle.records.proofs.Splice.{splice-then}
-use Rattle.frames.specs.Hex.{hexByte, hexOf}
-use Rattle.frames.specs.Writing.{byteOf, headOf, lineOf, numberLine}
-use Rattle.frames.proofs.Digits.{length-hex, hex-append}
+use Rattle.hexadecimal.specs.Hex.{byteOf, hexByte, hexOf}
+use Rattle.hexadecimal.proofs.Digits.{length-hex, hex-append}
+use Rattle.frames.specs.Writing.{headOf, lineOf, numberLine}
 
 module _ (answer position : ℕ) (dirty : Bool) (k : ℕ) (is : List ℤ) where
   pub length-line : length (lineOf answer position dirty k is) ≡ 11 + 2 * length is

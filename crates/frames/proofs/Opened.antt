@@ -14,8 +14,8 @@ use Rattle.lists.specs.Lists.{some}
 use Rattle.lists.proofs.Nowhere.{map-undone}
 use Rattle.sheet.specs.Sheet.{stray}
 use Rattle.records.specs.Bytes.{le}
+use Rattle.hexadecimal.specs.Hex.{byteOf}
 use Rattle.frames.specs.Reading.{openingOf, classOf, indexOf, paletteIn, indicesIn}
-use Rattle.frames.specs.Writing.{byteOf}
 use Rattle.frames.specs.Opening.{openBytes}
 use Rattle.frames.specs.declared.Frame.the-variants.{Open}
 

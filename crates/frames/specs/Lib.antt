@@ -1,5 +1,3 @@
-pub mod Hex
 pub mod Reading
-pub mod Spelt
 pub mod Writing
 pub mod Opening

@@ -3,7 +3,7 @@ use Prim.Native.Nat.{ℕ}
 use mathlib.Core.List.{List, _∷_, _++_, map}
 use lib.IntN.{ℤ}
 use Rattle.records.specs.Bytes.{le}
-use Rattle.frames.specs.Writing.{byteOf}
+use Rattle.hexadecimal.specs.Hex.{byteOf}
 
 -- "00 w(2) h(2) k, palette, indices (FF is -1)"
 unfoldable pub openBytes : ℕ → ℕ → ℕ → List ℕ → List ℤ → List ℕ

@@ -10,7 +10,7 @@ use mir.Syntax.{w16}
 use mir.Val.{toZ}
 use Rattle.edits.specs.Change.{Change}
 use Rattle.records.specs.Record.{rgbIn}
-use Rattle.frames.specs.Hex.{unhexOf}
+use Rattle.hexadecimal.specs.Hex.{unhexOf}
 use Rattle.frames.specs.declared.Frame.{Frame}
 use Rattle.frames.specs.declared.Frame.the-variants.{Open, Pixels, Set, Add, Merge, Undo, Redo, Mark, Malformed}
 

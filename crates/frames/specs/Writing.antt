@@ -1,16 +1,11 @@
 -- What `panel` prints: document 01, "Program `panel`". Definitions only. Assumes nothing.
-use Prim.Native.Nat.{ℕ, _%_}
+use Prim.Native.Nat.{ℕ}
 use mathlib.Core.Bool.{Bool}
 use mathlib.Core.List.{List, [], _∷_, _++_, map}
-use lib.IntN.{ℤ, pos, negsuc}
+use lib.IntN.{ℤ}
 use Rattle.sheet.specs.Document.{mark}
 use Rattle.records.specs.Bytes.{le}
-use Rattle.frames.specs.Hex.{hexOf}
-
--- an index as a byte: "FF is -1"
-unfoldable pub byteOf : ℤ → ℕ
-byteOf (pos n) = n % 256
-byteOf (negsuc n) = 255
+use Rattle.hexadecimal.specs.Hex.{hexOf}
 
 -- "answer (00 done, FF still, else number), position (2), dirty, k"
 unfoldable pub headOf : ℕ → ℕ → Bool → ℕ → List ℕ

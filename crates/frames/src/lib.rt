@@ -1,8 +1,8 @@
 // The lines of `panel`: hexadecimal digits to a frame, and a state to a line of digits.
 //
-// proofs/Trips.antt has the laws between the two: what was written is read again.
+// proofs/Trips.antt, here and in the crate hexadecimal, has the laws between the two: what was written is read
+// again.
 mod carry;
-mod hex;
 mod line;
 mod reading;
 
@@ -29,10 +29,4 @@ pub enum Frame {
     Redo,
     Mark,
     Malformed,
-}
-
-// How many bytes the digits of a line spell.
-pub enum Spelt {
-    Bytes(usize),
-    Bad,
 }

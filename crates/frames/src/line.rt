@@ -1,14 +1,14 @@
 // The lines that are printed.
-use crate::hex::put_byte;
-use crate::hex::put_bytes;
-use crate::hex::put_indices;
+use hexadecimal::put_byte;
+use hexadecimal::put_bytes;
+use hexadecimal::put_indices;
 ghost use mathlib.Core.Path.{_≡_};
 ghost use mathlib.Core.List.{_∷_, []};
 ghost use Prim.Native.Nat.{_+_, _*_, _≤_};
 ghost use lib.ListN.{length};
 ghost use Rattle.sheet.specs.Document.{mark};
 ghost use Rattle.records.specs.Bytes.{splice};
-ghost use Rattle.frames.specs.Hex.{hexOf};
+ghost use Rattle.hexadecimal.specs.Hex.{hexOf};
 ghost use Rattle.frames.specs.Writing.{headOf, lineOf, numberLine};
 
 fn mark_of(b: bool) -> u8

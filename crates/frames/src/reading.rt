@@ -1,14 +1,14 @@
 // A line to the frame that it is.
 use crate::Frame;
 use crate::MAX_DIGITS;
-use crate::Spelt;
-use crate::hex::unhex;
+use hexadecimal::Spelt;
+use hexadecimal::unhex;
 use limits::Rgb;
 ghost use mathlib.Core.Path.{_≡_};
 ghost use Prim.Native.Nat.{_+_, _*_, _≤_, _<_};
 ghost use lib.ListN.{length, take};
+ghost use Rattle.hexadecimal.specs.Spelt.{spelt, Within};
 ghost use Rattle.frames.specs.Reading.{openingOf, pixelsOf, classOf, told, toldOf, frameOf, sizeOf};
-ghost use Rattle.frames.specs.Spelt.{spelt, Within};
 
 fn wide(x: u8) -> usize
     ensures { λ r. ⌜ (r ≡ x) × (r < 256) ⌝ }

@@ -1,10 +1,10 @@
 -- `spelt_frame`: what the digits spell decides. Assumes nothing.
+use Rattle.hexadecimal.specs.Spelt.{spelt, Within}
 use Rattle.frames.proofs.Sizes.{front-size, told-front}
 use Prim.Native.Nat.{zero-le, _≤_}
 use lib.ListN.{length}
 use denote.Ref.{now}
 use Rattle.frames.specs.Reading.{toldOf, sizeOf}
-use Rattle.frames.specs.Spelt.{spelt, Within}
 use borrow.Author.Needs.{needs}
 use Rattle.frames.proofs.reading.spelt_frame.Statement.{statement}
 use Rattle.frames.proofs.reading.spelt_frame.Tie as tie

@@ -1,13 +1,17 @@
 // Hexadecimal digits, in ASCII: read in either case, written in upper case.
-use crate::Spelt;
 ghost use mathlib.Core.Path.{_≡_};
 ghost use mathlib.Core.List.{map};
 ghost use Prim.Native.Nat.{_+_, _*_, _≤_, _<_};
 ghost use lib.ListN.{length};
 ghost use Rattle.records.specs.Bytes.{splice};
-ghost use Rattle.frames.specs.Hex.{hexVal, pairVal, upperDigit, hexByte, unhexOf, hexOf};
-ghost use Rattle.frames.specs.Spelt.{spelt, Within};
-ghost use Rattle.frames.specs.Writing.{byteOf};
+ghost use Rattle.hexadecimal.specs.Hex.{hexVal, pairVal, upperDigit, hexByte, unhexOf, hexOf, byteOf};
+ghost use Rattle.hexadecimal.specs.Spelt.{spelt, Within};
+
+// How many bytes the digits of a line spell.
+pub enum Spelt {
+    Bytes(usize),
+    Bad,
+}
 
 // The value of a digit, 16 where it is none.
 fn digit(c: u8) -> u8
@@ -55,7 +59,7 @@ fn pair(a: u8, b: u8) -> u16
 }
 
 // The bytes that the line's digits spell go to the front of `out`. Of a bad line some may.
-pub(crate) fn unhex(line: &[u8], out: &mut [u8]) -> Spelt
+pub fn unhex(line: &[u8], out: &mut [u8]) -> Spelt
     requires { ⌜ length (now line) ≤ 2 * length (now out) + 1 ⌝ }
     ensures { λ r. ⌜ spelt r (now (out .exit)) ≡ unhexOf (now (line .entry)) ⌝ }
     ensures { λ r. ⌜ Within r (now (out .exit)) ⌝ }
@@ -84,7 +88,7 @@ fn upper(d: u8) -> u8
 }
 
 // Writes the two digits of a byte from `at` on.
-pub(crate) fn put_byte(out: &mut [u8], at: usize, b: u8)
+pub fn put_byte(out: &mut [u8], at: usize, b: u8)
     requires { ⌜ at + 2 ≤ length (now out) ⌝ }
     ensures { λ _. ⌜ now (out .exit) ≡ splice (now (out .entry)) at (hexByte b) ⌝ }
 {
@@ -95,7 +99,7 @@ pub(crate) fn put_byte(out: &mut [u8], at: usize, b: u8)
 }
 
 // Writes the digits of bytes from `at` on.
-pub(crate) fn put_bytes(out: &mut [u8], at: usize, bytes: &[u8])
+pub fn put_bytes(out: &mut [u8], at: usize, bytes: &[u8])
     requires { ⌜ at + 2 * length (now bytes) ≤ length (now out) ⌝ }
     ensures { λ _. ⌜ now (out .exit) ≡ splice (now (out .entry)) at (hexOf (now (bytes .entry))) ⌝ }
 {
@@ -117,7 +121,7 @@ fn index_byte(z: i16) -> u8
 }
 
 // Writes the digits of indices from `at` on.
-pub(crate) fn put_indices(out: &mut [u8], at: usize, indices: &[i16])
+pub fn put_indices(out: &mut [u8], at: usize, indices: &[i16])
     requires { ⌜ at + 2 * length (now indices) ≤ length (now out) ⌝ }
     ensures { λ _. ⌜ now (out .exit) ≡ splice (now (out .entry)) at (hexOf (map byteOf (now (indices .entry)))) ⌝ }
 {

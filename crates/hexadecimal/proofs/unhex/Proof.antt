@@ -1,13 +1,13 @@
 -- `unhex`: n pairs are read. Assumes nothing.
-use Rattle.frames.proofs.Hexes.{Spelling, spelling-start, spelling-step, spelling-bad, spelling-odd, spelling-end}
-use Rattle.frames.specs.Spelt.{spelt, Within}
+use Rattle.hexadecimal.proofs.Hexes.{Spelling, spelling-start, spelling-step, spelling-bad, spelling-odd, spelling-end}
+use Rattle.hexadecimal.specs.Spelt.{spelt, Within}
 use native.Mathlib.Omega.{arith}
 use lib.ListN.{length}
 use mathlib.Core.Path.{_≡_}
 use Prim.Native.Nat.{_-_, _/_}
 use borrow.Author.Needs.{needs}
-use Rattle.frames.proofs.hex.unhex.Statement.{statement}
-use Rattle.frames.proofs.hex.unhex.Tie as tie
+use Rattle.hexadecimal.proofs.unhex.Statement.{statement}
+use Rattle.hexadecimal.proofs.unhex.Tie as tie
 
 abbrev Inv-loop : tie.InvT-loop
 Inv-loop line out₀ pairs n₀ out n = (pairs ≡ length line / 2) × Spelling line out₀ out n

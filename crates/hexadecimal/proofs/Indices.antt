@@ -12,7 +12,7 @@ use lib.Signed.{ltZ, nonNeg}
 use mir.Syntax.{w16}
 use mir.Val.{SFits, Fits}
 use Rattle.ints.proofs.Back.{never}
-use Rattle.frames.specs.Writing.{byteOf}
+use Rattle.hexadecimal.specs.Hex.{byteOf}
 
 pub byte-neg : (z : ℤ) → ltZ z (pos 0) ≡ true → 255 ≡ byteOf z
 unfolding byteOf

@@ -4,6 +4,7 @@ use mathlib.Core.Bool.{cond}
 use mathlib.Core.List.{List, [], _∷_, _++_}
 use mathlib.Core.Option.{Option, none, some}
 use lib.Dec.{ltb}
+use lib.IntN.{ℤ, pos, negsuc}
 
 -- ---- read: "hexadecimal lines, either case"
 
@@ -43,3 +44,8 @@ hexByte b = upperDigit (b / 16) ∷ upperDigit (b % 16) ∷ []
 unfoldable pub hexOf : List ℕ → List ℕ
 hexOf [] = []
 hexOf (b ∷ bs) = hexByte b ++ hexOf bs
+
+-- an index as a byte: "FF is -1"
+unfoldable pub byteOf : ℤ → ℕ
+byteOf (pos n) = n % 256
+byteOf (negsuc n) = 255

@@ -8,7 +8,7 @@ use native.Mathlib.Omega.{arith}
 use borrow.Author.Tests.{lt-ltb, le-ltb}
 use lib.ListN.{length, take, drop, getD, set, length-set, drop-of-length-le}
 use lib.Seq.{drop-cons, take-suc-set}
-use Rattle.frames.specs.Hex.{pairVal, prepend, unhexOf}
+use Rattle.hexadecimal.specs.Hex.{pairVal, prepend, unhexOf}
 
 pub prepend-nil : (m : Option (List ℕ)) → prepend [] m ≡ m
 unfolding prepend

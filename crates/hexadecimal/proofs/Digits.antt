@@ -8,7 +8,7 @@ use lib.Seq.{take-all, length-take-le}
 use Rattle.sheet.proofs.Front.{take-next}
 use Rattle.records.specs.Bytes.{splice}
 use Rattle.records.proofs.Splice.{length-splice, splice-none, splice-then}
-use Rattle.frames.specs.Hex.{hexByte, hexOf}
+use Rattle.hexadecimal.specs.Hex.{hexByte, hexOf}
 
 pub length-byte : (b : ℕ) → length (hexByte b) ≡ 2
 unfolding hexByte

@@ -1,9 +1,9 @@
 -- `upper`: the digit of a value below 16. Assumes nothing.
-use Rattle.frames.specs.Hex.{upperDigit}
+use Rattle.hexadecimal.specs.Hex.{upperDigit}
 use borrow.Author.Tests.{lt-ltb, le-ltb}
 use borrow.Author.Needs.{needs}
-use Rattle.frames.proofs.hex.upper.Statement.{statement}
-use Rattle.frames.proofs.hex.upper.Tie as tie
+use Rattle.hexadecimal.proofs.upper.Statement.{statement}
+use Rattle.hexadecimal.proofs.upper.Tie as tie
 
 add-result : tie.Need-add-result
 add-result c = search needs

@@ -3,8 +3,8 @@ use Prim.Native.Nat.{ℕ, _≤_}
 use mathlib.Core.List.{List}
 use mathlib.Core.Option.{Option, none, some}
 use lib.ListN.{take, length}
-use Rattle.frames.specs.declared.Spelt.{Spelt}
-use Rattle.frames.specs.declared.Spelt.the-variants.{Bytes, Bad}
+use Rattle.hexadecimal.specs.declared.Spelt.{Spelt}
+use Rattle.hexadecimal.specs.declared.Spelt.the-variants.{Bytes, Bad}
 
 unfoldable pub spelt : Spelt → List ℕ → Option (List ℕ)
 spelt (Bytes n) l = some (take n l)

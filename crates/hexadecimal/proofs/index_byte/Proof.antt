@@ -1,9 +1,9 @@
 -- `index_byte`: the index by its sign. Assumes nothing.
-use Rattle.frames.proofs.Indices.{byte-neg, byte-nat, nat-fits}
+use Rattle.hexadecimal.proofs.Indices.{byte-neg, byte-nat, nat-fits}
 use mir.Facts.{toZ-ofZ}
 use borrow.Author.Needs.{needs}
-use Rattle.frames.proofs.hex.index_byte.Statement.{statement}
-use Rattle.frames.proofs.hex.index_byte.Tie as tie
+use Rattle.hexadecimal.proofs.index_byte.Statement.{statement}
+use Rattle.hexadecimal.proofs.index_byte.Tie as tie
 
 returns : tie.Need-returns
 returns c = byte-neg (c .before .args .z) (rw (toZ-ofZ (c .before .fits .z)) at (c .if1 .taken))

@@ -1,17 +1,17 @@
 -- `put_indices`: the digits of the first i indices stand. Assumes nothing.
-use Rattle.frames.proofs.Indices.{bytes-at}
+use Rattle.hexadecimal.proofs.Indices.{bytes-at}
 use Rattle.ints.proofs.Back.{back}
 use mir.Syntax.{w16}
-use Rattle.frames.proofs.Digits.{Hexing, hexing-none, hexing-next, hexing-all}
-use Rattle.frames.specs.Writing.{byteOf}
+use Rattle.hexadecimal.proofs.Digits.{Hexing, hexing-none, hexing-next, hexing-all}
+use Rattle.hexadecimal.specs.Hex.{byteOf}
 use mathlib.Core.List.{map}
 use lib.ListN.{length, length-map, getD}
 use lib.IntN.{pos}
 use denote.Ref.{now}
 use Prim.Native.Nat.{_-_}
 use borrow.Author.Needs.{needs}
-use Rattle.frames.proofs.hex.put_indices.Statement.{statement}
-use Rattle.frames.proofs.hex.put_indices.Tie as tie
+use Rattle.hexadecimal.proofs.put_indices.Statement.{statement}
+use Rattle.hexadecimal.proofs.put_indices.Tie as tie
 
 abbrev Inv-loop : tie.InvT-loop
 Inv-loop out₀ at indices i₀ out i = Hexing (map byteOf indices) out₀ at out i

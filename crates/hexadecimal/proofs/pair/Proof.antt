@@ -1,9 +1,9 @@
 -- `pair`: both digits, or 256. Assumes nothing.
-use Rattle.frames.specs.Hex.{pairVal}
+use Rattle.hexadecimal.specs.Hex.{pairVal}
 use borrow.Author.Tests.{lt-ltb, le-ltb}
 use borrow.Author.Needs.{needs}
-use Rattle.frames.proofs.hex.pair.Statement.{statement}
-use Rattle.frames.proofs.hex.pair.Tie as tie
+use Rattle.hexadecimal.proofs.pair.Statement.{statement}
+use Rattle.hexadecimal.proofs.pair.Tie as tie
 
 digit-requires : tie.Need-digit-requires
 digit-requires c κs = search needs

@@ -1,11 +1,11 @@
 -- `put_bytes`: the digits of the first i bytes stand. Assumes nothing.
-use Rattle.frames.proofs.Digits.{Hexing, hexing-none, hexing-next, hexing-all}
+use Rattle.hexadecimal.proofs.Digits.{Hexing, hexing-none, hexing-next, hexing-all}
 use mathlib.Core.Path.{refl}
 use lib.ListN.{length}
 use Prim.Native.Nat.{_-_}
 use borrow.Author.Needs.{needs}
-use Rattle.frames.proofs.hex.put_bytes.Statement.{statement}
-use Rattle.frames.proofs.hex.put_bytes.Tie as tie
+use Rattle.hexadecimal.proofs.put_bytes.Statement.{statement}
+use Rattle.hexadecimal.proofs.put_bytes.Tie as tie
 
 abbrev Inv-loop : tie.InvT-loop
 Inv-loop out₀ at bytes i₀ out i = Hexing bytes out₀ at out i

@@ -1,9 +1,9 @@
 -- `digit`: the test that was taken decides. Assumes nothing.
-use Rattle.frames.specs.Hex.{hexVal}
+use Rattle.hexadecimal.specs.Hex.{hexVal}
 use borrow.Author.Tests.{lt-ltb, le-ltb}
 use borrow.Author.Needs.{needs}
-use Rattle.frames.proofs.hex.digit.Statement.{statement}
-use Rattle.frames.proofs.hex.digit.Tie as tie
+use Rattle.hexadecimal.proofs.digit.Statement.{statement}
+use Rattle.hexadecimal.proofs.digit.Tie as tie
 
 returns : tie.Need-returns
 unfolding hexVal

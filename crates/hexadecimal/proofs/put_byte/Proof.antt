@@ -1,13 +1,13 @@
 -- `put_byte`: two stores are a run of two. Assumes nothing.
 use denote.Ref.{now}
 use Rattle.records.proofs.Splice.{splice-sets}
-use Rattle.frames.specs.Hex.{hexByte}
+use Rattle.hexadecimal.specs.Hex.{hexByte}
 use lib.ListN.{length-set}
 use native.Mathlib.Numerals.{add-one}
 use native.Mathlib.Omega.{arith}
 use borrow.Author.Needs.{needs}
-use Rattle.frames.proofs.hex.put_byte.Statement.{statement}
-use Rattle.frames.proofs.hex.put_byte.Tie as tie
+use Rattle.hexadecimal.proofs.put_byte.Statement.{statement}
+use Rattle.hexadecimal.proofs.put_byte.Tie as tie
 
 upper-requires : tie.Need-upper-requires
 upper-requires c κs = search needs

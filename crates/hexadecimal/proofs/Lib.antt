@@ -1,0 +1,4 @@
+mod Hexes
+pub mod Digits
+mod Indices
+pub mod Trips
