@@ -18,12 +18,12 @@ use Rattle.sheet.specs.Document.{rgbAt}
 use Rattle.edits.specs.declared.Edit.{Edit}
 use Rattle.edits.specs.declared.Edit.the-variants.{PaletteRemove}
 use Rattle.edits.specs.Change.{Change, unpacked, packed}
-use Rattle.palette.specs.declared.Removal.{Removal}
-use Rattle.palette.specs.declared.Removal.the-variants.{Made, Refused}
-use Rattle.palette.specs.Colours.{noLab}
+use Rattle.removals.specs.declared.Removal.{Removal}
+use Rattle.removals.specs.declared.Removal.the-variants.{Made, Refused}
+use Rattle.entries.specs.Unfilled.{noLab}
 use Rattle.pixels.specs.Listing.{placesFrom}
 use Rattle.pixels.proofs.Places.{places-few}
-use Rattle.palette.specs.Removal.{moved, remapOf, Remapped, remapped, removeTo, mergeChecks, mergeEntriesOf}
+use Rattle.removals.specs.Removal.{moved, remapOf, Remapped, remapped, removeTo, mergeChecks, mergeEntriesOf}
 use Rattle.ledger.specs.Calls.{refused}
 use Rattle.ledger.specs.Journal.{State, pushOf}
 use Rattle.editing.specs.Editing.{editing}

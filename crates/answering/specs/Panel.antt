@@ -23,8 +23,8 @@ use Rattle.edits.specs.declared.Edit.{Edit}
 use Rattle.edits.specs.declared.Edit.the-variants as edit
 use Rattle.edits.specs.Change.{Change, packed}
 use Rattle.edits.specs.Checks.{permittedOf}
-use Rattle.palette.specs.Colours.{noLab}
-use Rattle.palette.specs.Removal.{remapOf, mergeChecks}
+use Rattle.entries.specs.Unfilled.{noLab}
+use Rattle.removals.specs.Removal.{remapOf, mergeChecks}
 use Rattle.ledger.specs.Calls.{Outcome, refused, guarded}
 use Rattle.ledger.specs.Calls.Call.{push, undo, redo, mark}
 use Rattle.ledger.specs.Journal.{State, opened, step}

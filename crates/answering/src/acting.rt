@@ -1,5 +1,6 @@
 // What a frame asks of the history of the open sheet.
 use edits::Edit;
+use entries::no_lab;
 use frames::Frame;
 use frames::take_changes;
 use history::Handle;
@@ -9,11 +10,10 @@ use history::push;
 use history::redo;
 use history::undo;
 use limits::Answer;
-use limits::Lab;
 use limits::Rgb;
 use limits::UNREAD_FRAME;
-use palette::Removal;
-use palette::merge_entries;
+use removals::Removal;
+use removals::merge_entries;
 ghost use mathlib.Core.Path.{_≡_};
 ghost use mathlib.Core.Bool.{false};
 ghost use mathlib.Core.List.{[], map};
@@ -23,7 +23,7 @@ ghost use Rattle.limits.specs.declared.Answer.the-variants.{Refused};
 ghost use Rattle.sheet.specs.Sheet.{sheetOf};
 ghost use Rattle.edits.specs.Change.{unpacked};
 ghost use Rattle.edits.specs.declared.Edit.the-variants.{Pixels, PaletteSet};
-ghost use Rattle.palette.specs.Colours.{noLab};
+ghost use Rattle.entries.specs.Unfilled.{noLab};
 ghost use Rattle.ledger.specs.Journal as ledgers;
 ghost use Rattle.editing.specs.Calls.{stateOf, leaves};
 ghost use Rattle.editing.specs.Editing.{editing};
@@ -99,16 +99,6 @@ fn push_pixels(
         n,
         bytes,
     )
-}
-
-fn no_lab() -> Lab
-    ensures { λ r. ⌜ r ≡ noLab ⌝ }
-{
-    Lab {
-        l: 0.0,
-        a: 0.0,
-        b: 0.0,
-    }
 }
 
 // The edit that recolours an entry: push fills in what it was.

@@ -1,4 +1,5 @@
-// Number 10: whether a colour is permitted.
+// Number 10: whether a colour is permitted; an entry's colour, and the LAB of one that is not pushed yet.
+use limits::Lab;
 use limits::Rgb;
 use lists::either;
 use pixels::both;
@@ -7,6 +8,7 @@ ghost use Prim.Native.Nat.{_+_, _*_, _≤_};
 ghost use lib.ListN.{length};
 ghost use Rattle.sheet.specs.Document.{rgbAt};
 ghost use Rattle.edits.specs.Checks.{sameRgb, listed, permittedOf, barred};
+ghost use Rattle.entries.specs.Unfilled.{noLab};
 
 // Entry i of a list of colours, three bytes each.
 pub fn rgb_at(colours: &[u8], i: usize) -> Rgb
@@ -55,4 +57,15 @@ pub fn check_color(limited: bool, permitted: &[u8], c: Rgb) -> bool
         return false;
     }
     !is_listed(permitted, c)
+}
+
+// The LAB of an edit that is not pushed yet: three zeros.
+pub fn no_lab() -> Lab
+    ensures { λ r. ⌜ r ≡ noLab ⌝ }
+{
+    Lab {
+        l: 0.0,
+        a: 0.0,
+        b: 0.0,
+    }
 }

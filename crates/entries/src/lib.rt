@@ -6,6 +6,7 @@ mod storage;
 pub use colours::check_color;
 pub use colours::has_rgb;
 pub use colours::is_listed;
+pub use colours::no_lab;
 pub use colours::rgb_at;
 pub use storage::close_lab_gap;
 pub use storage::close_palette_gap;

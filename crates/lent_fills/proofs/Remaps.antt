@@ -17,12 +17,12 @@ use Rattle.changes.proofs.InScratch.{scratch-none, scratch-then}
 use Rattle.structs.specs.Struct.{least}
 use Rattle.pixels.specs.Listing.{placesFrom}
 use Rattle.pixels.proofs.Places.{places-few}
-use Rattle.palette.specs.declared.Removal.{Removal}
-use Rattle.palette.specs.declared.Removal.the-variants as removal
-use Rattle.palette.specs.Colours.{noLab}
-use Rattle.palette.specs.Nearest.{otherChecks, nearestOther}
-use Rattle.palette.specs.Removal.{remapOf, Remapped, remapped, removeTo, removeEntryOf, mergeChecks, mergeEntriesOf}
-use Rattle.palette.proofs.Answers.{remap-length, remove-refused, remove-past, remove-short, remove-done}
+use Rattle.removals.specs.declared.Removal.{Removal}
+use Rattle.removals.specs.declared.Removal.the-variants as removal
+use Rattle.entries.specs.Unfilled.{noLab}
+use Rattle.removals.specs.Nearest.{otherChecks, nearestOther}
+use Rattle.removals.specs.Removal.{remapOf, Remapped, remapped, removeTo, removeEntryOf, mergeChecks, mergeEntriesOf}
+use Rattle.removals.proofs.Answers.{remap-length, remove-refused, remove-past, remove-short, remove-done}
 use Rattle.lent_fills.specs.Scratch.{removalCount, noRemoval, needingRemap}
 use Rattle.lent_fills.proofs.Listing.{Lists, listed-in, none-same}
 

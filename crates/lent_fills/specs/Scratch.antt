@@ -7,9 +7,9 @@ use Rattle.limits.specs.Numbers.{noSpace}
 use Rattle.limits.specs.Answer.{Filled, filled}
 use Rattle.limits.specs.declared.Counted.{Counted}
 use Rattle.limits.specs.declared.Counted.the-variants as counted
-use Rattle.palette.specs.declared.Removal.{Removal}
-use Rattle.palette.specs.declared.Removal.the-variants as removal
-use Rattle.palette.specs.Removal.{Remapped, remapped}
+use Rattle.removals.specs.declared.Removal.{Removal}
+use Rattle.removals.specs.declared.Removal.the-variants as removal
+use Rattle.removals.specs.Removal.{Remapped, remapped}
 
 -- "scratch under w × h places": 16, where nothing else refuses the call
 unfoldable pub noRoom : Counted → Counted

@@ -1,6 +1,6 @@
 // `remove_entry` and `merge_entries` of palette.rs.
 use limits::NO_SPACE;
-use palette::Removal;
+use removals::Removal;
 use structs::Change;
 use structs::lesser;
 use structs::unpack;
@@ -10,7 +10,7 @@ ghost use lib.ListN.{length};
 ghost use Rattle.sheet.specs.Sheet.{sheetOf};
 ghost use Rattle.changes.specs.Listed.{InScratch};
 ghost use Rattle.structs.specs.Struct.{packedOf};
-ghost use Rattle.palette.specs.Removal.{remapped, removeEntryOf, mergeEntriesOf};
+ghost use Rattle.removals.specs.Removal.{remapped, removeEntryOf, mergeEntriesOf};
 ghost use Rattle.lent_fills.specs.Scratch.{removalCount, noRemoval, needingRemap};
 
 // How many changes a removal has, none where it was refused.
@@ -48,11 +48,11 @@ fn remove_entry_in(
     ensures { λ r. ⌜ InScratch (removalCount r) room (now (scratch .exit)) (remapped r) (needingRemap (length (now (scratch .entry))) (length (now (indices .entry))) (removeEntryOf (sheetOf w h k (now (palette .entry)) (now (lab .entry)) (now (indices .entry))) index)) ⌝ }
 {
     if scratch.len() < indices.len() {
-        let r = palette::remove_entry(w, h, k, palette, lab, indices, index, &mut scratch[..0]);
+        let r = removals::remove_entry(w, h, k, palette, lab, indices, index, &mut scratch[..0]);
         return no_removal(r);
     }
     let m = lesser(room, scratch.len());
-    palette::remove_entry(w, h, k, palette, lab, indices, index, &mut scratch[..m])
+    removals::remove_entry(w, h, k, palette, lab, indices, index, &mut scratch[..m])
 }
 
 // `palette::remove_entry`: an entry removed, its pixels moved to the nearest other. The scratch has a place a pixel.
@@ -91,7 +91,7 @@ fn merge_entries_in(
     ensures { λ r. ⌜ InScratch (removalCount r) room (now (scratch .exit)) (remapped r) (needingRemap (length (now (scratch .entry))) (length (now (indices .entry))) (mergeEntriesOf (sheetOf w h k (now (palette .entry)) (now (lab .entry)) (now (indices .entry))) from into)) ⌝ }
 {
     if scratch.len() < indices.len() {
-        let r = palette::merge_entries(
+        let r = removals::merge_entries(
             w,
             h,
             k,
@@ -105,7 +105,7 @@ fn merge_entries_in(
         return no_removal(r);
     }
     let m = lesser(room, scratch.len());
-    palette::merge_entries(
+    removals::merge_entries(
         w,
         h,
         k,

@@ -1,6 +1,6 @@
 -- The marks of the permitted colours, one by one. Assumes nothing.
 use mathlib.Core.Path.{_≡_, sym, ap, _∙_}
-use mathlib.Core.List.{List, [], _∷_, _++_, map}
+use mathlib.Core.List.{List, [], _∷_, _++_, map, map-append}
 use Prim.Native.Nat.{ℕ, _+_, _<_, _≤_}
 use native.Mathlib.Nat.{zero-add, le-antisymm}
 use lib.ListN.{length, set, length-map}
@@ -10,7 +10,6 @@ use Rattle.lists.proofs.Over.{over-none, over-set}
 use Rattle.sheet.specs.Document.{rgbAt, mark}
 use Rattle.edits.specs.Checks.{listed}
 use Rattle.palette.specs.Colours.{usedOf}
-use Rattle.palette.proofs.Maps.{map-append}
 
 module _ (entries colours : List ℕ) where
   abbrev markAt : ℕ → ℕ

@@ -9,16 +9,15 @@ use Rattle.limits.specs.Limits.{maxEntries}
 use Rattle.limits.specs.Numbers.{noSuchEntry, paletteFull, colourNotPermitted, noSpace}
 use Rattle.limits.specs.Checks.{Check, _when_, firstOf, checked}
 use Rattle.limits.specs.declared.Rgb.{Rgb}
-use Rattle.limits.specs.declared.Lab.{Lab}
 use Rattle.limits.specs.declared.Answer.{Answer}
 use Rattle.limits.specs.declared.Answer.the-variants as answer
 use Rattle.lists.specs.Lists.{range, over}
-use Rattle.doubles.specs.Arithmetic.{decimal}
 use Rattle.sheet.specs.Sheet.{Sheet}
 use Rattle.sheet.specs.Checks.{permittedChecks, sheetChecks, WellFormed}
 use Rattle.sheet.specs.Document.{rgbAt, mark}
 use Rattle.edits.specs.declared.Edit.the-variants.{PaletteSet, PaletteAdd}
 use Rattle.edits.specs.Checks.{Permitted, listed, barred}
+use Rattle.entries.specs.Unfilled.{noLab}
 use Rattle.palette.specs.declared.Choices.{Choices}
 use Rattle.palette.specs.declared.Choices.the-variants as choices
 use Rattle.palette.specs.declared.Made.{Made}
@@ -61,10 +60,6 @@ fixedChoicesOf s p used =
     (cond (p .limited) (chosen (choices.Count n) (over (usedOf (take (3 * s .k) (s .palette)) (p .colours) n) used)) (chosen choices.Free used))
 
 -- ---- `set_color`: 7, 10; `add_color`: 8, 10
--- `[0.0; 3]`: what is filled in from the sheet when the edit is pushed
-unfoldable pub noLab : Lab
-noLab = record { l = decimal 0 1; a = decimal 0 1; b = decimal 0 1 }
-
 unfoldable pub setColorOf : Sheet → Permitted → ℕ → Rgb → Made
 setColorOf s p i c =
     checked (paletteChecks s p ++ (noSuchEntry when leb (s .k) i ∷ colourNotPermitted when barred p c ∷ []))

@@ -1,3 +1,1 @@
 pub mod Colours
-pub mod Nearest
-pub mod Removal

@@ -3,10 +3,10 @@ use crate::Choices;
 use crate::Made;
 use edits::Edit;
 use entries::is_listed;
+use entries::no_lab;
 use entries::rgb_at;
 use limits::Answer;
 use limits::COLOUR_NOT_PERMITTED;
-use limits::Lab;
 use limits::MAX_ENTRIES;
 use limits::NO_SPACE;
 use limits::NO_SUCH_ENTRY;
@@ -21,7 +21,7 @@ ghost use Rattle.lists.specs.Lists.{over};
 ghost use Rattle.sheet.specs.Sheet.{sheetOf};
 ghost use Rattle.sheet.specs.Document.{rgbAt, mark};
 ghost use Rattle.edits.specs.Checks.{permittedOf, listed};
-ghost use Rattle.palette.specs.Colours.{Opened, checkColorOf, usedOf, chosen, fixedChoicesOf, noLab, setColorOf, addColorOf};
+ghost use Rattle.palette.specs.Colours.{Opened, checkColorOf, usedOf, chosen, fixedChoicesOf, setColorOf, addColorOf};
 
 // The number of the first of 1 of the permitted colours and 1 to 3 of the sheet that applies, or 0.
 fn opened_no(
@@ -111,17 +111,6 @@ pub fn fixed_choices(
     let end = 3 * k;
     mark_used(&palette[..end], permitted, n, used);
     Choices::Count(n)
-}
-
-// The LAB of an edit that is not pushed yet: three zeros.
-pub(crate) fn no_lab() -> Lab
-    ensures { λ r. ⌜ r ≡ noLab ⌝ }
-{
-    Lab {
-        l: 0.0,
-        a: 0.0,
-        b: 0.0,
-    }
 }
 
 // The edit that recolours entry `index`.

@@ -7,16 +7,15 @@
 use edits::Edit;
 
 mod colours;
-mod nearest;
-mod remap;
 
 pub use colours::add_color;
 pub use colours::check_color;
 pub use colours::fixed_choices;
 pub use colours::set_color;
-pub use nearest::nearest_other;
-pub use remap::merge_entries;
-pub use remap::remove_entry;
+pub use removals::Removal;
+pub use removals::merge_entries;
+pub use removals::nearest_other;
+pub use removals::remove_entry;
 
 // What `fixed_choices` answers: how many colours there are to choose from, or that all are free.
 pub enum Choices {
@@ -28,11 +27,5 @@ pub enum Choices {
 // What `set_color` and `add_color` answer.
 pub enum Made {
     Edit(Edit),
-    Refused(u8),
-}
-
-// What `remove_entry` and `merge_entries` answer: the edit, and how many changes its list has.
-pub enum Removal {
-    Made { edit: Edit, count: usize },
     Refused(u8),
 }

@@ -5,7 +5,7 @@ use mathlib.Core.Path.{_≡_, refl, sym, ap, _∙_}
 use mathlib.Core.List.{List, [], _∷_, _++_}
 use mathlib.Core.Option.{some}
 use Rattle.limits.specs.Checks.{firstOf, refusedOr}
-use Rattle.palette.specs.Removal.{mergeChecks}
+use Rattle.removals.specs.Removal.{mergeChecks}
 use Rattle.ledger.specs.Calls.{Outcome, play}
 use Rattle.ledger.specs.Journal.{State, step}
 use Rattle.editing.specs.Editing.{editing}

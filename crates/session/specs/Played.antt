@@ -7,8 +7,8 @@ use Rattle.limits.specs.Checks.{firstOf, refusedOr}
 use Rattle.sheet.specs.Document.{rgbAt}
 use Rattle.edits.specs.declared.Edit.the-variants as edit
 use Rattle.edits.specs.Change.{packed}
-use Rattle.palette.specs.Colours.{noLab}
-use Rattle.palette.specs.Removal.{remapOf, mergeChecks}
+use Rattle.entries.specs.Unfilled.{noLab}
+use Rattle.removals.specs.Removal.{remapOf, mergeChecks}
 use Rattle.ledger.specs.Calls.{Call, play}
 use Rattle.ledger.specs.Calls.Call.{push, undo, redo, mark}
 use Rattle.ledger.specs.Journal.{State, step}

@@ -54,11 +54,11 @@ use Rattle.structs.proofs.unpack.Symbol as unpack-def
 use Rattle.structs.proofs.unpack.Symbol.{name as #unpack}
 use Rattle.structs.proofs.unpack.Met as unpack-thm
 use Rattle.sheet.specs.Sheet.{sheetOf}
-use Rattle.palette.specs.Removal.{remapped, mergeEntriesOf}
+use Rattle.removals.specs.Removal.{remapped, mergeEntriesOf}
 use Rattle.lent_fills.specs.Scratch.{removalCount, needingRemap}
-use Rattle.palette.specs.declared.Removal.{Removal}
-use Rattle.palette.proofs.Removal as E
-use Rattle.palette.proofs.Removal.Laws as E′
+use Rattle.removals.specs.declared.Removal.{Removal}
+use Rattle.removals.proofs.Removal as E
+use Rattle.removals.proofs.Removal.Laws as E′
 use Rattle.lent_fills.proofs.removing.merge_entries_in as core
 use Rattle.lent_fills.proofs.removing.merge_entries_in.Symbol as core-def
 use Rattle.lent_fills.proofs.removing.merge_entries_in.Symbol.{name as #core}
