@@ -14,7 +14,7 @@ use Rattle.limits.specs.Checks.{Check, _when_, firstOf, refusedOr}
 use Rattle.limits.proofs.First.{or-else-zero, first-append}
 use Rattle.lists.specs.Lists.{over}
 use Rattle.ints.proofs.Back.{never}
-use Rattle.sheet.specs.Document.{rgbAt}
+use Rattle.triples.specs.Triples.{rgbAt}
 use Rattle.edits.specs.declared.Edit.{Edit}
 use Rattle.edits.specs.declared.Edit.the-variants.{PaletteRemove}
 use Rattle.edits.specs.Change.{Change, unpacked, packed}

@@ -18,7 +18,8 @@ use Rattle.lists.specs.Lists.{over}
 use Rattle.doubles.specs.Arithmetic.{decimal}
 use Rattle.sheet.specs.Sheet.{Sheet, sheetOf}
 use Rattle.sheet.specs.Checks.{limitChecks, indexChecks}
-use Rattle.sheet.specs.Document.{rgbAt, newLab}
+use Rattle.sheet.specs.Document.{newLab}
+use Rattle.triples.specs.Triples.{rgbAt}
 use Rattle.edits.specs.declared.Edit.{Edit}
 use Rattle.edits.specs.declared.Edit.the-variants as edit
 use Rattle.edits.specs.Change.{Change, packed}

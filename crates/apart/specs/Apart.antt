@@ -11,7 +11,7 @@ use Rattle.limits.specs.Limits.{maxEntries}
 use Rattle.limits.specs.Numbers.{noSuchEntry, paletteFull, lastEntry, colourNotPermitted, stillUsed}
 use Rattle.limits.specs.Checks.{Check, _when_}
 use Rattle.sheet.specs.Sheet.{Sheet}
-use Rattle.sheet.specs.Document.{rgbAt}
+use Rattle.triples.specs.Triples.{rgbAt}
 use Rattle.edits.specs.declared.Edit.{Edit}
 use Rattle.edits.specs.declared.Edit.the-variants.{Pixels, PaletteSet, PaletteAdd, PaletteRemove}
 use Rattle.edits.specs.Change.{Change, painted, newOf}

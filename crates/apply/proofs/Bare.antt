@@ -9,7 +9,7 @@ use Rattle.limits.specs.Checks.{_when_, firstOf}
 use Rattle.limits.specs.declared.Rgb.{Rgb}
 use Rattle.limits.specs.declared.Lab.{Lab}
 use Rattle.sheet.specs.Sheet.{Sheet}
-use Rattle.sheet.specs.Document.{rgbAt}
+use Rattle.triples.specs.Triples.{rgbAt}
 use Rattle.edits.specs.declared.Edit.the-variants.{PaletteRemove}
 use Rattle.edits.specs.Change.{Change}
 use Rattle.edits.specs.Checks.{Permitted, sameRgb, pixelChecks, misdirected, remapChecks, leftFrom, ownChecks}

@@ -22,7 +22,7 @@ ghost use lib.ListN.{length};
 ghost use Rattle.limits.specs.Checks.{firstOf};
 ghost use Rattle.limits.specs.declared.Lab.{Lab};
 ghost use Rattle.sheet.specs.Sheet.{sheetOf};
-ghost use Rattle.sheet.specs.Document.{rgbAt};
+ghost use Rattle.triples.specs.Triples.{rgbAt};
 ghost use Rattle.edits.specs.declared.Edit.the-variants.{PaletteSet, PaletteAdd, PaletteRemove};
 ghost use Rattle.edits.specs.Change.{Change, unpacked};
 ghost use Rattle.edits.specs.Checks.{Permitted, permittedOf, sameRgb, ownChecks};

@@ -1,15 +1,15 @@
 // An edit that no check refuses: its record filled in, and the edit done.
 use color::rgb8_to_lab;
-use distances::lab_at;
 use edits::Edit;
 use entries::close_lab_gap;
 use entries::close_palette_gap;
-use entries::rgb_at;
 use entries::store_lab;
 use entries::store_rgb;
 use limits::Rgb;
 use pixels::lower_above;
 use pixels::paint_news;
+use triples::lab_at;
+use triples::rgb_at;
 ghost use mathlib.Core.Path.{_≡_};
 ghost use mathlib.Core.Bool.{false};
 ghost use mathlib.Core.List.{List, map};

@@ -3,44 +3,9 @@
 // end; what the calls answer stands in their own contracts.
 use color::Found;
 use color::Root;
-use limits::Lab;
-use limits::Rgb;
-ghost use Prim.Native.Nat.{_+_, _*_, _≤_};
-ghost use lib.ListN.{length};
-
-// Colour i of a list with three bytes a colour.
-fn rgb_at(rgb: &[u8], i: usize) -> Rgb
-    requires { ⌜ 3 * (i + 1) ≤ length (now rgb) ⌝ }
-{
-    let at = 3 * i;
-    Rgb {
-        r: rgb[at],
-        g: rgb[at + 1],
-        b: rgb[at + 2],
-    }
-}
-
-// Triple i of a list.
-fn lab_at(lab: &[f64], i: usize) -> Lab
-    requires { ⌜ 3 * (i + 1) ≤ length (now lab) ⌝ }
-{
-    let at = 3 * i;
-    Lab {
-        l: lab[at],
-        a: lab[at + 1],
-        b: lab[at + 2],
-    }
-}
-
-// Writes triple i of a list.
-fn put(lab: &mut [f64], i: usize, x: Lab)
-    requires { ⌜ 3 * (i + 1) ≤ length (now lab) ⌝ }
-{
-    let at = 3 * i;
-    lab[at] = x.l;
-    lab[at + 1] = x.a;
-    lab[at + 2] = x.b;
-}
+use triples::lab_at;
+use triples::put_lab;
+use triples::rgb_at;
 
 // The LAB of each colour.
 #[no_mangle]
@@ -51,7 +16,7 @@ pub extern "C" fn bench_lab(rgb: &[u8], lab: &mut [f64]) {
     }
     let mut i = 0;
     while i < n {
-        put(lab, i, color::rgb8_to_lab(rgb_at(rgb, i)));
+        put_lab(lab, i, color::rgb8_to_lab(rgb_at(rgb, i)));
         i += 1;
     }
 }
@@ -66,7 +31,7 @@ pub extern "C" fn bench_lab_lent(rgb: &[u8], lab: &mut [f64]) {
     let t = cielab::table();
     let mut i = 0;
     while i < n {
-        put(lab, i, cielab::lab_in(&t, rgb_at(rgb, i)));
+        put_lab(lab, i, cielab::lab_in(&t, rgb_at(rgb, i)));
         i += 1;
     }
 }

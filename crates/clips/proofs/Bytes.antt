@@ -14,7 +14,7 @@ use Rattle.lists.specs.Lists.{over}
 use Rattle.lists.proofs.Over.{over-none, over-lent, length-over}
 use Rattle.lists.proofs.Collect.{flatMap-append, flatMap-one, length-flatMap}
 use Rattle.ints.specs.Ints.{onAxis}
-use Rattle.sheet.specs.Document.{rgbAt}
+use Rattle.triples.specs.Triples.{rgbAt}
 use Rattle.sheet.proofs.Front.{take-next}
 use Rattle.clips.specs.Clips.{opaque, clear, rgbaOf}
 

@@ -14,7 +14,7 @@ use Rattle.limits.specs.declared.Rgb.{Rgb}
 use Rattle.lists.specs.Lists.{over}
 use Rattle.sheet.specs.Sheet.{Sheet}
 use Rattle.sheet.specs.Checks.{sheetChecks}
-use Rattle.sheet.specs.Document.{rgbAt}
+use Rattle.triples.specs.Triples.{rgbAt}
 use Rattle.spans.specs.Positions.{Position}
 use Rattle.selection.specs.declared.Area.{Area}
 use Rattle.selection.specs.Selection.{positions}

@@ -15,7 +15,8 @@ use lib.Seq.{getD-set-same, getD-set-other}
 use Rattle.limits.specs.declared.Rgb.{Rgb}
 use Rattle.ints.proofs.Back.{never}
 use Rattle.sheet.specs.Sheet.{stray}
-use Rattle.sheet.specs.Document.{rgbAt, mark}
+use Rattle.sheet.specs.Document.{mark}
+use Rattle.triples.specs.Triples.{rgbAt}
 use Rattle.differences.specs.Mask.{shown, sameBytes, differs}
 use Rattle.differences.specs.Tables.{slotOf, Numbered, Shade, Shades}
 use Rattle.sheet.proofs.Entries.{bytesOf, entry}

@@ -7,7 +7,7 @@ use lib.IntN.{ℤ, pos, negsuc}
 use lib.ListN.{getD}
 use Rattle.limits.specs.declared.Rgb.{Rgb}
 use Rattle.sheet.specs.Sheet.{stray}
-use Rattle.sheet.specs.Document.{rgbAt}
+use Rattle.triples.specs.Triples.{rgbAt}
 
 -- the place of an index in a table of 256: the transparent one's is first
 unfoldable pub slotOf : ℤ → ℕ

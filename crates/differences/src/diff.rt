@@ -2,8 +2,8 @@
 //
 // Each palette is turned once into a table with a number for what each index shows, equal where the
 // colours are. A pixel then costs two reads and a comparison, and no branch.
-use entries::rgb_at;
 use limits::Rgb;
+use triples::rgb_at;
 ghost use mathlib.Core.Path.{_≡_};
 ghost use mathlib.Core.Bool.{false, not};
 ghost use Prim.Native.Nat.{_≤_};

@@ -12,7 +12,8 @@ use Rattle.lists.proofs.Scan.{or-left, or-right, some-none}
 use Rattle.limits.specs.declared.Lab.{Lab}
 use Rattle.doubles.specs.Arithmetic.{_⊖_, _⊗_}
 use Rattle.doubles.specs.Finite.{unfit, unfitTriple}
-use Rattle.distances.specs.Nearest.{dist2Of, labAt, distance}
+use Rattle.distances.specs.Nearest.{dist2Of, distance}
+use Rattle.triples.specs.Triples.{labAt}
 use Rattle.doubles.proofs.Signs.{Plus, Finite, fit, sub-number, square-plus, add-plus}
 
 pub record FiniteTriple (q : Lab) : Type 0 where

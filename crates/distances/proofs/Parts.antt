@@ -11,7 +11,8 @@ use lib.Seq.{getD-append-add}
 use lib.Ieee.{Float, nan, inf, lt}
 use Rattle.limits.specs.declared.Lab.{Lab}
 use Rattle.distances.specs.declared.Near.{Near}
-use Rattle.distances.specs.Nearest.{labAt, distance, closer, nearestOf}
+use Rattle.distances.specs.Nearest.{distance, closer, nearestOf}
+use Rattle.triples.specs.Triples.{labAt}
 use Rattle.doubles.proofs.Signs.{Plus, infinity, number}
 use Rattle.distances.proofs.Halves.{Reading, plus, read-dist2, lt-plus, not-beyond, far, both, from, nearest-plus, in-two}
 

@@ -16,7 +16,8 @@ use Rattle.doubles.specs.Arithmetic.{_⊕_, _⊖_, _⊗_}
 use Rattle.doubles.specs.Finite.{unfit, unfitTriple}
 use Rattle.doubles.proofs.Units.{below-or-not}
 use Rattle.distances.specs.declared.Search.{Search}
-use Rattle.distances.specs.Nearest.{dist2Of, labAt, distance, nearestOf, searched, joined, Searched}
+use Rattle.distances.specs.Nearest.{dist2Of, nearestOf, searched, joined, Searched}
+use Rattle.triples.specs.Triples.{labAt}
 use Rattle.distances.proofs.Distances.{each-fit}
 use Rattle.distances.proofs.Halves.{far, from, from-turn, after, in-two}
 

@@ -1,14 +1,15 @@
 -- The nearest entry of a palette, as `nearest_index` of color.rs finds it. Definitions only. Assumes nothing.
-use Prim.Native.Nat.{ℕ, zero, suc, _+_, _*_, _<_}
+use Prim.Native.Nat.{ℕ, zero, suc, _*_, _<_}
 use mathlib.Core.Bool.{cond}
 use lib.Dec.{T}
 use mathlib.Core.List.{List}
-use lib.ListN.{getD, take}
-use lib.Ieee.{Float, nan, inf, lt, le}
+use lib.ListN.{take}
+use lib.Ieee.{Float, inf, lt, le}
 use mathlib.Core.Bool.{false}
 use mathlib.Core.Path.{_≡_}
 use Rattle.limits.specs.declared.Lab.{Lab}
 use Rattle.lists.specs.Lists.{some}
+use Rattle.triples.specs.Triples.{labAt}
 use Rattle.distances.specs.declared.Near.{Near}
 use Rattle.distances.specs.declared.Search.{Search}
 use Rattle.doubles.specs.Arithmetic.{_⊕_, _⊖_, _⊗_}
@@ -21,10 +22,6 @@ dist2Of p q =
     let d1 = p .a ⊖ q .a in
     let d2 = p .b ⊖ q .b in
     d0 ⊗ d0 ⊕ d1 ⊗ d1 ⊕ d2 ⊗ d2
-
--- entry i of the LAB storage
-unfoldable pub labAt : List Float → ℕ → Lab
-labAt lab i = record { l = getD lab (3 * i) nan; a = getD lab (3 * i + 1) nan; b = getD lab (3 * i + 2) nan }
 
 -- how far entry i is
 abbrev pub distance : Lab → List Float → ℕ → Float

@@ -2,7 +2,6 @@
 mod nearest;
 
 pub use nearest::dist2;
-pub use nearest::lab_at;
 pub use nearest::nearest_in;
 pub use nearest::search_in;
 

@@ -2,12 +2,13 @@
 use crate::Near;
 use crate::Search;
 use limits::Lab;
+use triples::lab_at;
 ghost use mathlib.Core.Path.{_≡_};
 ghost use mathlib.Core.Bool.{cond};
 ghost use Prim.Native.Nat.{_+_, _*_, _≤_};
 ghost use lib.ListN.{length};
 ghost use lib.Ieee.{lt};
-ghost use Rattle.distances.specs.Nearest.{dist2Of, labAt, distance, nearestOf, searched, joined, Searched};
+ghost use Rattle.distances.specs.Nearest.{dist2Of, distance, nearestOf, searched, joined, Searched};
 
 // The squared distance of two colours.
 pub fn dist2(p: Lab, q: Lab) -> f64
@@ -17,19 +18,6 @@ pub fn dist2(p: Lab, q: Lab) -> f64
     let d1 = p.a - q.a;
     let d2 = p.b - q.b;
     d0 * d0 + d1 * d1 + d2 * d2
-}
-
-// Entry i of the LAB storage.
-pub fn lab_at(lab: &[f64], i: usize) -> Lab
-    requires { ⌜ 3 * (i + 1) ≤ length (now lab) ⌝ }
-    ensures { λ r. ⌜ r ≡ labAt (now (lab .entry)) i ⌝ }
-{
-    let at = 3 * i;
-    Lab {
-        l: lab[at],
-        a: lab[at + 1],
-        b: lab[at + 2],
-    }
 }
 
 // How far entry i is.

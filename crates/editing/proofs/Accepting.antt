@@ -14,7 +14,7 @@ use Rattle.limits.specs.declared.Answer.the-variants.{Done}
 use Rattle.lists.specs.Lists.{over}
 use Rattle.lists.proofs.Scan.{some-none}
 use Rattle.doubles.specs.Finite.{unfit}
-use Rattle.distances.specs.Nearest.{labAt}
+use Rattle.triples.specs.Triples.{labAt}
 use Rattle.cielab.specs.Convert.{labOf}
 use Rattle.sheet.specs.Sheet.{Sheet}
 use Rattle.sheet.specs.Checks.{WellFormed}

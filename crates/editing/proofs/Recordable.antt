@@ -12,7 +12,7 @@ use lib.ListN.{length, getD, length-map}
 use Rattle.limits.specs.Limits.{maxChanges}
 use Rattle.lists.specs.Lists.{some}
 use Rattle.lists.proofs.Nowhere.{first-not, rest-not}
-use Rattle.distances.specs.Nearest.{labAt}
+use Rattle.triples.specs.Triples.{labAt}
 use Rattle.sheet.specs.Sheet.{Sheet}
 use Rattle.sheet.specs.Checks.{WellFormed}
 use Rattle.edits.specs.declared.Edit.{Edit}

@@ -8,10 +8,9 @@ use lib.Ieee.{Float, nan}
 use lib.ListN.{length, take}
 use lib.Seq.{getD-take}
 use Rattle.limits.specs.Limits.{maxEntries, storage}
-use Rattle.distances.specs.Nearest.{labAt}
+use Rattle.triples.specs.Triples.{labAt, rgbAt}
 use Rattle.sheet.specs.Sheet.{Sheet}
 use Rattle.sheet.specs.Checks.{WellFormed}
-use Rattle.sheet.specs.Document.{rgbAt}
 use Rattle.sheet.proofs.Entries.{three}
 use Rattle.edits.specs.Storage.{bytesOf, numbersOf, stored, closed, opened, cut}
 use Rattle.edits.proofs.Storage.{entryAt, stored-length, closed-length, opened-length, stored-shows, stored-more, closed-shows, set-undone, add-undone, remove-undone}

@@ -10,8 +10,7 @@ use Rattle.limits.specs.declared.Rgb.{Rgb}
 use Rattle.limits.specs.declared.Lab.{Lab}
 use Rattle.lists.specs.Lists.{some}
 use Rattle.sheet.specs.Sheet.{Sheet, Picture, sheetOf}
-use Rattle.sheet.specs.Document.{rgbAt}
-use Rattle.distances.specs.Nearest.{labAt}
+use Rattle.triples.specs.Triples.{rgbAt, labAt}
 use Rattle.edits.specs.declared.Edit.{Edit}
 use Rattle.edits.specs.declared.Edit.the-variants.{Pixels, PaletteSet, PaletteAdd, PaletteRemove}
 use Rattle.edits.specs.Change.{Change, outside, painted, newOf, oldOf, filledIn}

@@ -13,7 +13,7 @@ use Rattle.limits.specs.declared.Rgb.{Rgb}
 use Rattle.lists.specs.Lists.{some}
 use Rattle.ints.specs.Ints.{eqZ}
 use Rattle.sheet.specs.Sheet.{Sheet, Picture, sheetOf, stray}
-use Rattle.sheet.specs.Document.{rgbAt}
+use Rattle.triples.specs.Triples.{rgbAt}
 use Rattle.edits.specs.declared.Edit.{Edit}
 use Rattle.edits.specs.declared.Edit.the-variants.{Pixels, PaletteSet, PaletteAdd, PaletteRemove}
 use Rattle.edits.specs.Change.{Change, place, outside}

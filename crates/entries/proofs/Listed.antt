@@ -8,7 +8,7 @@ use native.Mathlib.Numerals.{towards-suc}
 use lib.ListN.{length, getD, drop, length-drop}
 use lib.Seq.{drop-cons}
 use Rattle.limits.specs.declared.Rgb.{Rgb}
-use Rattle.sheet.specs.Document.{rgbAt}
+use Rattle.triples.specs.Triples.{rgbAt}
 use Rattle.edits.specs.Checks.{sameRgb, listed}
 
 -- three elements that stand one after the other

@@ -6,22 +6,9 @@ use pixels::both;
 ghost use mathlib.Core.Path.{_≡_};
 ghost use Prim.Native.Nat.{_+_, _*_, _≤_};
 ghost use lib.ListN.{length};
-ghost use Rattle.sheet.specs.Document.{rgbAt};
+ghost use Rattle.triples.specs.Triples.{rgbAt};
 ghost use Rattle.edits.specs.Checks.{sameRgb, listed, permittedOf, barred};
 ghost use Rattle.entries.specs.Unfilled.{noLab};
-
-// Entry i of a list of colours, three bytes each.
-pub fn rgb_at(colours: &[u8], i: usize) -> Rgb
-    requires { ⌜ 3 * i + 3 ≤ length (now colours) ⌝ }
-    ensures { λ r. ⌜ r ≡ rgbAt (now (colours .entry)) i ⌝ }
-{
-    let at = 3 * i;
-    Rgb {
-        r: colours[at],
-        g: colours[at + 1],
-        b: colours[at + 2],
-    }
-}
 
 // Whether entry i is this colour.
 pub fn has_rgb(colours: &[u8], i: usize, c: Rgb) -> bool

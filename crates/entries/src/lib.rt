@@ -7,7 +7,6 @@ pub use colours::check_color;
 pub use colours::has_rgb;
 pub use colours::is_listed;
 pub use colours::no_lab;
-pub use colours::rgb_at;
 pub use storage::close_lab_gap;
 pub use storage::close_palette_gap;
 pub use storage::open_lab_gap;

@@ -5,7 +5,7 @@ use mathlib.Core.List.{List, [], _∷_, _++_, map}
 use lib.IntN.{ℤ}
 use Rattle.sheet.specs.Document.{mark}
 use Rattle.records.specs.Bytes.{le}
-use Rattle.hexadecimal.specs.Hex.{hexOf}
+use Rattle.hexadecimal.specs.Hex.{hexOf, byteOf}
 
 -- "answer (00 done, FF still, else number), position (2), dirty, k"
 unfoldable pub headOf : ℕ → ℕ → Bool → ℕ → List ℕ

@@ -5,11 +5,10 @@ use lib.Ieee.{span, climb, odd, units, ofFields, ofBits, toBits, size}
 use Rattle.limits.specs.Checks.{firstOf, refusedOr}
 use Rattle.lists.specs.Lists as lists
 use Rattle.doubles.specs.Finite.{unfit}
-use Rattle.distances.specs.Nearest.{labAt}
+use Rattle.triples.specs.Triples.{labAt, rgbAt}
 use Rattle.ints.specs.Ints.{eqZ}
 use Rattle.sheet.specs.Sheet.{view, stray}
 use Rattle.sheet.specs.Checks.{limitChecks, permittedChecks, indexChecks, labChecks, sheetChecks}
-use Rattle.sheet.specs.Document.{rgbAt}
 use Rattle.edits.specs.Change.{unpacked, place, outside, painted, filledIn}
 use Rattle.edits.specs.Checks.{barred, pixelChecks, misdirected, remapChecks, named, leftFrom, ownChecks}
 use Rattle.edits.specs.Storage as storage

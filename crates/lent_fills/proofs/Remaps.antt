@@ -9,7 +9,7 @@ use lib.ListN.{length, take, drop, length-map}
 use Rattle.limits.specs.Checks.{Check, firstOf}
 use Rattle.lists.specs.Lists.{over}
 use Rattle.sheet.specs.Sheet.{Sheet}
-use Rattle.sheet.specs.Document.{rgbAt}
+use Rattle.triples.specs.Triples.{rgbAt}
 use Rattle.edits.specs.declared.Edit.the-variants.{PaletteRemove}
 use Rattle.edits.specs.Change.{packed}
 use Rattle.changes.specs.Listed.{InScratch}

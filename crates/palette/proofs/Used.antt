@@ -7,7 +7,8 @@ use lib.ListN.{length, set, length-map}
 use Rattle.lists.specs.Lists.{range, over}
 use Rattle.lists.proofs.Collect.{length-range, range-next}
 use Rattle.lists.proofs.Over.{over-none, over-set}
-use Rattle.sheet.specs.Document.{rgbAt, mark}
+use Rattle.sheet.specs.Document.{mark}
+use Rattle.triples.specs.Triples.{rgbAt}
 use Rattle.edits.specs.Checks.{listed}
 use Rattle.palette.specs.Colours.{usedOf}
 

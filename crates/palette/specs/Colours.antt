@@ -14,7 +14,8 @@ use Rattle.limits.specs.declared.Answer.the-variants as answer
 use Rattle.lists.specs.Lists.{range, over}
 use Rattle.sheet.specs.Sheet.{Sheet}
 use Rattle.sheet.specs.Checks.{permittedChecks, sheetChecks, WellFormed}
-use Rattle.sheet.specs.Document.{rgbAt, mark}
+use Rattle.sheet.specs.Document.{mark}
+use Rattle.triples.specs.Triples.{rgbAt}
 use Rattle.edits.specs.declared.Edit.the-variants.{PaletteSet, PaletteAdd}
 use Rattle.edits.specs.Checks.{Permitted, listed, barred}
 use Rattle.entries.specs.Unfilled.{noLab}

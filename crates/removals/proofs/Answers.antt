@@ -15,7 +15,7 @@ use Rattle.lists.specs.Lists.{over}
 use Rattle.color.specs.declared.Found.the-variants as found
 use Rattle.sheet.specs.Sheet.{Sheet}
 use Rattle.sheet.specs.Checks.{sheetChecks, WellFormed, Judged}
-use Rattle.sheet.specs.Document.{rgbAt}
+use Rattle.triples.specs.Triples.{rgbAt}
 use Rattle.sheet.proofs.Judging.{past-sheet}
 use Rattle.edits.specs.declared.Edit.the-variants.{PaletteRemove}
 use Rattle.edits.specs.Change.{packed}

@@ -16,7 +16,8 @@ use Rattle.lists.proofs.Scan.{some-none}
 use Rattle.lists.proofs.Nowhere.{or-both, nowhere-take}
 use Rattle.doubles.specs.Finite.{unfit, unfitTriple}
 use Rattle.distances.specs.declared.Near.{Near}
-use Rattle.distances.specs.Nearest.{dist2Of, labAt, distance, nearestOf, FirstNearest}
+use Rattle.distances.specs.Nearest.{dist2Of, distance, nearestOf, FirstNearest}
+use Rattle.triples.specs.Triples.{labAt}
 use Rattle.distances.proofs.FirstNearest.{first-nearest}
 use Rattle.distances.proofs.Parts.{parts, nearest-within}
 use Rattle.edits.specs.Storage.{cut}

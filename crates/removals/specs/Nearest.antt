@@ -8,7 +8,8 @@ use lib.ListN.{take}
 use lib.Ieee.{Float, lt, le}
 use Rattle.limits.specs.Numbers.{noSuchEntry, lastEntry}
 use Rattle.limits.specs.Checks.{Check, _when_, firstOf, checked}
-use Rattle.distances.specs.Nearest.{labAt, distance, nearestOf}
+use Rattle.distances.specs.Nearest.{distance, nearestOf}
+use Rattle.triples.specs.Triples.{labAt}
 use Rattle.color.specs.declared.Found.{Found}
 use Rattle.color.specs.declared.Found.the-variants as found
 use Rattle.sheet.specs.Sheet.{Sheet}

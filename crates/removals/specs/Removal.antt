@@ -10,7 +10,7 @@ use Rattle.limits.specs.Checks.{Check, _when_, checked}
 use Rattle.lists.specs.Lists.{over}
 use Rattle.sheet.specs.Sheet.{Sheet}
 use Rattle.sheet.specs.Checks.{sheetChecks}
-use Rattle.sheet.specs.Document.{rgbAt}
+use Rattle.triples.specs.Triples.{rgbAt}
 use Rattle.edits.specs.declared.Edit.the-variants.{PaletteRemove}
 use Rattle.edits.specs.Change.{Change, packed}
 use Rattle.pixels.specs.Listing.{placesFrom}

@@ -1,10 +1,10 @@
 // The entry that is nearest to another: `nearest_other`.
 use color::Found;
-use distances::lab_at;
 use distances::nearest_in;
 use limits::LAST_ENTRY;
 use limits::NO_SUCH_ENTRY;
 use sheet::check;
+use triples::lab_at;
 ghost use mathlib.Core.Path.{_≡_};
 ghost use mathlib.Core.Bool.{false};
 ghost use Prim.Native.Nat.{_*_, _<_, _≤_};

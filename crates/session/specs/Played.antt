@@ -4,7 +4,7 @@ use Prim.Native.Nat.{ℕ}
 use mathlib.Core.List.{List, [], _∷_, _++_, map}
 use mathlib.Core.Bool.{false}
 use Rattle.limits.specs.Checks.{firstOf, refusedOr}
-use Rattle.sheet.specs.Document.{rgbAt}
+use Rattle.triples.specs.Triples.{rgbAt}
 use Rattle.edits.specs.declared.Edit.the-variants as edit
 use Rattle.edits.specs.Change.{packed}
 use Rattle.entries.specs.Unfilled.{noLab}

@@ -12,7 +12,8 @@ use Rattle.limits.specs.declared.Lab.{Lab}
 use Rattle.cielab.specs.Convert.{labOf}
 use Rattle.lists.specs.Lists.{over}
 use Rattle.lists.proofs.Over.{over-is}
-use Rattle.sheet.specs.Document.{labsOf, rgbAt, withLab}
+use Rattle.sheet.specs.Document.{labsOf}
+use Rattle.triples.specs.Triples.{rgbAt, withLab}
 use Rattle.sheet.proofs.Front.{written}
 use Rattle.sheet.proofs.Entries.{bytesOf, entry}
 

@@ -5,11 +5,9 @@ use mathlib.Core.List.{List, [], _∷_, _++_}
 use lib.Dec.{ltb}
 use lib.IntN.{ℤ, pos, negsuc}
 use lib.Ieee.{Float}
-use lib.ListN.{getD, set, take}
+use lib.ListN.{getD, take}
 use Rattle.limits.specs.Numbers.{tooFar}
 use Rattle.limits.specs.Checks.{_when_, checked}
-use Rattle.limits.specs.declared.Rgb.{Rgb}
-use Rattle.limits.specs.declared.Lab.{Lab}
 use Rattle.limits.specs.declared.Answer.{Answer}
 use Rattle.limits.specs.declared.Answer.the-variants as answer
 use Rattle.lists.specs.Lists.{over}
@@ -31,13 +29,6 @@ labsOf (r ∷ g ∷ b ∷ rest) = let x = labOf (record { r = r; g = g; b = b })
 labsOf (r ∷ g ∷ []) = []
 labsOf (r ∷ []) = []
 labsOf [] = []
-
--- entry i of a palette, and LAB storage with entry i set
-unfoldable pub rgbAt : List ℕ → ℕ → Rgb
-rgbAt palette i = record { r = getD palette (3 * i) 0; g = getD palette (3 * i + 1) 0; b = getD palette (3 * i + 2) 0 }
-
-unfoldable pub withLab : List Float → ℕ → Lab → List Float
-withLab lab i x = set (set (set lab (3 * i) (x .l)) (3 * i + 1) (x .a)) (3 * i + 2) (x .b)
 
 unfoldable pub newLab : Sheet → List Float
 newLab s = over (labsOf (take (3 * s .k) (s .palette))) (s .lab)

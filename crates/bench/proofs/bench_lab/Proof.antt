@@ -25,8 +25,8 @@ rgb-at-requires c κs = search needs
 rgb8-to-lab-requires : tie.Need-rgb8-to-lab-requires Inv-loop μ-loop
 rgb8-to-lab-requires c κs = search needs
 
-put-requires : tie.Need-put-requires Inv-loop μ-loop
-put-requires c κs = search needs
+put-lab-requires : tie.Need-put-lab-requires Inv-loop μ-loop
+put-lab-requires c κs = search needs
 
 add-i : tie.Need-add-i Inv-loop μ-loop
 add-i c = search needs
@@ -53,7 +53,7 @@ bench-lab-spec =
     loop-holds
     rgb-at-requires
     rgb8-to-lab-requires
-    put-requires
+    put-lab-requires
     add-i
     loop-less
     loop-again

@@ -28,8 +28,8 @@ rgb-at-requires c κs = search needs
 lab-in-requires : tie.Need-lab-in-requires Inv-loop μ-loop
 lab-in-requires c κs = search needs
 
-put-requires : tie.Need-put-requires Inv-loop μ-loop
-put-requires c κs = search needs
+put-lab-requires : tie.Need-put-lab-requires Inv-loop μ-loop
+put-lab-requires c κs = search needs
 
 add-i : tie.Need-add-i Inv-loop μ-loop
 add-i c = search needs
@@ -57,7 +57,7 @@ bench-lab-lent-spec =
     loop-holds
     rgb-at-requires
     lab-in-requires
-    put-requires
+    put-lab-requires
     add-i
     loop-less
     loop-again

@@ -10,7 +10,7 @@ use mir.Facts.{toZ-ofZ}
 use Rattle.lists.specs.Lists.{over}
 use Rattle.ints.specs.Ints.{onAxis}
 use Rattle.ints.proofs.Back.{by-value}
-use Rattle.sheet.specs.Document.{rgbAt}
+use Rattle.triples.specs.Triples.{rgbAt}
 use Rattle.clips.proofs.Bytes.{rgba-entry, rgba-none}
 use Rattle.clips.proofs.rgba.put_rgba.Statement.{statement}
 use Rattle.clips.proofs.rgba.put_rgba.Tie as tie

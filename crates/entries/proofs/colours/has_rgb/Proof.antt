@@ -1,6 +1,6 @@
 -- `has_rgb`: the tests are the definition's. Assumes nothing.
 use borrow.Author.Needs.{needs}
-use Rattle.sheet.specs.Document.{rgbAt}
+use Rattle.triples.specs.Triples.{rgbAt}
 use Rattle.edits.specs.Checks.{sameRgb}
 use Rattle.entries.proofs.colours.has_rgb.Statement.{statement}
 use Rattle.entries.proofs.colours.has_rgb.Tie as tie

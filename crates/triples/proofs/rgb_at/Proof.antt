@@ -1,9 +1,9 @@
--- `rgb_at`: the code is the definition. Assumes nothing.
+-- `rgb_at` meets its contract: the code is the definition. Assumes nothing.
 use mathlib.Core.Path.{refl}
-use Rattle.sheet.specs.Document.{rgbAt}
+use Rattle.triples.specs.Triples.{rgbAt}
 use borrow.Author.Needs.{needs}
-use Rattle.entries.proofs.colours.rgb_at.Statement.{statement}
-use Rattle.entries.proofs.colours.rgb_at.Tie as tie
+use Rattle.triples.proofs.rgb_at.Statement.{statement}
+use Rattle.triples.proofs.rgb_at.Tie as tie
 
 mul-at : tie.Need-mul-at
 mul-at c = search needs

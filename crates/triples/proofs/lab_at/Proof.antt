@@ -1,9 +1,9 @@
--- `nearest::lab_at` meets its contract: the code is the definition. Assumes nothing.
+-- `lab_at` meets its contract: the code is the definition. Assumes nothing.
 use mathlib.Core.Path.{refl}
 use borrow.Author.Needs.{needs}
-use Rattle.distances.specs.Nearest.{labAt}
-use Rattle.distances.proofs.nearest.lab_at.Statement.{statement}
-use Rattle.distances.proofs.nearest.lab_at.Tie as tie
+use Rattle.triples.specs.Triples.{labAt}
+use Rattle.triples.proofs.lab_at.Statement.{statement}
+use Rattle.triples.proofs.lab_at.Tie as tie
 
 mul-at : tie.Need-mul-at
 mul-at c = search needs

@@ -1,10 +1,11 @@
--- `bench::put` stays inside its slice: a store keeps the length.
--- Assumes nothing.
-use borrow.Author.Needs.{needs}
+-- `put_lab` meets its contract: the code is the definition. Assumes nothing.
+use mathlib.Core.Path.{refl}
 use native.Mathlib.Omega.{arith}
 use lib.ListN.{length-set}
-use Rattle.bench.proofs.put.Statement.{statement}
-use Rattle.bench.proofs.put.Tie as tie
+use Rattle.triples.specs.Triples.{withLab}
+use borrow.Author.Needs.{needs}
+use Rattle.triples.proofs.put_lab.Statement.{statement}
+use Rattle.triples.proofs.put_lab.Tie as tie
 
 mul-at : tie.Need-mul-at
 mul-at c = search needs
@@ -37,10 +38,11 @@ same-length : tie.Need-same-length
 same-length c = search needs
 
 returns : tie.Need-returns
-returns c = search needs
+unfolding withLab
+returns c = refl
 
-pub put-spec : {M : Type 1} → statement M
-put-spec =
+pub put-lab-spec : {M : Type 1} → statement M
+put-lab-spec =
     tie.close
     (tie.spec
     mul-at
