@@ -16,7 +16,7 @@ use Rattle.sheet.specs.Sheet.{Sheet}
 use Rattle.sheet.specs.Checks.{WellFormed}
 use Rattle.edits.specs.Change.{outside, unpacked}
 use Rattle.pixels.proofs.Fitting.{pixel-fits}
-use Rattle.mirroring.specs.Marks.{Mirrorable}
+use Rattle.mirroring.specs.Mirror.{Mirrorable}
 use Rattle.mirror.specs.Calls.{divides, touching, straying}
 
 -- ---- by the tests

@@ -19,8 +19,7 @@ use Rattle.sheet.specs.Sheet.{Sheet}
 use Rattle.sheet.specs.Checks.{sheetChecks}
 use Rattle.edits.specs.Change.{outside, packed, unpacked}
 use Rattle.changes.specs.Listed.{handed}
-use Rattle.mirroring.specs.Mirror.{mirrored}
-use Rattle.mirroring.specs.Marks.{Mirrorable}
+use Rattle.mirroring.specs.Mirror.{mirrored, Mirrorable}
 use Rattle.mirror.specs.declared.Stage.{Stage}
 use Rattle.mirror.specs.declared.Stage.the-variants.{Canvas, Refused}
 

@@ -18,8 +18,9 @@ use Rattle.selection.specs.Selection.{contains}
 use Rattle.edits.specs.Change.{Change, unpacked}
 use Rattle.normal.specs.Normal.{joined}
 use Rattle.normal.specs.Laws.{folded, firstLast}
-use Rattle.mirroring.specs.Marks.{run, placeAt, oldBits, newBits, lastIn, elsewhere, markBy, landBy, pendingBy}
-use Rattle.mirroring.proofs.Runs.{run-hit, run-miss, run-none}
+use Rattle.marking.specs.Marks.{run, placeAt, newBits, lastIn, elsewhere, markBy, landBy}
+use Rattle.pending.specs.Pending.{oldBits, pendingBy}
+use Rattle.marking.proofs.Runs.{run-hit, run-miss, run-none}
 
 -- ---- one change more
 unfoldable onto : List Change → Change → List Change

@@ -12,8 +12,8 @@ use Rattle.tiling.specs.Cells.{Tiled, cellCount, orderOf, firstCell, codeOf}
 use Rattle.tiling.proofs.Corners.{across, down}
 use Rattle.tiling.proofs.Firsts.{first-le, first-flip}
 use Rattle.tiling.proofs.Flipping.{turned-below, turned-twice, joint-self}
-use Rattle.mirroring.specs.Mirror.{cellAt, columnIn, rowIn}
-use Rattle.mirroring.specs.Marks.{cellOfPlace, classBy, classOf}
+use Rattle.marking.specs.Cell.{cellAt, columnIn, rowIn}
+use Rattle.marking.specs.Marks.{cellOfPlace, classBy, classOf}
 
 plain : (t i : ℕ) → turned false t i ≡ i
 unfolding turned

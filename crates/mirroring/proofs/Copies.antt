@@ -28,8 +28,9 @@ use Rattle.tiling.proofs.Firsts.{first-le}
 use Rattle.tiling.proofs.Flipping.{turned-below}
 use Rattle.tiling.proofs.Ranks.{id-same, same-id}
 use Rattle.tiling.proofs.Agreeing.{extract-is}
-use Rattle.mirroring.specs.Mirror.{entryIn, cellAt, columnIn, rowIn, copyAt, copyIn, instances, copiesOf}
-use Rattle.mirroring.specs.Marks.{cellOfPlace, classOf}
+use Rattle.marking.specs.Cell.{cellAt, columnIn, rowIn}
+use Rattle.marking.specs.Marks.{cellOfPlace, classOf}
+use Rattle.mirroring.specs.Mirror.{entryIn, copyAt, copyIn, instances, copiesOf}
 use Rattle.mirroring.proofs.Places.{keyAt}
 use Rattle.mirroring.proofs.AtPlace.{copyTo}
 use Rattle.mirroring.proofs.Coordinates.{turned-back, column-mod, row-mod, column-on, row-on, cell-back, cell-below, column-of, row-of, flipOf, tileX, tileY, classIn, class-is, class-same}

@@ -1,8 +1,3 @@
-pub mod Flips
-pub mod Runs
-pub mod Spreading
-pub mod Landing
-pub mod Emitting
 pub mod Places
 pub mod AtPlace
 pub mod Written

@@ -26,9 +26,10 @@ use Rattle.tiling.specs.Cells.{cellCount, codeOf, firstCells}
 use Rattle.tiling.specs.Extract.{extractOf}
 use Rattle.tiling.proofs.Rows.{getD-map, length-first, first-next, first-at}
 use Rattle.tiling.proofs.Corners.{across, area}
-use Rattle.mirroring.specs.Mirror.{copiesOf, mirrorChanges, mirrored}
-use Rattle.mirroring.specs.Marks.{cellOfPlace, classBy, classOf, run, placeAt, markBy, markedBy, marked, landBy, landed, pendingBy, pending, emitted, emittedAll, Listed, Coded, Classes, Marks, Mirrorable}
-use Rattle.mirroring.proofs.Runs.{mark-small, marked-class, marked-mark}
+use Rattle.marking.specs.Marks.{cellOfPlace, classBy, classOf, run, placeAt, markBy, markedBy, marked, landBy, landed, Listed, Coded, Classes, Marks}
+use Rattle.pending.specs.Pending.{pendingBy, pending, emitted, emittedAll}
+use Rattle.marking.proofs.Runs.{mark-small, marked-class, marked-mark}
+use Rattle.mirroring.specs.Mirror.{copiesOf, mirrorChanges, mirrored, Mirrorable}
 use Rattle.mirroring.proofs.Places.{flat-same, keyAt, key-place, key-same, normal-gathered}
 use Rattle.mirroring.proofs.AtPlace.{copies, own, copyTo, all-waiting, waiting-landed}
 use Rattle.mirroring.proofs.Written.{emitted-is}

@@ -11,10 +11,11 @@ use mir.Syntax.{w16}
 use mir.Val.{SFits, toZ, ofZ}
 use mir.ValLaws.{ofZ-toZ, toZ-ofZ, ofZ-fits}
 use Rattle.edits.specs.Change.{packed}
-use Rattle.changes.specs.Between.{differenceOf}
 use Rattle.normal.specs.Normal.{kept, changing}
+use Rattle.changes.specs.Between.{differenceOf}
 use Rattle.normal.proofs.Packing.{eqZ-bits}
-use Rattle.mirroring.specs.Marks.{newBits, oldIn, emitted}
+use Rattle.marking.specs.Marks.{newBits}
+use Rattle.pending.specs.Pending.{oldIn, emitted}
 use Rattle.mirroring.proofs.AtPlace.{waitingAt}
 
 module _ (w : ℕ) (l : List ℤ) (p v : ℕ) (fits : SFits w16 (getD l p (pos 0))) where

@@ -1,32 +1,25 @@
 -- `mirror_tiles` of tools.rs, statement by statement, over `extract`'s map. Definitions only. Assumes nothing.
-use Prim.Native.Nat.{ℕ, _+_, _*_, _/_, _%_}
+use Prim.Native.Nat.{ℕ, _+_, _*_, _%_, _≤_, _<_, _^_}
 use mathlib.Core.Bool.{false, not, cond, _&&_}
 use mathlib.Core.List.{List, [], _∷_, _++_, flatMap}
 use lib.Dec.{eqb}
 use lib.IntN.{ℤ, pos}
 use lib.ListN.{length, getD}
+use mir.Syntax.{w16}
+use mir.Val.{SFits}
 use Rattle.lists.specs.Lists.{range}
 use Rattle.selection.specs.declared.Selection.{Selection}
 use Rattle.selection.specs.Selection.{contains}
-use Rattle.edits.specs.Change.{Change}
+use Rattle.edits.specs.Change.{Change, unpacked}
 use Rattle.normal.specs.Normal.{kept, normalizeOf}
 use Rattle.tiling.specs.Tile.{turned}
+use Rattle.tiling.specs.Cells.{Tiled}
 use Rattle.tiling.specs.Extract.{Entry, Extracted, extractOf}
+use Rattle.marking.specs.Cell.{cellAt, columnIn, rowIn}
 
 -- `map[cell]`
 unfoldable pub entryIn : Extracted → ℕ → Entry
 entryIn e cell = getD (e .entries) cell (record { tile = 0; h = false; v = false })
-
--- `(c.y / t) * columns + c.x / t`, with `columns = w / t`
-unfoldable pub cellAt : ℕ → ℕ → ℕ → ℕ → ℕ
-cellAt w t x y = y / t * (w / t) + x / t
-
--- `let x = (other % columns) * t + flip(tx, oh); let y = (other / columns) * t + flip(ty, ov);`
-unfoldable pub columnIn : ℕ → ℕ → ℕ → ℕ → ℕ
-columnIn w t other tx = other % (w / t) * t + tx
-
-unfoldable pub rowIn : ℕ → ℕ → ℕ → ℕ → ℕ
-rowIn w t other ty = other / (w / t) * t + ty
 
 -- `if region.contains(x, y) { out.push(PixelChange { x, y, old: doc.get(x, y), new: c.new }) }`
 unfoldable pub copyAt : ℕ → List ℤ → Selection → ℤ → ℕ → ℕ → List Change
@@ -55,3 +48,12 @@ mirrorChanges w t l region e cs = flatMap (copiesOf w t l region e) cs ++ cs
 -- "computed on the document before the change"; `normalize(out)`
 unfoldable pub mirrored : ℕ → ℕ → ℕ → List ℤ → Selection → List Change → List Change
 mirrored w h t l region cs = normalizeOf (mirrorChanges w t l region (extractOf w h t l) cs)
+
+-- ---- what the steps together ask: a sheet that is cut into tiles, and changes on it
+pub record Mirrorable (w h t : ℕ) (l : List ℤ) (list : List ℕ) : Type 0 where
+  pub tiled : Tiled w h t l
+  pub fits : (p : ℕ) → SFits w16 (getD l p (pos 0))
+  pub some : 0 < length list
+  pub few : length list ≤ 2 ^ 20
+  pub across : (j : ℕ) → j < length list → unpacked (getD list j 0) .x < w
+  pub down : (j : ℕ) → j < length list → unpacked (getD list j 0) .y < h

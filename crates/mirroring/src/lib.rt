@@ -4,15 +4,11 @@
 // Two places are the same pixel of one tile where they have the same class: the place of that pixel in the first cell of
 // the tile. One pass marks each class with its last change; one takes that change's new to every place of the class;
 // then the caller's changes go over that, and one scan of the rows writes what is pending. All share the scratch.
-mod classes;
-mod marks;
-mod waiting;
-
-use crate::classes::spread;
-use crate::marks::land_all;
-use crate::marks::mark_all;
-use crate::waiting::emit;
-use crate::waiting::pend_all;
+use marking::land_all;
+use marking::mark_all;
+use marking::spread;
+use pending::emit;
+use pending::pend_all;
 use selection::Selection;
 use tiling::first_cells;
 ghost use mathlib.Core.Path.{_≡_};
@@ -21,8 +17,7 @@ ghost use Prim.Native.Nat.{_*_, _≤_};
 ghost use lib.ListN.{length};
 ghost use Rattle.edits.specs.Change.{packed, unpacked};
 ghost use Rattle.changes.specs.Fronts.{Front};
-ghost use Rattle.mirroring.specs.Mirror.{mirrored};
-ghost use Rattle.mirroring.specs.Marks.{Mirrorable};
+ghost use Rattle.mirroring.specs.Mirror.{mirrored, Mirrorable};
 
 // The same in as many numbers as there are places.
 fn mirror_all(

@@ -1,0 +1,4 @@
+pub mod Flips
+pub mod Runs
+pub mod Spreading
+pub mod Landing
