@@ -1,17 +1,10 @@
 // The class of each place, from the codes of the cells.
+use tiling::turn;
 ghost use mathlib.Core.Path.{_≡_};
 ghost use Prim.Native.Nat.{ℕ, _+_, _*_, _/_, _%_, _≤_, _<_, _^_};
 ghost use lib.ListN.{length, getD};
-ghost use Rattle.tiling.specs.Tile.{turned, flipAt};
+ghost use Rattle.tiling.specs.Tile.{flipAt};
 ghost use Rattle.marking.specs.Marks.{cellOfPlace, classBy, Coded};
-
-// i counted from the other side, where a flip asks for it.
-fn turn(flip: bool, t: usize, i: usize) -> usize
-    requires { ⌜ i < t ⌝ }
-    ensures { λ r. ⌜ (r ≡ turned flip t i) × (r < t) ⌝ }
-{
-    if flip { t - 1 - i } else { i }
-}
 
 // The two flips of an order: none, h, v, both.
 fn flips_h(code: u64) -> bool

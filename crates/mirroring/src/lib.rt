@@ -4,13 +4,13 @@
 // Two places are the same pixel of one tile where they have the same class: the place of that pixel in the first cell of
 // the tile. One pass marks each class with its last change; one takes that change's new to every place of the class;
 // then the caller's changes go over that, and one scan of the rows writes what is pending. All share the scratch.
+use chains::first_cells;
 use marking::land_all;
 use marking::mark_all;
 use marking::spread;
 use pending::emit;
 use pending::pend_all;
 use selection::Selection;
-use tiling::first_cells;
 ghost use mathlib.Core.Path.{_≡_};
 ghost use mathlib.Core.List.{map};
 ghost use Prim.Native.Nat.{_*_, _≤_};

@@ -1,13 +1,13 @@
 // `extract` at tolerance 0. The core leaves the first cell of each cell in the scratch; these are numbered there, in
 // order, and only then the tiles and the map are written.
 use crate::Extraction;
+use chains::first_cells;
 use laying::copy_tiles;
 use laying::number_tiles;
 use laying::put_map;
 use limits::BAD_CLIP;
 use limits::NO_SPACE;
 use sheet::check;
-use tiling::first_cells;
 ghost use mathlib.Core.Path.{_≡_};
 ghost use lib.ListN.{length};
 ghost use Rattle.sheet.specs.Sheet.{sheetOf};

@@ -9,7 +9,6 @@ use lib.ListN.{length, getD}
 use Rattle.tiling.specs.Tile.{grid, turned, orderTo}
 use Rattle.tiling.specs.Cells.{Tiled, cellCount, cellOf, cornerOf, orderOf}
 use Rattle.tiling.specs.Seen.{rowSeen, tileSeen, tileAt, Lies}
-use Rattle.tiling.specs.Table.{keyOf, chainOf, scaled, bucketOf}
 use Rattle.tiling.proofs.Grids.{length-grid, grid-same}
 
 less-one : (t w : ℕ) → 0 < t → (t - 1) * w + w ≡ t * w
@@ -34,11 +33,6 @@ pub cell-seen : (w t : ℕ) (l : List ℤ) (c : ℕ) → tileAt l (cornerOf w t 
 unfolding tileSeen rowSeen grid turned cellOf cornerOf
 cell-seen w t l c = grid-same t (λ y x. getD l (c / (w / t) * t * w + c % (w / t) * t + y * w + x) (pos 0)) (λ y x. getD l ((c / (w / t) * t + y) * w + c % (w / t) * t + x) (pos 0))
     (λ y x h k. ap (λ (p : ℕ). getD l p (pos 0)) (omega arith))
-
--- a cell's bucket, from its key
-pub bucket-is : (w t : ℕ) (l : List ℤ) (n c : ℕ) {r key corner m : ℕ} → corner ≡ cornerOf w t c → key ≡ keyOf t (tileAt l corner w t) → m ≡ n → r ≡ scaled key m → r ≡ bucketOf w t l n c
-unfolding bucketOf chainOf
-bucket-is w t l n c a b e q = rw (← e, ← cell-seen w t l c, ← a, ← b) q
 
 -- the order of two cells, where they lie
 pub order-is : (w t : ℕ) (l : List ℤ) (c f : ℕ) {r p q : ℕ} → p ≡ cornerOf w t c → q ≡ cornerOf w t f → r ≡ orderTo t (tileAt l p w t) (tileAt l q w t) → r ≡ orderOf w t l c f

@@ -12,7 +12,7 @@ use Rattle.lists.specs.Lists.{range}
 use Rattle.lists.proofs.Collect.{length-range}
 use Rattle.tiling.specs.Tile.{isFlipOf}
 use Rattle.tiling.specs.Cells.{cellOf, orderOf, firstCell, codeOf}
-use Rattle.tiling.specs.Table.{keyOf}
+use Rattle.tiling.specs.Key.{keyOf}
 use Rattle.tiling.proofs.Rows.{range-at}
 use Rattle.tiling.proofs.Positions.{position-le, position-has, position-none}
 use Rattle.tiling.proofs.Orders.{FlipOf, order-flip, flip-order, flip-trans, flip-sym, flip-self, flip-key}

@@ -8,7 +8,7 @@ use lib.IntN.{ℤ, pos}
 use lib.ListN.{length, getD}
 use Rattle.tiling.specs.Tile.{grid, turned, flipped}
 use Rattle.tiling.specs.Seen.{rowSeen, tileSeen, tileAt}
-use Rattle.tiling.specs.Table.{numberOf, keyOf}
+use Rattle.tiling.specs.Key.{numberOf, keyOf}
 use Rattle.tiling.proofs.Grids.{length-grid, grid-at, grid-same, grid-of}
 
 -- one flip after another, on one axis

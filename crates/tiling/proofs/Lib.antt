@@ -8,7 +8,5 @@ pub mod Positions
 pub mod Orders
 pub mod Corners
 pub mod Firsts
-pub mod Chains
-pub mod Entering
 pub mod Ranks
 pub mod Agreeing

@@ -10,7 +10,7 @@ use lib.ListN.{length, getD}
 use Rattle.lists.specs.Lists.{range, over}
 use Rattle.tiling.specs.Tile.{turned, sameTile}
 use Rattle.tiling.specs.Seen.{inRow, rowSeen, rowOf, tileSeen, tileAt, Lies}
-use Rattle.tiling.specs.Table.{mixedAll}
+use Rattle.tiling.specs.Key.{mixedAll}
 use Rattle.tiling.proofs.Rows.{length-first, length-rows}
 use Rattle.tiling.proofs.Sameness.{same-rows, differ-rows}
 

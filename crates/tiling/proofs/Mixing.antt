@@ -4,7 +4,7 @@ use mathlib.Core.List.{List, [], _∷_, _++_, map, flatMap}
 use Prim.Native.Nat.{ℕ, _+_}
 use lib.IntN.{ℤ}
 use Rattle.lists.specs.Lists.{range}
-use Rattle.tiling.specs.Table.{mixed, mixedAll}
+use Rattle.tiling.specs.Key.{mixed, mixedAll}
 use Rattle.tiling.proofs.Rows.{first-next, rows-more}
 
 pub mixed-append : (n : ℕ) (k l : List ℤ) → mixedAll n (k ++ l) ≡ mixedAll (mixedAll n k) l

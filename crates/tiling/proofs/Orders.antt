@@ -14,7 +14,7 @@ use Rattle.tiling.specs.Tile.{flipped, flips, flipAt, turnedBy, sameTile
 use Rattle.tiling.proofs.Rows.{range-at}
 use Rattle.tiling.proofs.Sameness.{same-equal, equal-same}
 use Rattle.tiling.specs.Seen.{tileSeen, tileAt}
-use Rattle.tiling.specs.Table.{keyOf}
+use Rattle.tiling.specs.Key.{keyOf}
 use Rattle.tiling.proofs.Flipping.{joint, flipped-twice, flipped-none, flipped-back, seen-flipped, key-flipped}
 use Rattle.tiling.proofs.Positions.{position-le, position-has, position-none}
 

@@ -3,5 +3,5 @@ pub mod Cells
 pub mod Extract
 pub mod Reconstruct
 pub mod Seen
-pub mod Table
+pub mod Key
 pub mod Ids

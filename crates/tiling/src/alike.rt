@@ -35,7 +35,7 @@ fn same_tile(src: &[i16], p: usize, q: usize, stride: usize, t: usize, fh: bool,
 }
 
 // The first of the flips none, h, v, both by which the tile at p is the tile at q; 4 where there is none.
-pub(crate) fn order_to(src: &[i16], p: usize, q: usize, stride: usize, t: usize) -> u64
+pub fn order_to(src: &[i16], p: usize, q: usize, stride: usize, t: usize) -> u64
     requires { ⌜ Lies (length (now src)) p stride t × Lies (length (now src)) q stride t ⌝ }
     ensures { λ r. ⌜ r ≡ orderTo t (tileAt (now (src .entry)) p stride t) (tileAt (now (src .entry)) q stride t) ⌝ }
 {

@@ -1,10 +1,12 @@
-// Tiles: the flips of a tile, and for each cell of a sheet the first cell that it is a flip of, found in a pass over
-// the cells with a table in the scratch. The functions ask their caller for what they need.
+// Tiles: the flips of a tile, read where it lies, compared with another and numbered. The functions ask their caller for
+// what they need.
 mod alike;
-mod key;
+mod keys;
 mod reading;
-mod table;
 
+pub use alike::order_to;
+pub use keys::key;
+pub use keys::scale;
 pub use reading::copy_tile;
-pub use table::corner_of;
-pub use table::first_cells;
+pub use reading::corner_of;
+pub use reading::turn;

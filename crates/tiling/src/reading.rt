@@ -1,13 +1,14 @@
-// A tile read where it lies, from either side: t rows that are `stride` apart, from `corner` on.
+// A tile read where it lies, from either side: t rows that are `stride` apart, from `corner` on; and the corner of a cell.
 ghost use mathlib.Core.Path.{_≡_};
-ghost use Prim.Native.Nat.{_+_, _*_, _≤_, _<_};
+ghost use Prim.Native.Nat.{_+_, _*_, _≤_, _<_, _^_};
 ghost use lib.ListN.{length};
 ghost use Rattle.lists.specs.Lists.{over};
 ghost use Rattle.tiling.specs.Tile.{turned};
+ghost use Rattle.tiling.specs.Cells.{cornerOf};
 ghost use Rattle.tiling.specs.Seen.{rowSeen, tileSeen, Lies};
 
 // i counted from the other side, where a flip asks for it.
-pub(crate) fn turn(flip: bool, t: usize, i: usize) -> usize
+pub fn turn(flip: bool, t: usize, i: usize) -> usize
     requires { ⌜ i < t ⌝ }
     ensures { λ r. ⌜ (r ≡ turned flip t i) × (r < t) ⌝ }
 {
@@ -41,4 +42,13 @@ pub fn copy_tile(
         let to = y * t;
         copy_row(src, corner + turn(fv, t, y) * stride, t, fh, &mut out[to..]);
     }
+}
+
+// Where cell c begins.
+pub fn corner_of(w: usize, t: usize, c: usize) -> usize
+    requires { ⌜ (0 < t) × (t ≤ w) × (cornerOf w t c < 2 ^ 20) ⌝ }
+    ensures { λ r. ⌜ r ≡ cornerOf w t c ⌝ }
+{
+    let wt = w / t;
+    c / wt * t * w + c % wt * t
 }
