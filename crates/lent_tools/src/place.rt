@@ -9,7 +9,8 @@ ghost use mathlib.Core.List.{map};
 ghost use lib.ListN.{length};
 ghost use Rattle.sheet.specs.Sheet.{sheetOf};
 ghost use Rattle.structs.specs.Struct.{packedOf};
-ghost use Rattle.moves.specs.Moves.{moveCall, pasteCall, left};
+ghost use Rattle.pasting.specs.Pasting.{pasteCall, left};
+ghost use Rattle.moves.specs.Moves.{moveCall};
 
 // `moves::move_selection`: the selection's contents moved by (dx, dy).
 pub fn move_selection(

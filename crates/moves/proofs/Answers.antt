@@ -1,6 +1,6 @@
--- What the calls answer, by what their tests find. Assumes nothing.
+-- What `move_selection` answers, by what its tests find. Assumes nothing.
 use Prim.Native.Nat.{ℕ, zero, suc, _+_, _-_, _≤_, _<_}
-use mathlib.Core.Path.{_≡_, refl, sym, ap, _∙_}
+use mathlib.Core.Path.{_≡_, refl, sym, _∙_}
 use mathlib.Core.Bool.{Bool, true, false, not, cond, _||_}
 use mathlib.Core.List.{List, [], _∷_, _++_, map}
 use native.Mathlib.Omega.{arith}
@@ -13,10 +13,9 @@ use lib.Signed.{mag, ltZ}
 use mir.Syntax.{w32}
 use mir.Val.{ofZ, SFits}
 use Rattle.limits.specs.Numbers.{badSheet, offTheSheet, tooFar, noSpace}
-use Rattle.limits.specs.Checks.{Check, _when_, firstOf, refusedOr}
-use Rattle.limits.specs.Answer.{Filled, filled}
+use Rattle.limits.specs.Checks.{_when_, firstOf, refusedOr}
+use Rattle.limits.specs.Answer.{filled}
 use Rattle.limits.specs.declared.Counted.{Counted}
-use Rattle.limits.specs.declared.Counted.the-variants as counted
 use Rattle.limits.proofs.First.{first-past, first-here, past, past-both}
 use Rattle.lists.proofs.Bools.{and-left, and-right}
 use Rattle.ints.specs.Ints.{eqZ}
@@ -31,16 +30,15 @@ use Rattle.selection.specs.Selection.{inside, rectangle, fromCorners, translate
 use Rattle.selection.specs.Calls.{tooLarge, farAway, shiftChecks, translatedOf}
 use Rattle.selection.proofs.Checks.{near}
 use Rattle.selection.proofs.Regions.{part-other}
-use Rattle.edits.specs.Change.{Change, packed}
+use Rattle.edits.specs.Change.{packed}
 use Rattle.changes.specs.Fronts.{Front}
-use Rattle.changes.specs.Listed.{handed, countOf, InScratch}
-use Rattle.changes.proofs.Handing.{listed-refused, listed-done}
-use Rattle.changes.proofs.InScratch.{scratch-then}
+use Rattle.changes.specs.Listed.{handed}
 use Rattle.normal.specs.Normal.{normalizeOf}
-use Rattle.moves.specs.declared.Shifted.{Shifted}
-use Rattle.moves.specs.declared.Shifted.the-variants as shifted-of
-use Rattle.moves.specs.Blocks.{Movable}
-use Rattle.moves.specs.Moves.{unmoved, moveChanges, movedList, movedSelection, Left, left, shiftedCount, shiftedOf, leaves, moveChecks, moveCall}
+use Rattle.pasting.specs.Pasting.{left, shiftedOf}
+use Rattle.pasting.specs.declared.Shifted.{Shifted}
+use Rattle.pasting.specs.declared.Shifted.the-variants as shifted-of
+use Rattle.pasting.proofs.Answers.{leaves-refused, leaves-done}
+use Rattle.moves.specs.Moves.{Movable, unmoved, moveChanges, movedList, movedSelection, moveChecks, moveCall}
 
 -- ---- shift 0
 zero-bits : (z : ℤ) → mag z < 2147483648 → eqb (ofZ w32 z) 0 ≡ eqZ z (pos 0)
@@ -190,35 +188,7 @@ module _ (t : Sheet) (s : Selection) (dx dy : ℤ) (room : ℕ) where
           };
         }
 
--- ---- what a call leaves
-module _ (checks : List Check) (cs : List Change) (c : Chosen) (out : List ℕ) where
-  pub leaves-refused : (n : ℕ) → n ≡ firstOf checks → (n ≡ 0 → ⊥) → left (shifted-of.Refused n) out ≡ leaves checks cs c out
-  unfolding leaves shiftedOf
-  leaves-refused n e z = rw (← listed-refused checks cs out n e z)
-
-  pub leaves-done : {a : Counted} {s m : List ℕ} {n : ℕ} → firstOf checks ≡ 0 → Front (map packed cs) s n → filled a m ≡ handed (take n s) out
-      → left (shiftedOf c a) m ≡ leaves checks cs c out
-  unfolding leaves
-  leaves-done e f d = rw (← listed-done checks cs out e f d)
-
-pub shifted-count : (s : Chosen) {c : Counted} {n : ℕ} → c ≡ counted.Count n → shifted-of.Changes n s ≡ shiftedOf s c
-unfolding shiftedOf
-shifted-count s e = rw e
-
-pub shifted-refused : (s : Chosen) {c : Counted} {n : ℕ} → c ≡ counted.Refused n → shifted-of.Refused n ≡ shiftedOf s c
-unfolding shiftedOf
-shifted-refused s e = rw e
-
-count-kept : (s : Chosen) (a : Counted) → shiftedCount (shiftedOf s a) ≡ countOf a
-unfolding shiftedOf
-count-kept s (counted.Count n) = refl
-count-kept s (counted.Refused n) = refl
-
--- a list that is left in the scratch, beside a selection
-pub shifted-in : {a : Counted} (c : Chosen) {r : Shifted} {places : ℕ} {s : List ℕ} {call : List ℕ → Left} {listing : List ℕ → Filled ℕ} → InScratch (countOf a) places s (filled a) listing → r ≡ shiftedOf c a
-    → ((out after : List ℕ) → filled a after ≡ listing out → left r after ≡ call out) → InScratch (shiftedCount r) places s (left r) call
-shifted-in {a} c k e f = rw (ap shiftedCount e ∙ count-kept c a) (scratch-then k (λ out after h d. f out after d))
-
+-- ---- what the call leaves
 module _ (t : Sheet) (s : Selection) (dx dy : ℤ) (room : ℕ) (out : List ℕ) where
   pub move-refused : {n : ℕ} → n ≡ firstOf (moveChecks t s dx dy room) → (n ≡ 0 → ⊥) → left (shifted-of.Refused n) out ≡ moveCall t s dx dy room out
   unfolding moveCall

@@ -13,7 +13,9 @@ use Rattle.selection.specs.declared.Chosen.the-variants.{Part, Nothing}
 use Rattle.selection.specs.Selection.{rectangle, fromCorners, translated, positions, all}
 use Rattle.edits.specs.Change.{place, painted, newOf}
 use Rattle.normal.specs.Normal.{keyOf, joined, enter, entered, kept, changing, normalizeOf}
-use Rattle.moves.specs.Moves.{ontoGot, onto, landed, cleared, moveChanges, unmoved, movedList, movedSelection, pasteChanges, pastedSelection}
+use Rattle.blocks.specs.Blocks.{ontoGot, onto, landed}
+use Rattle.pasting.specs.Pasting.{pasteChanges, pastedSelection}
+use Rattle.moves.specs.Moves.{cleared, moveChanges, unmoved, movedList, movedSelection}
 
 abbrev pub at : ℕ → ℕ → ℕ → ℕ → Selection
 at x y w h = record { x = x; y = y; w = w; h = h }

@@ -1,9 +1,3 @@
-pub mod Drawing
-pub mod Landings
-pub mod Collected
-pub mod Painting
 pub mod Placing
 pub mod Answers
-pub mod Spans
-pub mod Clips
 pub mod Examples

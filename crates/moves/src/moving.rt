@@ -1,13 +1,14 @@
 // `move_selection`.
-use crate::Shifted;
-use crate::blocks::clear_rows;
-use crate::blocks::land;
+use blocks::clear_rows;
+use blocks::land;
 use changes::copy_out;
 use changes::counted;
 use changes::differences;
 use changes::lay;
-use limits::Counted;
 use limits::NO_SPACE;
+use pasting::Shifted;
+use pasting::shifted_count;
+use pasting::shifted_of;
 use selection::Chosen;
 use selection::Selection;
 use sheet::check;
@@ -21,8 +22,8 @@ ghost use Rattle.edits.specs.Change.{packed};
 ghost use Rattle.changes.specs.Fronts.{Front};
 ghost use Rattle.changes.specs.Listed.{InScratch};
 ghost use Rattle.normal.specs.Normal.{normalizeOf};
-ghost use Rattle.moves.specs.Blocks.{Movable};
-ghost use Rattle.moves.specs.Moves.{unmoved, moveChanges, movedList, movedSelection, shiftedOf, moveChecks, moveCall, left, shiftedCount};
+ghost use Rattle.pasting.specs.Pasting.{left, shiftedCount};
+ghost use Rattle.moves.specs.Moves.{Movable, unmoved, moveChanges, movedList, movedSelection, moveChecks, moveCall};
 
 // Shift 0.
 fn is_unmoved(dx: i32, dy: i32) -> bool
@@ -128,29 +129,6 @@ fn moved_selection(s: Selection, dx: i32, dy: i32, w: usize, h: usize) -> Chosen
     s.translated(dx, dy, w, h)
 }
 
-// What a call answers with a list that was counted and a selection.
-pub(crate) fn shifted(counted: Counted, selection: Chosen) -> Shifted
-    ensures { λ r. ⌜ r ≡ shiftedOf selection counted ⌝ }
-{
-    match counted {
-        Counted::Count(count) => Shifted::Changes { count, selection },
-        Counted::Refused(no) => Shifted::Refused(no),
-    }
-}
-
-// How many changes such a call left, none where it was refused.
-pub fn shifted_count(answer: Shifted) -> usize
-    ensures { λ r. ⌜ r ≡ shiftedCount answer ⌝ }
-{
-    match answer {
-        Shifted::Changes {
-            count,
-            selection: _,
-        } => count,
-        Shifted::Refused(_) => 0,
-    }
-}
-
 // Moves the selection's contents by (dx, dy): transparency where they were, the moved indices where they land,
 // clipped to the sheet. The changes are left at the front of the scratch for a
 // buffer of `room` places.
@@ -175,7 +153,7 @@ pub fn move_selection_in(
         return Shifted::Refused(no);
     }
     let n = list_moved(w, h, indices, s, dx, dy, scratch);
-    shifted(counted(n, room), moved_selection(s, dx, dy, w, h))
+    shifted_of(counted(n, room), moved_selection(s, dx, dy, w, h))
 }
 
 // The same at the front of out.

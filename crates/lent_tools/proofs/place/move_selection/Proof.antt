@@ -56,21 +56,22 @@ use Rattle.structs.proofs.unpack.Symbol as unpack-def
 use Rattle.structs.proofs.unpack.Symbol.{name as #unpack}
 use Rattle.structs.proofs.unpack.Met as unpack-thm
 use Rattle.sheet.specs.Sheet.{sheetOf}
-use Rattle.moves.specs.Moves.{left, shiftedCount, moveCall}
-use Rattle.moves.specs.declared.Shifted.{Shifted}
+use Rattle.pasting.specs.Pasting.{left, shiftedCount}
+use Rattle.moves.specs.Moves.{moveCall}
+use Rattle.pasting.specs.declared.Shifted.{Shifted}
 use Rattle.selection.specs.declared.Selection.{Selection}
-use Rattle.moves.proofs.Shifted as E
-use Rattle.moves.proofs.Shifted.Laws as E′
+use Rattle.pasting.proofs.Shifted as E
+use Rattle.pasting.proofs.Shifted.Laws as E′
 use Rattle.selection.proofs.Selection as Selection-T
 use Rattle.selection.proofs.Selection.Laws as Selection-T′
 use Rattle.moves.proofs.move_selection_in as core
 use Rattle.moves.proofs.move_selection_in.Symbol as core-def
 use Rattle.moves.proofs.move_selection_in.Symbol.{name as #core}
 use Rattle.moves.proofs.move_selection_in.Met as core-thm
-use Rattle.moves.proofs.shifted_count as counting
-use Rattle.moves.proofs.shifted_count.Symbol as counting-def
-use Rattle.moves.proofs.shifted_count.Symbol.{name as #counting}
-use Rattle.moves.proofs.shifted_count.Met as counting-thm
+use Rattle.pasting.proofs.shifted_count as counting
+use Rattle.pasting.proofs.shifted_count.Symbol as counting-def
+use Rattle.pasting.proofs.shifted_count.Symbol.{name as #counting}
+use Rattle.pasting.proofs.shifted_count.Met as counting-thm
 use Rattle.lent_tools.proofs.place.move_selection.Key.{name as #own}
 use Rattle.lent_tools.proofs.place.move_selection as f
 use Rattle.lent_tools.proofs.place.move_selection.Statement as stated

@@ -55,18 +55,18 @@ use Rattle.structs.proofs.unpack.Symbol as unpack-def
 use Rattle.structs.proofs.unpack.Symbol.{name as #unpack}
 use Rattle.structs.proofs.unpack.Met as unpack-thm
 use Rattle.sheet.specs.Sheet.{sheetOf}
-use Rattle.moves.specs.Moves.{left, shiftedCount, pasteCall}
-use Rattle.moves.specs.declared.Shifted.{Shifted}
-use Rattle.moves.proofs.Shifted as E
-use Rattle.moves.proofs.Shifted.Laws as E′
-use Rattle.moves.proofs.paste_in as core
-use Rattle.moves.proofs.paste_in.Symbol as core-def
-use Rattle.moves.proofs.paste_in.Symbol.{name as #core}
-use Rattle.moves.proofs.paste_in.Met as core-thm
-use Rattle.moves.proofs.shifted_count as counting
-use Rattle.moves.proofs.shifted_count.Symbol as counting-def
-use Rattle.moves.proofs.shifted_count.Symbol.{name as #counting}
-use Rattle.moves.proofs.shifted_count.Met as counting-thm
+use Rattle.pasting.specs.Pasting.{pasteCall, left, shiftedCount}
+use Rattle.pasting.specs.declared.Shifted.{Shifted}
+use Rattle.pasting.proofs.Shifted as E
+use Rattle.pasting.proofs.Shifted.Laws as E′
+use Rattle.pasting.proofs.paste_in as core
+use Rattle.pasting.proofs.paste_in.Symbol as core-def
+use Rattle.pasting.proofs.paste_in.Symbol.{name as #core}
+use Rattle.pasting.proofs.paste_in.Met as core-thm
+use Rattle.pasting.proofs.shifted_count as counting
+use Rattle.pasting.proofs.shifted_count.Symbol as counting-def
+use Rattle.pasting.proofs.shifted_count.Symbol.{name as #counting}
+use Rattle.pasting.proofs.shifted_count.Met as counting-thm
 use Rattle.lent_tools.proofs.place.paste.Key.{name as #own}
 use Rattle.lent_tools.proofs.place.paste as f
 use Rattle.lent_tools.proofs.place.paste.Statement as stated

@@ -4,9 +4,10 @@ use lib.ListN.{length}
 use mir.Facts.{toZ-ofZ}
 use Rattle.limits.specs.Checks.{firstOf}
 use Rattle.sheet.specs.Sheet.{sheetOf}
+use Rattle.pasting.proofs.Answers.{shifted-in}
 use Rattle.moves.specs.Moves.{moveChecks}
 use Rattle.changes.proofs.Fronts.{front-within}
-use Rattle.moves.proofs.Answers.{shifted-in, move-movable, move-shiftable, move-refused, move-done}
+use Rattle.moves.proofs.Answers.{move-movable, move-shiftable, move-refused, move-done}
 use Rattle.changes.proofs.InScratch.{scratch-none}
 use borrow.Author.Needs.{needs}
 use Rattle.moves.proofs.moving.move_selection_in.Statement.{statement}
@@ -30,8 +31,8 @@ counted-requires c κs = search needs
 moved-selection-requires : tie.Need-moved-selection-requires
 moved-selection-requires c κs = rw (toZ-ofZ (c .before .before .before .before .before .before .before .before .before .before .fits .dx), toZ-ofZ (c .before .before .before .before .before .before .before .before .before .before .fits .dy)) (move-shiftable _ _ _ _ _ (sym (number (c .before .before .before .before .before .before)) ∙ c .before .before .before .before .before .if1 .left))
 
-shifted-requires : tie.Need-shifted-requires
-shifted-requires c κs = search needs
+shifted-of-requires : tie.Need-shifted-of-requires
+shifted-of-requires c κs = search needs
 
 same-length : tie.Need-same-length
 same-length c = search needs
@@ -40,7 +41,7 @@ returns-2 : tie.Need-returns-2
 returns-2 c =
     let f = rw (toZ-ofZ (c .before .before .before .before .before .before .before .before .before .before .before .before .fits .dx), toZ-ofZ (c .before .before .before .before .before .before .before .before .before .before .before .before .fits .dy)) at (c .before .before .before .before .before .list-moved .ensures) in
     let sel = rw (toZ-ofZ (c .before .before .before .before .before .before .before .before .before .before .before .before .fits .dx), toZ-ofZ (c .before .before .before .before .before .before .before .before .before .before .before .before .fits .dy)) at (c .before .moved-selection .ensures) in
-    (shifted-in _ (c .before .before .counted .ensures _ (front-within f)) (c .shifted .ensures) (λ out after d. move-done _ _ _ _ _ out (sym (number (c .before .before .before .before .before .before .before .before)) ∙ c .before .before .before .before .before .before .before .if1 .left) f d sel (c .shifted .ensures)), search needs)
+    (shifted-in _ (c .before .before .counted .ensures _ (front-within f)) (c .shifted-of .ensures) (λ out after d. move-done _ _ _ _ _ out (sym (number (c .before .before .before .before .before .before .before .before)) ∙ c .before .before .before .before .before .before .before .if1 .left) f d sel (c .shifted-of .ensures)), search needs)
 
 pub move-selection-in-spec : {M : Type 1} → statement M
 move-selection-in-spec =
@@ -51,6 +52,6 @@ move-selection-in-spec =
     list-moved-requires
     counted-requires
     moved-selection-requires
-    shifted-requires
+    shifted-of-requires
     same-length
     returns-2)

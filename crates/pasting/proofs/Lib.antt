@@ -1,0 +1,4 @@
+pub mod Answers
+mod Pasting
+mod Spans
+mod Clips
