@@ -10,14 +10,13 @@ use borrow.Author.Tests.{eq-eqb, ne-eqb, eqb-true, eqb-false, ltb-false, le-ltb}
 use lib.Dec.{eqb}
 use lib.IntN.{ℤ, pos, negsuc, natAbs, sucℤ, _+ℤ_, _-ℤ_, +ℤ-sucℤ, +ℤ-idr, +ℤ-one, +ℤ-comm, +ℤ-invr, +ℤ-negℤ-cancel, -ℤ-+ℤ-cancel}
 use lib.Signed.{ltZ, pos-natAbs}
-use Rattle.lists.specs.Lists.{range}
+use Rattle.lists.specs.Lists.{range, kept}
 use Rattle.ints.specs.Ints.{eqZ, fromZero, minZ, maxZ}
 use Rattle.ints.proofs.Back.{eqZ-same, same-index, never}
 use Rattle.ints.proofs.Sums.{suc-up-to}
 use Rattle.lines.specs.Line.{Point}
 use Rattle.lines.proofs.Toward.{from-less}
 use Rattle.selection.specs.declared.Selection.{Selection}
-use Rattle.normal.specs.Normal.{kept}
 use Rattle.brushes.specs.declared.Run.{Run}
 use Rattle.brushes.specs.Points.{through, rowOf, rectanglePoints}
 use Rattle.brushes.specs.Places.{placesOf, clipped, columnsOf, rowPlaces, partPlaces, framePlaces}

@@ -4,14 +4,14 @@ use mathlib.Core.List.{List, [], _∷_, map, flatMap}
 use Prim.Native.Nat.{ℕ, _+_, _*_}
 use lib.IntN.{ℤ, pos, natAbs, _+ℤ_, _-ℤ_}
 use lib.ListN.{getD}
-use Rattle.lists.specs.Lists.{range}
+use Rattle.lists.specs.Lists.{range, kept}
 use Rattle.ints.specs.Ints.{eqZ, fromZero, minZ, maxZ}
 use Rattle.selection.specs.declared.Selection.{Selection}
 use Rattle.selection.specs.Selection.{containsI}
 use Rattle.lines.specs.Line.{Point, point}
 use Rattle.lines.specs.Brush.{stamped}
 use Rattle.edits.specs.Change.{Change}
-use Rattle.normal.specs.Normal.{kept, normalizeOf}
+use Rattle.normal.specs.Normal.{normalizeOf}
 
 -- ---- `change`: "A change setting `(x, y)` to `index`, if the position is in the image and the region"; old is `doc.get(x, y)`
 unfoldable pub changeAt : ℕ → List ℤ → Selection → ℤ → Point → List Change

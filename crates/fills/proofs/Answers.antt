@@ -11,7 +11,7 @@ use Rattle.limits.specs.Checks.{Check, firstOf, refusedOr}
 use Rattle.limits.specs.Answer.{filled}
 use Rattle.limits.specs.declared.Counted.the-variants as counted
 use Rattle.limits.proofs.First.{no-zero, first-past, first-here, refused-first}
-use Rattle.lists.specs.Lists.{over}
+use Rattle.lists.specs.Lists.{over, kept}
 use Rattle.lists.proofs.Bools.{and-left, and-right}
 use Rattle.lists.proofs.Over.{over-none}
 use Rattle.ints.specs.Ints.{eqZ, far, fromZero}
@@ -31,7 +31,7 @@ use Rattle.selection.specs.Calls.{farAway, containsIOf}
 use Rattle.selection.specs.Region.{regionChecks, regionIn}
 use Rattle.selection.proofs.Regions.{Within, below-span}
 use Rattle.edits.specs.Change.{Change, packed}
-use Rattle.fills.specs.Fills.{filter, hasIndex, replacing, replaced, fromPixel, global, listed, replaceColorOf, fillGlobalOf}
+use Rattle.fills.specs.Fills.{hasIndex, replacing, replaced, fromPixel, global, listed, replaceColorOf, fillGlobalOf}
 
 -- ---- a list of changes
 module _ (changes : List Change) (out : List ℕ) where
@@ -61,18 +61,18 @@ module _ (w : ℕ) (l : List ℤ) (s : Selection) (from to : ℤ) (out : List �
   unfolding replaced
   replaced-same e = rw e (listed-none out)
 
-  module _ (e : eqZ from to ≡ false) (count : ℕ) (c : count ≡ length (filter (hasIndex w l from) (positions s))) where
-    changes-are : replaced w l s from to ≡ map (replacing from to) (filter (hasIndex w l from) (positions s))
+  module _ (e : eqZ from to ≡ false) (count : ℕ) (c : count ≡ length (kept (hasIndex w l from) (positions s))) where
+    changes-are : replaced w l s from to ≡ map (replacing from to) (kept (hasIndex w l from) (positions s))
     unfolding replaced
     changes-are = rw e
 
     counted-is : count ≡ length (replaced w l s from to)
-    counted-is = c ∙ sym (ap (λ (m : List Change). length m) changes-are ∙ length-map (filter (hasIndex w l from) (positions s)) (replacing from to))
+    counted-is = c ∙ sym (ap (λ (m : List Change). length m) changes-are ∙ length-map (kept (hasIndex w l from) (positions s)) (replacing from to))
 
     pub replaced-short : length out < count → filled (counted.Refused 16) out ≡ listed [] (replaced w l s from to) out
     replaced-short h = listed-short (replaced w l s from to) out (omega (arith, counted-is))
 
-    pub replaced-done : count ≤ length out → (buffer : List ℕ) → buffer ≡ over (map packed (map (replacing from to) (filter (hasIndex w l from) (positions s)))) out
+    pub replaced-done : count ≤ length out → (buffer : List ℕ) → buffer ≡ over (map packed (map (replacing from to) (kept (hasIndex w l from) (positions s)))) out
         → filled (counted.Count count) buffer ≡ listed [] (replaced w l s from to) out
     replaced-done h buffer q = listed-done (replaced w l s from to) out count buffer counted-is h (q ∙ rw changes-are)
 

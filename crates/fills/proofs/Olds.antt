@@ -17,7 +17,8 @@ use Rattle.selection.specs.Selection.{positions, containsI}
 use Rattle.edits.specs.Change.{Change, place}
 use Rattle.sorting.specs.Order.{All}
 use Rattle.normal.specs.Laws.{SheetOlds}
-use Rattle.fills.specs.Fills.{filter, hasIndex, replacing, replaced, fromPixel, global}
+use Rattle.fills.specs.Fills.{hasIndex, replacing, replaced, fromPixel, global}
+use Rattle.lists.specs.Lists.{kept}
 
 module _ (w : ℕ) (l : List ℤ) where
   none : SheetOlds w l []
@@ -31,13 +32,13 @@ module _ (w : ℕ) (l : List ℤ) where
   unfolding hasIndex replacing place
   here from to p e = sym (same-index _ _ e)
 
-  listed-olds : (from to : ℤ) (ps : List Position) → SheetOlds w l (map (replacing from to) (filter (hasIndex w l from) ps))
-  unfolding SheetOlds All filter
+  listed-olds : (from to : ℤ) (ps : List Position) → SheetOlds w l (map (replacing from to) (kept (hasIndex w l from) ps))
+  unfolding SheetOlds All kept
   listed-olds from to [] = tt
   listed-olds from to (p ∷ ps) = go (hasIndex w l from p) refl (listed-olds from to ps)
     where
-      go : (b : Bool) → hasIndex w l from p ≡ b → All olds (map (replacing from to) (filter (hasIndex w l from) ps))
-          → All olds (map (replacing from to) (cond b (p ∷ filter (hasIndex w l from) ps) (filter (hasIndex w l from) ps)))
+      go : (b : Bool) → hasIndex w l from p ≡ b → All olds (map (replacing from to) (kept (hasIndex w l from) ps))
+          → All olds (map (replacing from to) (cond b (p ∷ kept (hasIndex w l from) ps) (kept (hasIndex w l from) ps)))
       go true e rest = (here from to p e, rest)
       go false e rest = rest
 
@@ -45,7 +46,7 @@ module _ (w : ℕ) (l : List ℤ) where
   unfolding replaced
   replaced-olds region from to = go (eqZ from to)
     where
-      go : (b : Bool) → SheetOlds w l (cond b [] (map (replacing from to) (filter (hasIndex w l from) (positions region))))
+      go : (b : Bool) → SheetOlds w l (cond b [] (map (replacing from to) (kept (hasIndex w l from) (positions region))))
       go true = none
       go false = listed-olds from to (positions region)
 

@@ -1,7 +1,7 @@
 -- The changes of a region, row by row: what a row of it gives, and the rows so far. Assumes nothing.
 use mathlib.Core.Path.{_≡_, refl, sym, ap, _∙_}
 use mathlib.Core.Bool.{Bool, true, false, cond}
-use mathlib.Core.List.{List, [], _∷_, _++_, map, map-append, flatMap}
+use mathlib.Core.List.{List, _∷_, _++_, map, map-append, flatMap}
 use Prim.Native.Nat.{ℕ, zero, suc, _+_, _*_, _-_, _<_, _≤_}
 use native.Mathlib.Nat.{add-zero, add-suc}
 use native.Mathlib.Omega.{arith}
@@ -9,7 +9,8 @@ use borrow.Rule.Slice.PartMut.{putMid}
 use lib.IntN.{ℤ, pos}
 use lib.ListN.{length, getD, take, drop, length-append, length-map, length-take, length-drop}
 use lib.Seq.{drop-cons}
-use Rattle.lists.specs.Lists.{range, over}
+use Rattle.lists.specs.Lists.{range, over, kept}
+use Rattle.lists.proofs.Kept.{kept-append}
 use Rattle.lists.proofs.Over.{over-none, over-lent, length-over}
 use Rattle.lists.proofs.Collect.{range-next, range-append, flatMap-append, flatMap-one}
 use Rattle.ints.specs.Ints.{eqZ}
@@ -17,21 +18,11 @@ use Rattle.spans.specs.Positions.{Position, position, row, rows}
 use Rattle.edits.specs.Change.{packed}
 use Rattle.pixels.specs.Listing.{placesFrom}
 use Rattle.pixels.proofs.Places.{places-few}
-use Rattle.fills.specs.Fills.{filter, hasIndex, replacing}
-
--- ---- lists
-filter-append : {A : Type 0} (p : A → Bool) (k l : List A) → filter p (k ++ l) ≡ filter p k ++ filter p l
-unfolding filter
-filter-append p [] l = refl
-filter-append p (x ∷ k) l = rw (filter-append p k l) (go (p x))
-  where
-    go : (b : Bool) → cond b (x ∷ filter p k ++ filter p l) (filter p k ++ filter p l) ≡ cond b (x ∷ filter p k) (filter p k) ++ filter p l
-    go true = refl
-    go false = refl
+use Rattle.fills.specs.Fills.{hasIndex, replacing}
 
 module _ (w : ℕ) (l : List ℤ) (from : ℤ) where
   abbrev pub hits : List Position → List Position
-  hits ps = filter (hasIndex w l from) ps
+  hits ps = kept (hasIndex w l from) ps
 
   -- n pixels at a place, as the code lends them
   abbrev pub lent : ℕ → ℕ → List ℤ
@@ -66,7 +57,7 @@ module _ (w : ℕ) (l : List ℤ) (from : ℤ) where
 
     in-row : (x y i n : ℕ) → y * w + (x + i) + n ≤ length l
         → numbers (hits (map (position y) (range (x + i) n))) ≡ map (λ c. rowFirst x y + c) (placesFrom from i (take n (drop (y * w + (x + i)) l)))
-    unfolding numbers filter range placesFrom hasIndex
+    unfolding numbers kept range placesFrom hasIndex
     in-row x y i zero h = refl
     in-row x y i (suc n) h =
         rw (drop-cons l (y * w + (x + i)) (pos 0) (omega arith))
@@ -97,7 +88,7 @@ module _ (w : ℕ) (l : List ℤ) (from : ℤ) where
     met j = hits (rows x width y j)
 
     met-more : (j : ℕ) → met (j + 1) ≡ met j ++ hits (row x width (y + j))
-    met-more j = ap hits (rw (range-next y j, flatMap-append, flatMap-one)) ∙ filter-append (hasIndex w l from) (rows x width y j) (row x width (y + j))
+    met-more j = ap hits (rw (range-next y j, flatMap-append, flatMap-one)) ∙ kept-append (hasIndex w l from) (rows x width y j) (row x width (y + j))
 
     count-more : (j : ℕ) → length (met (j + 1)) ≡ length (met j) + length (hits (row x width (y + j)))
     count-more j = ap (λ (m : List Position). length m) (met-more j) ∙ length-append (met j) (hits (row x width (y + j)))
@@ -108,7 +99,7 @@ module _ (w : ℕ) (l : List ℤ) (from : ℤ) where
         let split : h ≡ j + (h - j) = omega arith in
         let rest = flatMap (row x width) (range (y + j) (h - j)) in
         let whole : met (j + (h - j)) ≡ met j ++ hits rest
-        = ap hits (rw (range-append y j (h - j), flatMap-append)) ∙ filter-append (hasIndex w l from) (rows x width y j) rest in
+        = ap hits (rw (range-append y j (h - j), flatMap-append)) ∙ kept-append (hasIndex w l from) (rows x width y j) rest in
         omega (arith, ap (λ (n : ℕ). length (met n)) split, ap (λ (m : List Position). length m) whole, length-append (met j) (hits rest))
 
     -- ---- a loop that counts them
@@ -117,7 +108,7 @@ module _ (w : ℕ) (l : List ℤ) (from : ℤ) where
       pub few : n ≤ 1024 * j
 
     pub counted-none : Counted 0 0
-    unfolding filter range flatMap
+    unfolding kept range flatMap
     counted-none = record { counted = refl; few = omega arith }
 
     pub counted-more : (n j r : ℕ) → Counted n j → (y + j) * w + x + width ≤ length l → width ≤ 1024
@@ -135,7 +126,7 @@ module _ (w : ℕ) (l : List ℤ) (from : ℤ) where
       pub listed : out ≡ over (numbers to (met j)) out₀
 
     pub listed-none : (to : ℤ) (out : List ℕ) → Listed to out out 0 0
-    unfolding numbers filter range flatMap
+    unfolding numbers kept range flatMap
     listed-none to out = record { long = refl; counted = refl; listed = over-none out }
 
     module _ {to : ℤ} {out₀ out : List ℕ} {n j : ℕ} (p : Listed to out₀ out n j) (h : ℕ) (k : j < h) (inside : (y + j) * w + x + width ≤ length l)

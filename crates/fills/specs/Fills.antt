@@ -9,7 +9,7 @@ use Rattle.limits.specs.Numbers.{tooFar, noSpace}
 use Rattle.limits.specs.Checks.{Check, _when_, checked}
 use Rattle.limits.specs.Answer.{Filled, filled}
 use Rattle.limits.specs.declared.Counted.the-variants as counted
-use Rattle.lists.specs.Lists.{over}
+use Rattle.lists.specs.Lists.{over, kept}
 use Rattle.ints.specs.Ints.{eqZ, far}
 use Rattle.sheet.specs.declared.Got.{Got}
 use Rattle.sheet.specs.declared.Got.the-variants as got
@@ -23,11 +23,6 @@ use Rattle.selection.specs.Selection.{positions, containsI}
 use Rattle.selection.specs.Region.{regionChecks, regionIn}
 use Rattle.edits.specs.Change.{Change, packed}
 
--- Rust's `filter`
-unfoldable pub filter : {A : Type 0} → (A → Bool) → List A → List A
-filter p [] = []
-filter p (x ∷ xs) = cond (p x) (x ∷ filter p xs) (filter p xs)
-
 -- `doc.get(x, y) == from`, on a sheet of width w
 unfoldable pub hasIndex : ℕ → List ℤ → ℤ → Position → Bool
 hasIndex w indices from p = eqZ (getD indices (p .y * w + p .x) (pos 0)) from
@@ -38,7 +33,7 @@ replacing from to p = record { x = p .x; y = p .y; old = from; new = to }
 
 -- ---- `replace_color`: "every pixel of index `from` inside the selection (or the image) becomes `to`"; none where the two are one
 unfoldable pub replaced : ℕ → List ℤ → Selection → ℤ → ℤ → List Change
-replaced w indices region from to = cond (eqZ from to) [] (map (replacing from to) (filter (hasIndex w indices from) (positions region)))
+replaced w indices region from to = cond (eqZ from to) [] (map (replacing from to) (kept (hasIndex w indices from) (positions region)))
 
 -- ---- `fill_global`: "every pixel of the index at `at`, inside the selection, becomes `index`": that of `get_at`, where the region contains the position
 unfoldable pub fromPixel : Got → Bool → (ℤ → List Change) → List Change

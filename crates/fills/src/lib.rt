@@ -23,17 +23,17 @@ ghost use mathlib.Core.List.{[], map};
 ghost use Prim.Native.Nat.{_≤_};
 ghost use lib.ListN.{length};
 ghost use Rattle.limits.specs.Answer.{filled};
-ghost use Rattle.lists.specs.Lists.{over};
+ghost use Rattle.lists.specs.Lists.{over, kept};
 ghost use Rattle.sheet.specs.Sheet.{sheetOf};
 ghost use Rattle.selection.specs.Selection.{positions};
 ghost use Rattle.selection.specs.Region.{Fits};
 ghost use Rattle.edits.specs.Change.{packed};
-ghost use Rattle.fills.specs.Fills.{filter, hasIndex, replacing, replaced, listed, replaceColorOf, fillGlobalOf};
+ghost use Rattle.fills.specs.Fills.{hasIndex, replacing, replaced, listed, replaceColorOf, fillGlobalOf};
 
 // How many pixels of a region have the index.
 fn count_rows(w: usize, indices: &[i16], s: Selection, from: i16) -> usize
     requires { ⌜ Fits w (length (now indices)) s ⌝ }
-    ensures { λ r. ⌜ r ≡ length (filter (hasIndex w (now (indices .entry)) from) (positions s)) ⌝ }
+    ensures { λ r. ⌜ r ≡ length (kept (hasIndex w (now (indices .entry)) from) (positions s)) ⌝ }
 {
     let x = s.x as usize;
     let y = s.y as usize;
@@ -51,8 +51,8 @@ fn count_rows(w: usize, indices: &[i16], s: Selection, from: i16) -> usize
 // Lists the changes of a region's pixels that have the index, row by row. What the list has past them
 // keeps.
 fn list_rows(w: usize, indices: &[i16], s: Selection, from: i16, to: i16, out: &mut [u64])
-    requires { ⌜ Fits w (length (now indices)) s × (length (filter (hasIndex w (now indices) from) (positions s)) ≤ length (now out)) ⌝ }
-    ensures { λ _. ⌜ now (out .exit) ≡ over (map packed (map (replacing from to) (filter (hasIndex w (now (indices .entry)) from) (positions s)))) (now (out .entry)) ⌝ }
+    requires { ⌜ Fits w (length (now indices)) s × (length (kept (hasIndex w (now indices) from) (positions s)) ≤ length (now out)) ⌝ }
+    ensures { λ _. ⌜ now (out .exit) ≡ over (map packed (map (replacing from to) (kept (hasIndex w (now (indices .entry)) from) (positions s)))) (now (out .entry)) ⌝ }
 {
     let x = s.x as usize;
     let y = s.y as usize;

@@ -10,9 +10,8 @@ use lib.Dec.{eqb}
 use lib.ListN.{length, take, drop, getD, set, replicate, length-set, length-replicate, getD-replicate}
 use lib.Seq.{drop-set-lt, getD-set-same, getD-set-other, take-suc-set, ext-getD}
 use borrow.Author.Tests.{eq-eqb, ne-eqb}
-use Rattle.lists.specs.Lists.{range}
+use Rattle.lists.specs.Lists.{range, kept}
 use Rattle.lists.proofs.Behind.{same-at, further}
-use Rattle.normal.specs.Normal.{kept}
 use Rattle.flood.specs.Cells.{placed, emitted}
 
 -- ---- clearing

@@ -7,10 +7,9 @@ use native.Mathlib.Omega.{arith}
 use lib.Dec.{eqb}
 use lib.IntN.{ℤ, pos}
 use lib.ListN.{length, getD}
-use Rattle.lists.specs.Lists.{range}
+use Rattle.lists.specs.Lists.{range, kept}
 use Rattle.selection.specs.declared.Selection.{Selection}
 use Rattle.edits.specs.Change.{packed}
-use Rattle.normal.specs.Normal.{kept}
 use Rattle.flood.specs.Flood.{changeAt, flooded, floodOf}
 use Rattle.flood.specs.Cells.{placed, emitted, pairOf, Fills}
 

@@ -8,9 +8,8 @@ use lib.IntN.{ℤ}
 use lib.ListN.{length, getD, set}
 use mir.Syntax.{w16}
 use mir.Val.{ofZ}
-use Rattle.lists.specs.Lists.{range}
+use Rattle.lists.specs.Lists.{range, kept}
 use Rattle.selection.specs.declared.Selection.{Selection}
-use Rattle.normal.specs.Normal.{kept}
 use Rattle.flood.specs.Flood.{flooded}
 
 -- what the steps ask: a picture of at most 1,024 rows and columns, a place of it, and a cell for each of its places

@@ -6,12 +6,11 @@ use mathlib.Core.List.{List, map}
 use lib.Dec.{ltb, eqb}
 use lib.IntN.{ℤ, pos}
 use lib.ListN.{length, getD}
-use Rattle.lists.specs.Lists.{range}
+use Rattle.lists.specs.Lists.{range, kept}
 use Rattle.ints.specs.Ints.{eqZ}
 use Rattle.selection.specs.declared.Selection.{Selection}
 use Rattle.selection.specs.Selection.{contains}
 use Rattle.edits.specs.Change.{Change}
-use Rattle.normal.specs.Normal.{kept}
 
 -- "4-neighbours": those of place p, of n places in rows of w: left, right, above, below; n where there is none
 unfoldable pub neighbour : ℕ → ℕ → ℕ → ℕ → ℕ

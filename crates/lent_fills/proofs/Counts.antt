@@ -15,7 +15,7 @@ use Rattle.limits.specs.Answer.{Filled, filled}
 use Rattle.limits.specs.declared.Counted.{Counted}
 use Rattle.limits.specs.declared.Counted.the-variants as counted
 use Rattle.limits.proofs.First.{first-past, first-here, refused-first, past-both}
-use Rattle.lists.specs.Lists.{over}
+use Rattle.lists.specs.Lists.{over, kept}
 use Rattle.ints.specs.Ints.{eqZ, far}
 use Rattle.selection.specs.declared.Selection.{Selection}
 use Rattle.selection.specs.declared.Area.{Area}
@@ -33,7 +33,7 @@ use Rattle.edits.specs.Change.{Change, packed}
 use Rattle.changes.specs.Listed.{countOf, InScratch}
 use Rattle.changes.proofs.InScratch.{scratch-none, scratch-then}
 use Rattle.structs.specs.Struct.{least}
-use Rattle.fills.specs.Fills.{filter, hasIndex, replacing, replaced, fromPixel, global, listed, replaceColorOf, fillGlobalOf}
+use Rattle.fills.specs.Fills.{hasIndex, replacing, replaced, fromPixel, global, listed, replaceColorOf, fillGlobalOf}
 use Rattle.lent_fills.specs.Scratch.{noRoom, needing}
 use Rattle.lent_fills.proofs.Listing.{Lists, listed-in, none-same}
 
@@ -97,12 +97,12 @@ module _ (checks : List Check) (cs : List Change) {call : List ℕ → Filled �
       (λ out after j p. rw (le-ltb room pixels h, is) p)
 
 -- ---- no more changes than pixels
-filter-few : {A : Type 0} (p : A → Bool) (l : List A) → length (filter p l) ≤ length l
-unfolding filter
-filter-few p [] = omega arith
-filter-few p (x ∷ l) = go (p x) (filter-few p l)
+kept-few : {A : Type 0} (p : A → Bool) (l : List A) → length (kept p l) ≤ length l
+unfolding kept
+kept-few p [] = omega arith
+kept-few p (x ∷ l) = go (p x) (kept-few p l)
   where
-    go : (b : Bool) → length (filter p l) ≤ length l → length (cond b (x ∷ filter p l) (filter p l)) ≤ length (x ∷ l)
+    go : (b : Bool) → length (kept p l) ≤ length l → length (cond b (x ∷ kept p l) (kept p l)) ≤ length (x ∷ l)
     go true k = omega arith
     go false k = omega arith
 
@@ -110,10 +110,10 @@ replaced-few : (w : ℕ) (l : List ℤ) (region : Selection) (from to : ℤ) →
 unfolding replaced
 replaced-few w l region from to = go (eqZ from to)
   where
-    listing-few : length (map (replacing from to) (filter (hasIndex w l from) (positions region))) ≤ region .w * region .h
-    listing-few = omega (arith, length-map (filter (hasIndex w l from) (positions region)) (replacing from to), filter-few (hasIndex w l from) (positions region), length-positions region)
+    listing-few : length (map (replacing from to) (kept (hasIndex w l from) (positions region))) ≤ region .w * region .h
+    listing-few = omega (arith, length-map (kept (hasIndex w l from) (positions region)) (replacing from to), kept-few (hasIndex w l from) (positions region), length-positions region)
 
-    go : (b : Bool) → length (cond b [] (map (replacing from to) (filter (hasIndex w l from) (positions region)))) ≤ region .w * region .h
+    go : (b : Bool) → length (cond b [] (map (replacing from to) (kept (hasIndex w l from) (positions region)))) ≤ region .w * region .h
     go true = omega arith
     go false = listing-few
 

@@ -1,5 +1,5 @@
 -- Words for lists that the other crates' definitions use. Definitions only. Assumes nothing.
-use mathlib.Core.Bool.{Bool, false, _||_}
+use mathlib.Core.Bool.{Bool, false, _||_, cond}
 use mathlib.Core.List.{List, [], _∷_, _++_}
 use Prim.Native.Nat.{ℕ, zero, suc}
 use lib.ListN.{length, drop}
@@ -8,6 +8,11 @@ use lib.ListN.{length, drop}
 unfoldable pub some : {A : Type 0} → (A → Bool) → List A → Bool
 some p [] = false
 some p (x ∷ xs) = p x || some p xs
+
+-- Rust's `filter`: those that a test takes
+unfoldable pub kept : {A : Type 0} → (A → Bool) → List A → List A
+kept p [] = []
+kept p (x ∷ xs) = cond (p x) (x ∷ kept p xs) (kept p xs)
 
 -- Rust's `start..start + count`
 unfoldable pub range : ℕ → ℕ → List ℕ

@@ -10,11 +10,11 @@ ghost use Rattle.marking.specs.Marks.{placeAt, newBits, elsewhere, marke
 // The units in which a number counts its mark and what is pending, and a change its new; and the values of one part.
 const MARK: u64 = 1_048_576;
 
-const PENDING: u64 = 4_398_046_511_104;
+pub const PENDING: u64 = 4_398_046_511_104;
 
-const NEW: u64 = 281_474_976_710_656;
+pub const NEW: u64 = 281_474_976_710_656;
 
-const PART: u64 = 65_536;
+pub const PART: u64 = 65_536;
 
 // The bits of a change's new.
 pub fn new_bits(c: u64) -> u64

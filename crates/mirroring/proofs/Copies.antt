@@ -11,13 +11,14 @@ use lib.Dec.{eqb}
 use lib.IntN.{ℤ, pos}
 use lib.ListN.{length, getD}
 use borrow.Author.Tests.{eq-eqb, ne-eqb}
-use Rattle.lists.specs.Lists.{range}
+use Rattle.lists.specs.Lists.{range, kept}
+use Rattle.lists.proofs.Kept.{kept-append}
 use Rattle.selection.specs.declared.Selection.{Selection}
 use Rattle.selection.specs.Selection.{contains}
 use Rattle.edits.specs.Change.{Change, place}
 use Rattle.sorting.specs.Order.{All}
 use Rattle.sorting.proofs.Order.{all-append}
-use Rattle.normal.specs.Normal.{keyOf, kept}
+use Rattle.normal.specs.Normal.{keyOf}
 use Rattle.normal.specs.Laws.{On, atPlace}
 use Rattle.tiling.specs.Tile.{turned}
 use Rattle.tiling.specs.Cells.{Tiled, cellCount, firstCell}
@@ -36,15 +37,6 @@ use Rattle.mirroring.proofs.AtPlace.{copyTo}
 use Rattle.mirroring.proofs.Coordinates.{turned-back, column-mod, row-mod, column-on, row-on, cell-back, cell-below, column-of, row-of, flipOf, tileX, tileY, classIn, class-is, class-same}
 
 -- ---- lists
-pub kept-append : {A : Type 0} (t : A → Bool) (k l : List A) → kept t (k ++ l) ≡ kept t k ++ kept t l
-unfolding kept
-kept-append t [] l = refl
-kept-append t (x ∷ k) l = pick (t x) (kept-append t k l)
-  where
-    pick : (b : Bool) → kept t (k ++ l) ≡ kept t k ++ kept t l → cond b (x ∷ kept t (k ++ l)) (kept t (k ++ l)) ≡ cond b (x ∷ kept t k) (kept t k) ++ kept t l
-    pick true e = rw e
-    pick false e = e
-
 at-flat : {A : Type 0} (k : ℕ) (f : A → List Change) (xs : List A) → atPlace k (flatMap f xs) ≡ flatMap (λ x. atPlace k (f x)) xs
 unfolding flatMap atPlace kept
 at-flat k f [] = refl

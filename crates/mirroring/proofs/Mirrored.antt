@@ -13,14 +13,15 @@ use lib.IntN.{ℤ}
 use lib.ListN.{length, take, getD, length-map}
 use lib.Seq.{getD-take, ext-getD}
 use borrow.Author.Tests.{eq-eqb, ne-eqb}
-use Rattle.lists.specs.Lists.{range}
+use Rattle.lists.specs.Lists.{range, kept}
+use Rattle.lists.proofs.Kept.{kept-append}
 use Rattle.lists.proofs.Collect.{flatMap-append, flatMap-one}
 use Rattle.selection.specs.declared.Selection.{Selection}
 use Rattle.selection.specs.Selection.{contains}
 use Rattle.edits.specs.Change.{Change, packed, unpacked, place}
 use Rattle.sorting.specs.Order.{All}
 use Rattle.sorting.proofs.Order.{all-append}
-use Rattle.normal.specs.Normal.{keyOf, kept, changing}
+use Rattle.normal.specs.Normal.{keyOf, changing}
 use Rattle.normal.specs.Laws.{On, atPlace, firstLast}
 use Rattle.tiling.specs.Cells.{cellCount, codeOf, firstCells}
 use Rattle.tiling.specs.Extract.{extractOf}
@@ -34,7 +35,7 @@ use Rattle.mirroring.proofs.Places.{flat-same, keyAt, key-place, key-sa
 use Rattle.mirroring.proofs.AtPlace.{copies, own, copyTo, all-waiting, waiting-landed}
 use Rattle.mirroring.proofs.Written.{emitted-is}
 use Rattle.mirroring.proofs.Coordinates.{place-cell, class-in}
-use Rattle.mirroring.proofs.Copies.{kept-append, all-flat, copies-at, copies-on}
+use Rattle.mirroring.proofs.Copies.{all-flat, copies-at, copies-on}
 
 pub map-flat : {A : Type 0} (f : Change → ℕ) (g : A → List Change) (l : List A) → map f (flatMap g l) ≡ flatMap (λ x. map f (g x)) l
 unfolding flatMap

@@ -11,7 +11,8 @@ use mir.Syntax.{w16}
 use mir.Val.{SFits, toZ, ofZ}
 use mir.ValLaws.{ofZ-toZ, toZ-ofZ, ofZ-fits}
 use Rattle.edits.specs.Change.{packed}
-use Rattle.normal.specs.Normal.{kept, changing}
+use Rattle.normal.specs.Normal.{changing}
+use Rattle.lists.specs.Lists.{kept}
 use Rattle.changes.specs.Between.{differenceOf}
 use Rattle.normal.proofs.Packing.{eqZ-bits}
 use Rattle.marking.specs.Marks.{newBits}

@@ -7,11 +7,11 @@ use lib.IntN.{ℤ, pos}
 use lib.ListN.{length, getD}
 use mir.Syntax.{w16}
 use mir.Val.{SFits}
-use Rattle.lists.specs.Lists.{range}
+use Rattle.lists.specs.Lists.{range, kept}
 use Rattle.selection.specs.declared.Selection.{Selection}
 use Rattle.selection.specs.Selection.{contains}
 use Rattle.edits.specs.Change.{Change, unpacked}
-use Rattle.normal.specs.Normal.{kept, normalizeOf}
+use Rattle.normal.specs.Normal.{normalizeOf}
 use Rattle.tiling.specs.Tile.{turned}
 use Rattle.tiling.specs.Cells.{Tiled}
 use Rattle.tiling.specs.Extract.{Entry, Extracted, extractOf}

@@ -3,7 +3,7 @@ use mathlib.Core.Path.{_≡_, refl}
 use mathlib.Core.List.{List, [], _∷_, flatMap}
 use Prim.Native.Nat.{ℕ}
 use lib.IntN.{ℤ, pos, negsuc}
-use Rattle.lists.specs.Lists.{range}
+use Rattle.lists.specs.Lists.{range, kept}
 use Rattle.ints.specs.Ints.{eqZ, fromZero, minZ, maxZ}
 use Rattle.sheet.specs.Document.{indexAt}
 use Rattle.spans.specs.Spans.{first, last, between, movedFirst, movedLast}
@@ -12,7 +12,7 @@ use Rattle.selection.specs.declared.Selection.{Selection}
 use Rattle.selection.specs.declared.Chosen.the-variants.{Part, Nothing}
 use Rattle.selection.specs.Selection.{rectangle, fromCorners, translated, positions, all}
 use Rattle.edits.specs.Change.{place, painted, newOf}
-use Rattle.normal.specs.Normal.{keyOf, joined, enter, entered, kept, changing, normalizeOf}
+use Rattle.normal.specs.Normal.{keyOf, joined, enter, entered, changing, normalizeOf}
 use Rattle.blocks.specs.Blocks.{ontoGot, onto, landed}
 use Rattle.pasting.specs.Pasting.{pasteChanges, pastedSelection}
 use Rattle.moves.specs.Moves.{cleared, moveChanges, unmoved, movedList, movedSelection}

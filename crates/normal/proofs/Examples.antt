@@ -5,7 +5,8 @@ use mathlib.Core.List.{[], _∷_}
 use lib.IntN.{pos}
 use Rattle.edits.specs.Change.{Change}
 use Rattle.ints.specs.Ints.{eqZ}
-use Rattle.normal.specs.Normal.{keyOf, joined, enter, entered, kept, changing, normalizeOf}
+use Rattle.normal.specs.Normal.{keyOf, joined, enter, entered, changing, normalizeOf}
+use Rattle.lists.specs.Lists.{kept}
 
 -- (x, y, old→new)
 abbrev change : ℕ → ℕ → ℕ → ℕ → Change

@@ -1,4 +1,7 @@
 // What is pending at each place: the caller's changes over the copies, and the result.
+use marking::NEW;
+use marking::PART;
+use marking::PENDING;
 use marking::new_bits;
 use pixels::bits_of;
 use pixels::place_of;
@@ -12,20 +15,13 @@ ghost use Rattle.changes.specs.Between.{differenceOf};
 ghost use Rattle.marking.specs.Marks.{Listed};
 ghost use Rattle.pending.specs.Pending.{pendingBy, pending, oldIn, emitted, emittedAll};
 
-// The units in which a number counts what is pending, and that its old is the caller's.
-const PENDING: u64 = 4_398_046_511_104;
-
+// The unit in which a number counts that its old is the caller's.
 const OWN: u64 = 8_796_093_022_208;
 
-// The units in which a change counts its row, its old and its new, and a number its new as well; and the values of one
-// part.
+// The units in which a change counts its row and its old.
 const ROW: u64 = 65_536;
 
 const OLD: u64 = 4_294_967_296;
-
-const NEW: u64 = 281_474_976_710_656;
-
-const PART: u64 = 65_536;
 
 // The change c over what is pending in v: its new alone, where a change is pending.
 fn pend_by(c: u64, v: u64) -> u64

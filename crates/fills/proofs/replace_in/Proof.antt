@@ -5,7 +5,8 @@ use lib.ListN.{length}
 use mir.Facts.{toZ-ofZ}
 use Rattle.ints.specs.Ints.{eqZ}
 use Rattle.selection.specs.Selection.{positions}
-use Rattle.fills.specs.Fills.{filter, hasIndex}
+use Rattle.fills.specs.Fills.{hasIndex}
+use Rattle.lists.specs.Lists.{kept}
 use Rattle.fills.proofs.Answers.{replaced-same, replaced-short, replaced-done}
 use Rattle.fills.proofs.replace_in.Statement.{statement}
 use Rattle.fills.proofs.replace_in.Tie as tie
@@ -17,7 +18,7 @@ same-requires c κs = search needs
 tested : (c : tie.After-same) → eqZ (c .before .before .args .from) (c .before .before .args .to) ≡ c .same .result
 tested c = sym (rw (toZ-ofZ (c .before .before .fits .from), toZ-ofZ (c .before .before .fits .to)) at (c .same .ensures))
 
-count : (c : tie.After-count-rows) → let a = c .before .before .before .before .args in c .count-rows .result ≡ length (filter (hasIndex (a .w) (a .indices .now) (a .from)) (positions (a .s)))
+count : (c : tie.After-count-rows) → let a = c .before .before .before .before .args in c .count-rows .result ≡ length (kept (hasIndex (a .w) (a .indices .now) (a .from)) (positions (a .s)))
 count c = rw (toZ-ofZ (c .before .before .before .before .fits .from)) at (c .count-rows .ensures)
 
 returns : tie.Need-returns
