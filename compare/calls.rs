@@ -36,12 +36,16 @@ pub type State<'a> = &'a mut [usize; 6];
 
 ours! {
     call_check(sheet,) -> u8;
+    call_permitted_no(limited: bool, permitted: [u8],) -> u8;
+    call_any_stray_below(indices: [i16], k: i16,) -> bool;
     call_with_lab(sheet,) -> u8;
     call_new(w: usize, h: usize, k: usize, palette: [u8], lab: mut [f64], indices: [i16],) -> u8;
     call_get_at(sheet, x: i32, y: i32, got: &mut [i16; 1],) -> u8;
     call_counts(sheet, out: mut [u32], r: R,) -> u8;
     call_diff_mask(sheet, bw: usize, bh: usize, bk: usize, base: [u8], base_indices: [i16], mask: mut [u8], r: R,) -> u8;
 
+    call_linear(c: u8,) -> f64;
+    call_dist2(p: &[f64; 3], q: &[f64; 3],) -> f64;
     call_rgb8_to_lab(rgb: &[u8; 3], out: &mut [f64; 3],) -> ();
     call_cbrt(t: f64, out: &mut [f64; 3],) -> u8;
     call_nearest_index(target: &[f64; 3], lab: [f64], k: usize, r: R,) -> u8;

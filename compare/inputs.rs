@@ -18,6 +18,7 @@ macro_rules! tell {
 pub(crate) use tell;
 
 pub fn run(t: &mut Table) {
+    parts(t);
     colours(t);
     selections(t);
     lists(t);
@@ -25,6 +26,37 @@ pub fn run(t: &mut Table) {
     some_sheets(t);
     large_sheets(t);
     long_lists(t);
+}
+
+/// The parts of other calls that are exported by themselves.
+fn parts(t: &mut Table) {
+    let mut draw = Draw::new(21);
+    for c in 0..=255 {
+        tell!(t, "linear", sheets::linear(c), "{c}");
+    }
+    for _ in 0..20_000 {
+        let mut triple = || [draw.number(), draw.number(), draw.number()];
+        let (mut p, q) = (triple(), triple());
+        if draw.once_in(6) {
+            p[draw.below(3)] = draw.double();
+        }
+        tell!(t, "dist2", sheets::dist2(p, q), "{p:?} {q:?}");
+    }
+    for bytes in (0..40).chain(3 * 4096 - 4..3 * 4096 + 7) {
+        for limited in [false, true] {
+            let about = (limited, bytes);
+            tell!(t, "permitted_no", sheets::permitted_no(limited, &vec![7; bytes]), "{about:?}");
+        }
+    }
+    for _ in 0..20_000 {
+        let k = draw.within(-3, 300) as i16;
+        let count = draw.below(40);
+        let mut indices: Vec<i16> = (0..count).map(|_| draw.within(-1, 254) as i16 % k.max(1)).collect();
+        if count > 0 && draw.once_in(2) {
+            indices[draw.below(count)] = draw.from(&[-2, -1, k - 1, k, k + 1, i16::MIN, i16::MAX]);
+        }
+        tell!(t, "any_stray_below", sheets::any_stray_below(&indices, k), "{indices:?} {k}");
+    }
 }
 
 fn colours(t: &mut Table) {

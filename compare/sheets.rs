@@ -124,7 +124,38 @@ pub fn diff_mask(c: &Case, base: &Sheet, out: usize) -> Pair {
     [expected, marked(no, &r, &mask)]
 }
 
+/// Number 1 of the permitted colours: present, at most 4,096 of three bytes each.
+pub fn permitted_no(limited: bool, permitted: &[u8]) -> Pair {
+    let bad = limited && (permitted.len() % 3 != 0 || permitted.len() > 3 * 4096);
+    let ours = call_permitted_no(limited, permitted);
+    [vec![bad.into()], vec![ours.into()]]
+}
+
+/// Whether `with_lab` finds a stray index; the number 0 is that of an answer.
+pub fn any_stray_below(indices: &[i16], k: i16) -> Pair {
+    let stray = indices.iter().any(|&i| i < -1 || i >= k);
+    let ours = call_any_stray_below(indices, k);
+    [vec![0, stray.into()], vec![0, ours.into()]]
+}
+
 // color.rs
+
+/// `srgb_to_linear`, which is private in color.rs, in its own words.
+pub fn linear(c: u8) -> Pair {
+    let unit = f64::from(c) / 255.0;
+    let value = if unit > 0.04045 {
+        libm_exact::pow((unit + 0.055) / 1.055, 2.4)
+    } else {
+        unit / 12.92
+    };
+    [vec![0, value.to_bits()], vec![0, call_linear(c).to_bits()]]
+}
+
+/// By `delta_e`, its root, since `dist2` is private in color.rs.
+pub fn dist2(p: [f64; 3], q: [f64; 3]) -> Pair {
+    let told = |x: f64| vec![0, if x.is_nan() { u64::MAX } else { x.to_bits() }];
+    [told(color::delta_e(&p, &q)[0]), told(call_dist2(&p, &q).sqrt())]
+}
 
 pub fn rgb8_to_lab(rgb: [u8; 3]) -> Pair {
     let mut out = DOUBLES;

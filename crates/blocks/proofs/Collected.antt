@@ -4,13 +4,12 @@ use mathlib.Core.Path.{_≡_, refl, ap, _∙_}
 use mathlib.Core.List.{List, [], _∷_, _++_, map, flatMap, append-nil}
 use native.Mathlib.Omega.{arith}
 use native.Mathlib.Decide.{decLt}
-use Rattle.lists.specs.Lists.{range}
+use Rattle.lists.specs.Lists.{range, All}
 use Rattle.lists.proofs.Collect.{range-append, flatMap-append}
 use Rattle.spans.specs.Positions.{Position, position, row}
 use Rattle.selection.specs.declared.Selection.{Selection}
 use Rattle.selection.specs.Selection.{positions}
-use Rattle.sorting.specs.Order.{All}
-use Rattle.sorting.proofs.Order.{all-append}
+use Rattle.lists.proofs.Each.{all-append}
 
 module _ {A : Type 0} (f : ℕ → List A) where
   pub none-collected : (start count : ℕ) → ((i : ℕ) → start ≤ i → i < start + count → f i ≡ []) → flatMap f (range start count) ≡ []

@@ -9,9 +9,8 @@ use borrow.Author.Tests.{lt-ltb, le-ltb, ltb-true}
 use lib.Dec.{ltb}
 use lib.IntN.{ℤ, pos, negsuc, _+ℤ_}
 use lib.ListN.{length, getD}
-use Rattle.lists.specs.Lists.{range}
-use Rattle.sorting.specs.Order.{All}
-use Rattle.sorting.proofs.Order.{all-map}
+use Rattle.lists.specs.Lists.{range, All}
+use Rattle.lists.proofs.Each.{all-map}
 use Rattle.ints.specs.Ints.{fromZero}
 use Rattle.sheet.specs.Document.{indexAt}
 use Rattle.sheet.specs.declared.Got.the-variants as got

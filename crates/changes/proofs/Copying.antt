@@ -13,10 +13,9 @@ use mir.Val.{SFits, toZ, ofZ, hbits}
 use mir.ValLaws.{ofZ-fits, toZ-ofZ}
 use Rattle.ints.proofs.Back.{by-value}
 use lib.Seq.{take-suc, take-all, take-at, length-take-le, take-set-lt, take-set-le, set-out}
-use Rattle.lists.specs.Lists.{over}
+use Rattle.lists.specs.Lists.{over, All}
 use Rattle.lists.proofs.Mapped.{map-set}
-use Rattle.sorting.specs.Order.{All}
-use Rattle.sorting.proofs.Order.{all-at}
+use Rattle.lists.proofs.Each.{all-at}
 use Rattle.changes.specs.Between.{laidOut}
 use Rattle.lists.proofs.Over.{over-none, over-set, length-over}
 

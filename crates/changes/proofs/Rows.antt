@@ -20,8 +20,8 @@ use Rattle.lists.proofs.Mapped.{map-take}
 use Rattle.ints.specs.Ints.{eqZ}
 use Rattle.ints.proofs.Back.{eq-back, by-value}
 use Rattle.edits.specs.Change.{packed}
-use Rattle.sorting.specs.Order.{All}
-use Rattle.sorting.proofs.Order.{all-at}
+use Rattle.lists.specs.Lists.{All}
+use Rattle.lists.proofs.Each.{all-at}
 use Rattle.changes.specs.Between.{betweenFrom, between, laidOut, differenceOf, rowFrom}
 use Rattle.changes.specs.Fronts.{Front, Put}
 use Rattle.changes.proofs.Fronts.{front-of, put-one, put-none}

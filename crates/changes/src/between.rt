@@ -7,9 +7,8 @@ ghost use Prim.Native.Nat.{ℕ, _+_, _*_, _≤_, _<_, _^_};
 ghost use lib.ListN.{length, drop, set};
 ghost use mir.Syntax.{w16};
 ghost use mir.Val.{SFits, ofZ};
-ghost use Rattle.lists.specs.Lists.{over};
+ghost use Rattle.lists.specs.Lists.{over, All};
 ghost use Rattle.edits.specs.Change.{packed};
-ghost use Rattle.sorting.specs.Order.{All};
 ghost use Rattle.changes.specs.Fronts.{Front, Put};
 ghost use Rattle.changes.specs.Between.{between, laidOut, differenceOf, rowFrom};
 

@@ -14,8 +14,8 @@ use Rattle.selection.specs.Selection.{contains, containsI}
 use Rattle.selection.proofs.Regions.{Within, below-span}
 use Rattle.lines.specs.Line.{Point}
 use Rattle.edits.specs.Change.{Change, place}
-use Rattle.sorting.specs.Order.{All}
-use Rattle.sorting.proofs.Order.{all-append}
+use Rattle.lists.specs.Lists.{All}
+use Rattle.lists.proofs.Each.{all-append}
 use Rattle.changes.specs.Between.{between}
 use Rattle.normal.specs.Laws.{On}
 use Rattle.normal.proofs.Shortest.{first-olds}

@@ -20,7 +20,7 @@ use Rattle.selection.specs.declared.Selection.{Selection}
 use Rattle.selection.specs.declared.Area.{Area}
 use Rattle.selection.specs.declared.Area.the-variants as area
 use Rattle.selection.specs.Selection.{all, inside}
-use Rattle.selection.specs.Region.{regionChecks, regionIn, Fits}
+use Rattle.selection.specs.Region.{offSheet, regionChecks, regionIn, Fits}
 use Rattle.selection.proofs.Regions.{Within, fits-region}
 use Rattle.sheet.specs.Sheet.{Sheet}
 use Rattle.sheet.specs.Checks.{sheetChecks, WellFormed, Judged}
@@ -38,7 +38,7 @@ use Rattle.drawing.proofs.Drawn.{drawn-between}
 
 -- a region that is not refused is inside
 within : (a : Area) (w h : ℕ) → firstOf (regionChecks a w h) ≡ 0 → Within (regionIn a w h) w h
-unfolding regionChecks regionIn all inside firstOf
+unfolding regionChecks offSheet regionIn all inside firstOf
 within area.Whole w h e = record { right = omega arith; below = omega arith }
 within (area.Part s) w h e = go (leb (s .x + s .w) w) (leb (s .y + s .h) h) refl refl e
   where

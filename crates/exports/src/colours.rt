@@ -6,6 +6,16 @@ use color::Found;
 use color::Root;
 
 #[no_mangle]
+pub extern "C" fn call_linear(c: u8) -> f64 {
+    color::linear(c)
+}
+
+#[no_mangle]
+pub extern "C" fn call_dist2(p: &[f64; 3], q: &[f64; 3]) -> f64 {
+    color::dist2(lab_of(p), lab_of(q))
+}
+
+#[no_mangle]
 pub extern "C" fn call_rgb8_to_lab(rgb: &[u8; 3], out: &mut [f64; 3]) {
     tell_lab(color::rgb8_to_lab(rgb_of(rgb)), out);
 }

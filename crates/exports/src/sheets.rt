@@ -15,6 +15,16 @@ pub extern "C" fn call_check(
 }
 
 #[no_mangle]
+pub extern "C" fn call_permitted_no(limited: bool, permitted: &[u8]) -> u8 {
+    sheet::permitted_no(limited, permitted)
+}
+
+#[no_mangle]
+pub extern "C" fn call_any_stray_below(indices: &[i16], k: i16) -> bool {
+    sheet::any_stray_below(indices, k)
+}
+
+#[no_mangle]
 pub extern "C" fn call_with_lab(
     w: usize,
     h: usize,

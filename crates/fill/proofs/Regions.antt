@@ -13,8 +13,7 @@ use Rattle.selection.specs.declared.Chosen.{Chosen}
 use Rattle.selection.specs.declared.Chosen.the-variants as chosen
 use Rattle.selection.specs.Selection.{inside, all}
 use Rattle.selection.specs.Calls.{tooLarge, allOf, regionOf}
-use Rattle.selection.specs.Region.{regionIn}
-use Rattle.fill.specs.Fill.{offSheet}
+use Rattle.selection.specs.Region.{offSheet, regionIn}
 
 small : (w h : ℕ) → w ≤ 1024 → h ≤ 1024 → tooLarge w h ≡ false
 unfolding tooLarge

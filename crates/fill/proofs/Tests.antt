@@ -13,8 +13,8 @@ use Rattle.selection.specs.declared.Area.{Area}
 use Rattle.sheet.specs.Sheet.{Sheet}
 use Rattle.sheet.specs.Checks.{sheetChecks, WellFormed, Judged}
 use Rattle.sheet.proofs.Judging.{past-sheet}
-use Rattle.selection.specs.Region.{regionIn}
-use Rattle.fill.specs.Fill.{offSheet, fillChecks, Fine, Fillable, Ready}
+use Rattle.selection.specs.Region.{offSheet, regionIn}
+use Rattle.fill.specs.Fill.{fillChecks, Fine, Fillable, Ready}
 use Rattle.fill.proofs.Regions.{region-on}
 
 module _ (s : Sheet) (given : Area) (x y : ℤ) (room : ℕ) where

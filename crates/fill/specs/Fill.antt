@@ -1,6 +1,6 @@
 -- The call `flood_fill` of tools.rs: its checks, in document 01's order, and its answer. Definitions only. Assumes nothing.
 use mathlib.Core.Path.{_≡_}
-use mathlib.Core.Bool.{Bool, true, false, not, cond, _&&_}
+use mathlib.Core.Bool.{true, false, not, cond, _&&_}
 use mathlib.Core.List.{List, [], _∷_, _++_, map}
 use Prim.Native.Nat.{ℕ, _+_, _*_, _≤_}
 use lib.Dec.{ltb}
@@ -14,18 +14,12 @@ use Rattle.lists.specs.Lists.{over}
 use Rattle.ints.specs.Ints.{eqZ, far, fromZero}
 use Rattle.selection.specs.declared.Selection.{Selection}
 use Rattle.selection.specs.declared.Area.{Area}
-use Rattle.selection.specs.declared.Area.the-variants as area
 use Rattle.selection.specs.Selection.{inside, containsI}
-use Rattle.selection.specs.Region.{regionIn}
+use Rattle.selection.specs.Region.{offSheet, regionIn}
 use Rattle.sheet.specs.Sheet.{Sheet}
 use Rattle.sheet.specs.Checks.{sheetChecks, WellFormed}
 use Rattle.edits.specs.Change.{Change, packed}
 use Rattle.flood.specs.Flood.{floodOf}
-
--- "off the sheet: a selection, not inside"
-unfoldable pub offSheet : Area → ℕ → ℕ → Bool
-offSheet area.Whole w h = false
-offSheet (area.Part s) w h = not (inside s w h)
 
 -- where the fill starts: `at.1 as usize * w + at.0 as usize`
 abbrev pub startOf : ℕ → ℤ → ℤ → ℕ

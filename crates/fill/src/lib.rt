@@ -28,8 +28,8 @@ ghost use Rattle.sheet.specs.Sheet.{sheetOf};
 ghost use Rattle.edits.specs.Change.{packed};
 ghost use Rattle.changes.specs.Fronts.{Front};
 ghost use Rattle.changes.specs.Listed.{countOf, InScratch};
-ghost use Rattle.selection.specs.Region.{regionIn};
-ghost use Rattle.fill.specs.Fill.{offSheet, fillOf, floodFillOf, Fillable, Ready};
+ghost use Rattle.selection.specs.Region.{offSheet, regionIn};
+ghost use Rattle.fill.specs.Fill.{fillOf, floodFillOf, Fillable, Ready};
 
 // The changes that fill the area of the index at (x, y) inside the selection with another, row by row; none where
 // the point is outside, or has that index. The scratch has a place for each of the sheet's, or the answer is 16;

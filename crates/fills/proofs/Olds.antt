@@ -15,10 +15,9 @@ use Rattle.spans.specs.Positions.{Position}
 use Rattle.selection.specs.declared.Selection.{Selection}
 use Rattle.selection.specs.Selection.{positions, containsI}
 use Rattle.edits.specs.Change.{Change, place}
-use Rattle.sorting.specs.Order.{All}
+use Rattle.lists.specs.Lists.{All, kept}
 use Rattle.normal.specs.Laws.{SheetOlds}
 use Rattle.fills.specs.Fills.{hasIndex, replacing, replaced, fromPixel, global}
-use Rattle.lists.specs.Lists.{kept}
 
 module _ (w : ℕ) (l : List ℤ) where
   none : SheetOlds w l []

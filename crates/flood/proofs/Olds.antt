@@ -9,13 +9,12 @@ use lib.Dec.{ltb}
 use borrow.Author.Tests.{eqb-true}
 use lib.IntN.{ℤ, pos}
 use lib.ListN.{length, getD}
-use Rattle.lists.specs.Lists.{range, kept}
+use Rattle.lists.specs.Lists.{range, kept, All}
 use Rattle.lists.proofs.Bools.{and-left, and-right}
 use Rattle.ints.proofs.Back.{same-index}
 use Rattle.selection.specs.declared.Selection.{Selection}
 use Rattle.selection.specs.Selection.{contains}
 use Rattle.edits.specs.Change.{Change, place}
-use Rattle.sorting.specs.Order.{All}
 use Rattle.normal.specs.Laws.{SheetOlds}
 use Rattle.flood.specs.Flood.{neighbour, passable, reached, flooded, changeAt, floodOf}
 use Rattle.flood.proofs.Reachable.{or-case}

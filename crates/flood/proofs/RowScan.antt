@@ -11,11 +11,10 @@ use lib.Dec.{eqb}
 use lib.IntN.{ℤ, pos}
 use lib.ListN.{length, getD}
 use borrow.Author.Tests.{eq-eqb, ne-eqb}
-use Rattle.lists.specs.Lists.{range, some, kept}
+use Rattle.lists.specs.Lists.{range, some, kept, All}
 use Rattle.ints.specs.Ints.{eqZ}
 use Rattle.selection.specs.declared.Selection.{Selection}
 use Rattle.edits.specs.Change.{Change}
-use Rattle.sorting.specs.Order.{All}
 use Rattle.normal.specs.Normal.{keyOf, joined, enter, entered, changing, normalizeOf}
 use Rattle.normal.proofs.Group.{enter-none, enter-less, enter-same, enter-more}
 use Rattle.flood.specs.Flood.{changeAt, flooded, floodOf}

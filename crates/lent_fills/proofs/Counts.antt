@@ -21,7 +21,7 @@ use Rattle.selection.specs.declared.Selection.{Selection}
 use Rattle.selection.specs.declared.Area.{Area}
 use Rattle.selection.specs.declared.Area.the-variants as area
 use Rattle.selection.specs.Selection.{all, inside, positions, containsI}
-use Rattle.selection.specs.Region.{regionChecks, regionIn}
+use Rattle.selection.specs.Region.{offSheet, regionChecks, regionIn}
 use Rattle.selection.proofs.Rows.{length-positions}
 use Rattle.sheet.specs.Sheet.{Sheet}
 use Rattle.sheet.specs.Checks.{sheetChecks}
@@ -124,7 +124,7 @@ area-few x y w h width height a b =
 
 -- a region that is not refused has no more pixels than the sheet
 region-few : (a : Area) (w h : ℕ) → firstOf (regionChecks a w h) ≡ 0 → regionIn a w h .w * regionIn a w h .h ≤ w * h
-unfolding regionChecks regionIn all inside firstOf
+unfolding regionChecks offSheet regionIn all inside firstOf
 region-few area.Whole w h e = omega arith
 region-few (area.Part s) w h e = go (leb (s .x + s .w) w) (leb (s .y + s .h) h) refl refl e
   where

@@ -9,6 +9,11 @@ unfoldable pub some : {A : Type 0} → (A → Bool) → List A → Bool
 some p [] = false
 some p (x ∷ xs) = p x || some p xs
 
+-- P holds of each element
+unfoldable pub All : {A : Type 0} → (A → Type 0) → List A → Type 0
+All P [] = Unit {0}
+All P (x ∷ l) = P x × All P l
+
 -- Rust's `filter`: those that a test takes
 unfoldable pub kept : {A : Type 0} → (A → Bool) → List A → List A
 kept p [] = []

@@ -11,13 +11,12 @@ use lib.Dec.{eqb}
 use lib.IntN.{ℤ, pos}
 use lib.ListN.{length, getD}
 use borrow.Author.Tests.{eq-eqb, ne-eqb}
-use Rattle.lists.specs.Lists.{range, kept}
+use Rattle.lists.specs.Lists.{range, kept, All}
 use Rattle.lists.proofs.Kept.{kept-append}
 use Rattle.selection.specs.declared.Selection.{Selection}
 use Rattle.selection.specs.Selection.{contains}
 use Rattle.edits.specs.Change.{Change, place}
-use Rattle.sorting.specs.Order.{All}
-use Rattle.sorting.proofs.Order.{all-append}
+use Rattle.lists.proofs.Each.{all-append}
 use Rattle.normal.specs.Normal.{keyOf}
 use Rattle.normal.specs.Laws.{On, atPlace}
 use Rattle.tiling.specs.Tile.{turned}

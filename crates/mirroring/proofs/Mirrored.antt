@@ -13,14 +13,13 @@ use lib.IntN.{ℤ}
 use lib.ListN.{length, take, getD, length-map}
 use lib.Seq.{getD-take, ext-getD}
 use borrow.Author.Tests.{eq-eqb, ne-eqb}
-use Rattle.lists.specs.Lists.{range, kept}
+use Rattle.lists.specs.Lists.{range, kept, All}
 use Rattle.lists.proofs.Kept.{kept-append}
 use Rattle.lists.proofs.Collect.{flatMap-append, flatMap-one}
 use Rattle.selection.specs.declared.Selection.{Selection}
 use Rattle.selection.specs.Selection.{contains}
 use Rattle.edits.specs.Change.{Change, packed, unpacked, place}
-use Rattle.sorting.specs.Order.{All}
-use Rattle.sorting.proofs.Order.{all-append}
+use Rattle.lists.proofs.Each.{all-append}
 use Rattle.normal.specs.Normal.{keyOf, changing}
 use Rattle.normal.specs.Laws.{On, atPlace, firstLast}
 use Rattle.tiling.specs.Cells.{cellCount, codeOf, firstCells}

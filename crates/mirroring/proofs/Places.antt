@@ -7,10 +7,9 @@ use native.Mathlib.Nat.{mod-lt, div-add-mod'}
 use native.Mathlib.Decide.{ℕ-discrete}
 use lib.Arith.{digits-div, digits-mod}
 use borrow.Author.Tests.{eq-eqb, ne-eqb}
-use Rattle.lists.specs.Lists.{range, kept}
+use Rattle.lists.specs.Lists.{range, kept, All}
 use Rattle.edits.specs.Change.{Change, place}
-use Rattle.sorting.specs.Order.{All}
-use Rattle.sorting.proofs.Order.{all-map}
+use Rattle.lists.proofs.Each.{all-map}
 use Rattle.normal.specs.Normal.{keyOf, entered, changing, normalizeOf}
 use Rattle.normal.specs.Laws.{On, Ordered, atPlace, firstLast}
 use Rattle.normal.proofs.Shortest.{all-kept, normal-ordered, inside, on-entered}

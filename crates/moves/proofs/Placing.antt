@@ -5,9 +5,8 @@ use mathlib.Core.List.{List, [], _∷_, _++_, map, flatMap}
 use native.Mathlib.Omega.{arith}
 use lib.IntN.{ℤ, negsuc}
 use lib.ListN.{length}
-use Rattle.lists.specs.Lists.{range}
-use Rattle.sorting.specs.Order.{All}
-use Rattle.sorting.proofs.Order.{all-append}
+use Rattle.lists.specs.Lists.{range, All}
+use Rattle.lists.proofs.Each.{all-append}
 use Rattle.spans.specs.Positions.{Position, position}
 use Rattle.selection.specs.declared.Selection.{Selection}
 use Rattle.selection.specs.Selection.{positions}

@@ -8,10 +8,10 @@ use native.Mathlib.Decide.{ℕ-discrete}
 use lib.Dec.{eqb}
 use borrow.Author.Tests.{eq-eqb, ne-eqb}
 use Rattle.edits.specs.Change.{Change}
-use Rattle.sorting.specs.Order.{All}
-use Rattle.sorting.proofs.Order.{less, same, more, tri, all-map}
+use Rattle.lists.specs.Lists.{All, kept}
+use Rattle.sorting.proofs.Order.{less, same, more, tri}
+use Rattle.lists.proofs.Each.{all-map}
 use Rattle.normal.specs.Normal.{keyOf, joined, enter, entered, changing, normalizeOf}
-use Rattle.lists.specs.Lists.{kept}
 use Rattle.normal.specs.Laws.{Ordered, atPlace, folded, firstLast}
 use Rattle.normal.proofs.Group.{enter-none, enter-less, enter-same, enter-more, key-joined}
 use Rattle.normal.proofs.Shortest.{ordered-enter, normal-ordered, all-changing}

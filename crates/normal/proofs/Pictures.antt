@@ -13,14 +13,13 @@ use lib.ListN.{length, getD, set, drop, drop-of-length-le, length-set}
 use lib.Seq.{drop-cons, getD-set-same}
 use borrow.Author.Tests.{ne-eqb}
 use Rattle.ints.specs.Ints.{eqZ}
-use Rattle.lists.specs.Lists.{some}
+use Rattle.lists.specs.Lists.{some, All}
 use Rattle.lists.proofs.Nowhere.{or-both}
 use Rattle.ints.proofs.Back.{eqZ-same}
 use Rattle.edits.specs.Change.{Change, place, painted, newOf}
 use Rattle.edits.specs.Checks.{named}
 use Rattle.edits.proofs.Painting.{painted-length, painted-keeps}
-use Rattle.sorting.specs.Order.{All}
-use Rattle.sorting.proofs.Order.{all-map}
+use Rattle.lists.proofs.Each.{all-map}
 use Rattle.changes.specs.Between.{betweenFrom, between}
 use Rattle.normal.specs.Normal.{keyOf, changing, normalizeOf}
 use Rattle.normal.specs.Laws.{On, FirstOlds, Ordered}

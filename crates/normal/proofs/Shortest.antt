@@ -15,13 +15,13 @@ use borrow.Author.Tests.{leb-false, not-true, not-false}
 use Rattle.edits.specs.Change.{Change, place, outside, painted, newOf}
 use Rattle.ints.specs.Ints.{eqZ}
 use lib.Dec.{leb}
-use Rattle.lists.specs.Lists.{some, kept}
+use Rattle.lists.specs.Lists.{some, kept, All}
 use Rattle.lists.proofs.Scan.{or-left, or-right}
 use Rattle.lists.proofs.Nowhere.{first-not, rest-not}
 use Rattle.ints.proofs.Back.{eqZ-same, same-index}
 use Rattle.edits.proofs.Painting.{painted-length}
-use Rattle.sorting.specs.Order.{All}
-use Rattle.sorting.proofs.Order.{less, same, more, tri, all-map}
+use Rattle.sorting.proofs.Order.{less, same, more, tri}
+use Rattle.lists.proofs.Each.{all-map}
 use Rattle.normal.specs.Normal.{keyOf, joined, enter, entered, changing, normalizeOf}
 use Rattle.normal.specs.Laws.{On, FirstOlds, Ordered, differing}
 use Rattle.normal.proofs.Group.{enter-less, enter-same, enter-more, key-joined}

@@ -8,9 +8,8 @@ use lib.IntN.{ℤ, pos}
 use lib.ListN.{getD}
 use Rattle.ints.specs.Ints.{eqZ}
 use Rattle.edits.specs.Change.{Change, place}
-use Rattle.sorting.specs.Order.{All}
+use Rattle.lists.specs.Lists.{All, kept}
 use Rattle.normal.specs.Normal.{keyOf, joined}
-use Rattle.lists.specs.Lists.{kept}
 
 -- keys strictly in order
 unfoldable pub Ordered : List Change → Type 0

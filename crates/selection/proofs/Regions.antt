@@ -15,7 +15,7 @@ use Rattle.selection.specs.declared.Area.the-variants as area
 use Rattle.selection.specs.declared.Chosen.the-variants as chosen
 use Rattle.selection.specs.Selection.{all, inside}
 use Rattle.selection.specs.Calls.{tooLarge, allOf, regionOf}
-use Rattle.selection.specs.Region.{regionChecks, regionIn, Fits}
+use Rattle.selection.specs.Region.{offSheet, regionChecks, regionIn, Fits}
 
 -- a region that is inside
 pub record Within (s : Selection) (width height : ℕ) : Type 0 where
@@ -69,7 +69,7 @@ module _ (width height : ℕ) (across : width ≤ 1024) (down : height ≤ 1024)
   fine = rw (le-ltb _ _ across, le-ltb _ _ down)
 
   pub region-found : (a : Area) (s : Selection) → regionOf a width height ≡ chosen.Part s → Found a width height s
-  unfolding regionOf allOf regionIn regionChecks all firstOf refusedOr
+  unfolding regionOf allOf regionIn regionChecks offSheet all firstOf refusedOr
   region-found area.Whole s e =
       let same : all width height ≡ s = injected (rw fine at e) in
       record { unrefused = refl; value = sym same; fits = rw (← same) (record { right = omega arith; below = omega arith }) }
@@ -83,7 +83,7 @@ module _ (width height : ℕ) (across : width ≤ 1024) (down : height ≤ 1024)
 
   -- where it finds none
   pub region-none : (a : Area) → ((s : Selection) → regionOf a width height ≡ chosen.Part s → ⊥) → 5 ≡ firstOf (regionChecks a width height)
-  unfolding regionOf allOf regionChecks firstOf refusedOr
+  unfolding regionOf allOf regionChecks offSheet firstOf refusedOr
   region-none area.Whole h = absurd (h (all width height) (rw fine))
   region-none (area.Part s) h = go (inside s width height) refl
     where

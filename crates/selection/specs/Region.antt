@@ -1,5 +1,5 @@
 -- The region that a tool works in, after 1 to 3 of its sheet: "Selections lie inside the sheet; none means all". Definitions only. Assumes nothing.
-use mathlib.Core.Bool.{not}
+use mathlib.Core.Bool.{Bool, false, not}
 use mathlib.Core.List.{List, [], _∷_}
 use Prim.Native.Nat.{ℕ, _+_, _*_, _≤_}
 use Rattle.limits.specs.Numbers.{offTheSheet}
@@ -10,9 +10,12 @@ use Rattle.selection.specs.declared.Area.the-variants as area
 use Rattle.selection.specs.Selection.{all, inside}
 
 -- "(+) a selection, not inside"
+unfoldable pub offSheet : Area → ℕ → ℕ → Bool
+offSheet area.Whole width height = false
+offSheet (area.Part s) width height = not (inside s width height)
+
 unfoldable pub regionChecks : Area → ℕ → ℕ → List Check
-regionChecks area.Whole width height = []
-regionChecks (area.Part s) width height = offTheSheet when not (inside s width height) ∷ []
+regionChecks a width height = offTheSheet when offSheet a width height ∷ []
 
 unfoldable pub regionIn : Area → ℕ → ℕ → Selection
 regionIn area.Whole width height = all width height

@@ -5,8 +5,8 @@ use mathlib.Core.List.{List, [], _++_}
 use lib.IntN.{ℤ, pos}
 use lib.ListN.{length, getD}
 use Rattle.edits.specs.Change.{Change, place, painted, newOf}
-use Rattle.sorting.specs.Order.{All}
-use Rattle.sorting.proofs.Order.{all-append}
+use Rattle.lists.specs.Lists.{All}
+use Rattle.lists.proofs.Each.{all-append}
 use Rattle.changes.specs.Between.{between}
 use Rattle.normal.specs.Normal.{normalizeOf}
 use Rattle.normal.specs.Laws.{On}

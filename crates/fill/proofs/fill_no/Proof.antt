@@ -1,10 +1,10 @@
 -- `fill_no`: the checks in their order. Assumes nothing.
 use mathlib.Core.Path.{_≡_, sym, _∙_}
+use Rattle.selection.specs.Region.{offSheet}
 use Rattle.ints.specs.Ints.{far}
 use Rattle.ints.proofs.Back.{by-value}
 use Rattle.sheet.specs.Sheet.{sheetOf}
 use Rattle.sheet.specs.Checks.{WellFormed}
-use Rattle.fill.specs.Fill.{offSheet}
 use Rattle.fill.proofs.Tests.{fill-judged, far-across, far-down, off-it, no-room, fillable}
 use borrow.Author.Needs.{needs}
 use Rattle.fill.proofs.fill_no.Statement.{statement}
