@@ -80,13 +80,30 @@ impl Ours {
 
     fn back(&mut self) -> u8 {
         let s = &mut self.sheet;
-        call_undo(s.side, s.side, &mut s.palette, &mut s.lab, &mut s.indices, &self.journal, &mut self.state)
+        call_undo(
+            s.side,
+            s.side,
+            &mut s.palette,
+            &mut s.lab,
+            &mut s.indices,
+            &self.journal,
+            &mut self.state,
+        )
     }
 
     fn forth(&mut self) -> u8 {
         let s = &mut self.sheet;
         let (journal, scratch) = (&self.journal, &mut self.scratch);
-        call_redo(s.side, s.side, &mut s.palette, &mut s.lab, &mut s.indices, journal, scratch, &mut self.state)
+        call_redo(
+            s.side,
+            s.side,
+            &mut s.palette,
+            &mut s.lab,
+            &mut s.indices,
+            journal,
+            scratch,
+            &mut self.state,
+        )
     }
 
     fn pushed(&mut self, i: usize) -> u8 {

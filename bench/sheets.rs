@@ -39,17 +39,40 @@ impl Sheet {
     }
 
     fn check(&self) -> u8 {
-        call_check(self.side, self.side, self.k, &self.palette, &self.lab, &self.indices)
+        call_check(
+            self.side,
+            self.side,
+            self.k,
+            &self.palette,
+            &self.lab,
+            &self.indices,
+        )
     }
 
     fn new(&mut self) -> u8 {
-        call_new(self.side, self.side, self.k, &self.palette, &mut self.lab, &self.indices)
+        call_new(
+            self.side,
+            self.side,
+            self.k,
+            &self.palette,
+            &mut self.lab,
+            &self.indices,
+        )
     }
 
     /// How many counts there are, or 0 for a refusal.
     fn counts(&self, out: &mut [u32]) -> usize {
         let mut r = [0; 5];
-        call_counts(self.side, self.side, self.k, &self.palette, &self.lab, &self.indices, out, &mut r);
+        call_counts(
+            self.side,
+            self.side,
+            self.k,
+            &self.palette,
+            &self.lab,
+            &self.indices,
+            out,
+            &mut r,
+        );
         r[0]
     }
 
@@ -58,7 +81,19 @@ impl Sheet {
         let (side, k, mut r) = (self.side, self.k, [0; 5]);
         let (palette, indices) = (&base.palette, &base.indices);
         call_diff_mask(
-            side, side, k, &self.palette, &self.lab, &self.indices, side, side, k, palette, indices, mask, &mut r,
+            side,
+            side,
+            k,
+            &self.palette,
+            &self.lab,
+            &self.indices,
+            side,
+            side,
+            k,
+            palette,
+            indices,
+            mask,
+            &mut r,
         );
         r[0]
     }

@@ -45,17 +45,29 @@ fn parts(t: &mut Table) {
     for bytes in (0..40).chain(3 * 4096 - 4..3 * 4096 + 7) {
         for limited in [false, true] {
             let about = (limited, bytes);
-            tell!(t, "permitted_no", sheets::permitted_no(limited, &vec![7; bytes]), "{about:?}");
+            tell!(
+                t,
+                "permitted_no",
+                sheets::permitted_no(limited, &vec![7; bytes]),
+                "{about:?}"
+            );
         }
     }
     for _ in 0..20_000 {
         let k = draw.within(-3, 300) as i16;
         let count = draw.below(40);
-        let mut indices: Vec<i16> = (0..count).map(|_| draw.within(-1, 254) as i16 % k.max(1)).collect();
+        let mut indices: Vec<i16> = (0..count)
+            .map(|_| draw.within(-1, 254) as i16 % k.max(1))
+            .collect();
         if count > 0 && draw.once_in(2) {
             indices[draw.below(count)] = draw.from(&[-2, -1, k - 1, k, k + 1, i16::MIN, i16::MAX]);
         }
-        tell!(t, "any_stray_below", sheets::any_stray_below(&indices, k), "{indices:?} {k}");
+        tell!(
+            t,
+            "any_stray_below",
+            sheets::any_stray_below(&indices, k),
+            "{indices:?} {k}"
+        );
     }
 }
 

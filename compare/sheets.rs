@@ -154,7 +154,10 @@ pub fn linear(c: u8) -> Pair {
 /// By `delta_e`, its root, since `dist2` is private in color.rs.
 pub fn dist2(p: [f64; 3], q: [f64; 3]) -> Pair {
     let told = |x: f64| vec![0, if x.is_nan() { u64::MAX } else { x.to_bits() }];
-    [told(color::delta_e(&p, &q)[0]), told(call_dist2(&p, &q).sqrt())]
+    [
+        told(color::delta_e(&p, &q)[0]),
+        told(call_dist2(&p, &q).sqrt()),
+    ]
 }
 
 pub fn rgb8_to_lab(rgb: [u8; 3]) -> Pair {
