@@ -3,8 +3,6 @@ pub mod Filling
 pub mod Inside
 pub mod Passing
 pub mod Targets
-pub mod Mapped
-pub mod Steps
 pub mod Places
 pub mod Painting
 pub mod Unpacking

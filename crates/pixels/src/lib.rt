@@ -1,11 +1,9 @@
-// Changes of pixels as code: one change checked, painted or filled in, the loops over a list of changes, and the
-// indices lowered and raised. They ask their caller for what they need; the calls that answer every input stand in
-// the crates above.
+// Changes of pixels as code: one change checked, painted or filled in, and the loops over a list of changes. They
+// ask their caller for what they need; the calls that answer every input stand in the crates above.
 //
 // A list of changes is lent as one number of 64 bits a change.
 mod change;
 mod checks;
-mod indices;
 mod listing;
 mod paint;
 
@@ -21,8 +19,6 @@ pub use checks::both;
 pub use checks::is_stray;
 pub use checks::pixel_no;
 pub use checks::pixels_no;
-pub use indices::lower_above;
-pub use indices::raise_from;
 pub use listing::change_of;
 pub use listing::count_on;
 pub use listing::list_row;

@@ -1,4 +1,4 @@
--- `raise_from`: the indices below i are done. Assumes nothing.
+-- `lower_above`: the indices below i are done. Assumes nothing.
 use mathlib.Core.Path.{_≡_}
 use Prim.Native.Nat.{_-_}
 use native.Mathlib.Omega.{arith}
@@ -8,14 +8,13 @@ use lib.ListN.{length}
 use mir.Syntax.{w16}
 use mir.Val.{toZ}
 use mir.Facts.{toZ-pos}
-use Rattle.sheet.specs.Sheet.{stray}
-use Rattle.edits.specs.Storage.{raised}
-use Rattle.pixels.proofs.Mapped.{Mapping, mapping-none, mapping-read, mapping-next, mapping-all}
-use Rattle.pixels.proofs.indices.raise_from.Statement.{statement}
-use Rattle.pixels.proofs.indices.raise_from.Tie as tie
+use Rattle.edits.specs.Storage.{lowered}
+use Rattle.renumbering.proofs.Mapped.{Mapping, mapping-none, mapping-next, mapping-all}
+use Rattle.renumbering.proofs.indices.lower_above.Statement.{statement}
+use Rattle.renumbering.proofs.indices.lower_above.Tie as tie
 
 abbrev Inv-loop : tie.InvT-loop
-Inv-loop indices₀ index bound i₀ indices i = Mapping (raised index) indices₀ i indices
+Inv-loop indices₀ index bound i₀ indices i = Mapping (lowered index) indices₀ i indices
 
 abbrev μ-loop : tie.MeasureT-loop
 μ-loop indices₀ index bound i₀ indices i = length indices₀ - i
@@ -30,14 +29,14 @@ cast-bound c = search needs
 loop-holds : tie.Need-loop-holds Inv-loop μ-loop
 loop-holds c = mapping-none _ _
 
-mul-raise-one : tie.Need-mul-raise-one Inv-loop μ-loop
-mul-raise-one c = search needs
+mul-lower-one : tie.Need-mul-lower-one Inv-loop μ-loop
+mul-lower-one c = search needs
 
-slice-copy-out-raise-one : tie.Need-slice-copy-out-raise-one Inv-loop μ-loop
-slice-copy-out-raise-one c = search needs
+slice-copy-out-lower-one : tie.Need-slice-copy-out-lower-one Inv-loop μ-loop
+slice-copy-out-lower-one c = search needs
 
-raise-one-requires : tie.Need-raise-one-requires Inv-loop μ-loop
-raise-one-requires c κs = mapping-read (c .before .before .loop .inv) (stray 255) (c .before .before .before .pre .1) (omega arith) (c .raise-one-arg .given)
+lower-one-requires : tie.Need-lower-one-requires Inv-loop μ-loop
+lower-one-requires c κs = search needs
 
 mul-z : tie.Need-mul-z Inv-loop μ-loop
 mul-z c = search needs
@@ -54,7 +53,7 @@ loop-less c = search needs
 loop-again : tie.Need-loop-again Inv-loop μ-loop
 loop-again c =
     let at = c .before .before .before in
-    mapping-next (at .loop .inv) (c .raise-one .result) (omega arith) (c .before .raise-one-arg .given) (c .raise-one .ok) (c .raise-one .ensures _ (bound (at .before)))
+    mapping-next (at .loop .inv) (c .lower-one .result) (omega arith) (c .before .lower-one-arg .given) (c .lower-one .ok) (c .lower-one .ensures _ (bound (at .before)))
 
 same-length : tie.Need-same-length Inv-loop μ-loop
 same-length c = search needs
@@ -62,17 +61,17 @@ same-length c = search needs
 returns : tie.Need-returns Inv-loop μ-loop
 returns c = mapping-all (c .before .loop .inv) (omega arith)
 
-pub raise-from-spec : {M : Type 1} → statement M
-raise-from-spec =
+pub lower-above-spec : {M : Type 1} → statement M
+lower-above-spec =
     tie.close
     (tie.spec
     Inv-loop
     μ-loop
     cast-bound
     loop-holds
-    mul-raise-one
-    slice-copy-out-raise-one
-    raise-one-requires
+    mul-lower-one
+    slice-copy-out-lower-one
+    lower-one-requires
     mul-z
     slice-set-from-z
     add-i

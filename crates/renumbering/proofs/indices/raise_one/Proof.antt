@@ -1,7 +1,7 @@
 -- `raise_one`: by the test. Assumes nothing.
-use Rattle.pixels.proofs.Steps.{raise-fits, raise-is, raise-not}
-use Rattle.pixels.proofs.indices.raise_one.Statement.{statement}
-use Rattle.pixels.proofs.indices.raise_one.Tie as tie
+use Rattle.renumbering.proofs.Steps.{raise-fits, raise-is, raise-not}
+use Rattle.renumbering.proofs.indices.raise_one.Statement.{statement}
+use Rattle.renumbering.proofs.indices.raise_one.Tie as tie
 
 add-result : tie.Need-add-result
 add-result c = raise-fits (c .before .fits .bound) (c .before .fits .z) (c .before .pre)

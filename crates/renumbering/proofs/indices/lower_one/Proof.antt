@@ -1,7 +1,7 @@
 -- `lower_one`: by the test. Assumes nothing.
-use Rattle.pixels.proofs.Steps.{lower-fits, lower-is, lower-not}
-use Rattle.pixels.proofs.indices.lower_one.Statement.{statement}
-use Rattle.pixels.proofs.indices.lower_one.Tie as tie
+use Rattle.renumbering.proofs.Steps.{lower-fits, lower-is, lower-not}
+use Rattle.renumbering.proofs.indices.lower_one.Statement.{statement}
+use Rattle.renumbering.proofs.indices.lower_one.Tie as tie
 
 sub-result : tie.Need-sub-result
 sub-result c = lower-fits (c .before .fits .bound) (c .before .fits .z) (c .if1 .taken)

@@ -1,5 +1,5 @@
-// The indices of a picture when an entry leaves the palette or comes back. The bound has the indices'
-// width, so that the loops are compiled to vector code.
+// Every index past an entry lowered or raised by one. The bound has the indices' width, so that the loops
+// are compiled to vector code.
 ghost use mathlib.Core.Path.{_≡_};
 ghost use mathlib.Core.Bool.{false};
 ghost use mathlib.Core.List.{map};
