@@ -1,8 +1,5 @@
 // An edit apart from its list, which the caller goes through by itself: the checks before the list, a removal's
 // marks and its check after the list, and what is left to do when the list is painted.
-use apply::add_no;
-use apply::is_stale;
-use apply::set_no;
 use apply::store_entry;
 use edits::Edit;
 use entries::close_lab_gap;
@@ -12,6 +9,9 @@ use limits::NO_SUCH_ENTRY;
 use limits::Rgb;
 use limits::STALE;
 use limits::STILL_USED;
+use own_checks::add_no;
+use own_checks::is_stale;
+use own_checks::set_no;
 use remapping::any_left;
 use remapping::clear;
 use renumbering::lower_above;

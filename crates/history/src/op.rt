@@ -1,13 +1,13 @@
 // An edit done to a sheet apart from any history, where the sheet is as the edit says that it was:
 // `replay` of op.rs.
 use crate::Replayed;
-use apply::own_no;
 use apply::redo_edit;
 use edits::Edit;
 use limits::Answer;
 use limits::LIST_TOO_LONG;
 use limits::MAX_CHANGES;
 use limits::NO_SPACE;
+use own_checks::own_no;
 use sheet::check;
 use sheet::permitted_no;
 ghost use mathlib.Core.Path.{_≡_};

@@ -1,6 +1,5 @@
 // `push`: an edit checked, recorded and done.
 use apply::fill_edit;
-use apply::own_no;
 use apply::redo_edit;
 use editing::Moved;
 use editing::entry_no;
@@ -13,6 +12,7 @@ use limits::JOURNAL_FULL;
 use limits::LIST_TOO_LONG;
 use limits::MAX_CHANGES;
 use limits::NO_SPACE;
+use own_checks::own_no;
 use writing::write_record;
 ghost use mathlib.Core.Path.{_≡_};
 ghost use mathlib.Core.Bool.{Bool};

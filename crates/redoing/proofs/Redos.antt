@@ -16,7 +16,7 @@ use Rattle.edits.specs.declared.Edit.the-variants.{Pixels, PaletteSet, PaletteA
 use Rattle.edits.specs.Change.{Change}
 use Rattle.edits.specs.Checks.{barred, pixelChecks, remapChecks, leftFrom, ownChecks}
 use Rattle.pixels.specs.Inside.{bare}
-use Rattle.apply.proofs.Bare.{bare-pixels, removal-left}
+use Rattle.own_checks.proofs.Bare.{bare-pixels, removal-left}
 use Rattle.records.specs.Record.{changesIn}
 use Rattle.records.proofs.Finding.{length-in}
 use Rattle.recorded.specs.Sound.{anyColour, redoable}

@@ -7,9 +7,9 @@ use lib.ListN.{length, take}
 use lib.Seq.{length-take-le}
 use Rattle.limits.specs.Checks.{firstOf}
 use Rattle.edits.specs.Checks.{ownChecks}
-use Rattle.apply.proofs.Bare.{removal-left}
-use Rattle.apply.proofs.own.remove_no.Statement.{statement}
-use Rattle.apply.proofs.own.remove_no.Tie as tie
+use Rattle.own_checks.proofs.Bare.{removal-left}
+use Rattle.own_checks.proofs.own.remove_no.Statement.{statement}
+use Rattle.own_checks.proofs.own.remove_no.Tie as tie
 
 returns : tie.Need-returns
 unfolding ownChecks firstOf

@@ -1,7 +1,7 @@
 -- `is_stale`: the two tests are the definition's. Assumes nothing.
 use borrow.Author.Needs.{needs}
-use Rattle.apply.proofs.own.is_stale.Statement.{statement}
-use Rattle.apply.proofs.own.is_stale.Tie as tie
+use Rattle.own_checks.proofs.own.is_stale.Statement.{statement}
+use Rattle.own_checks.proofs.own.is_stale.Tie as tie
 
 has-rgb-requires : tie.Need-has-rgb-requires
 has-rgb-requires c κs = search needs

@@ -1,8 +1,8 @@
 -- `own_no`: by kinds. Assumes nothing.
 use borrow.Author.Needs.{needs}
 use Rattle.edits.specs.Checks.{pixelChecks, ownChecks}
-use Rattle.apply.proofs.own.own_no.Statement.{statement}
-use Rattle.apply.proofs.own.own_no.Tie as tie
+use Rattle.own_checks.proofs.own.own_no.Statement.{statement}
+use Rattle.own_checks.proofs.own.own_no.Tie as tie
 
 enum-told : tie.Need-enum-told
 enum-told c = search needs
