@@ -3,14 +3,12 @@
 // the numbers that the structs stand for.
 //
 // The scratch is lent as numbers, a place a pixel; what it holds after a call is free.
-mod draw;
-mod flooding;
 mod place;
 
-pub use draw::eraser;
-pub use draw::line;
-pub use draw::pencil;
-pub use draw::rectangle;
-pub use flooding::flood_fill;
+pub use lent_drawing::eraser;
+pub use lent_drawing::line;
+pub use lent_drawing::pencil;
+pub use lent_drawing::rectangle;
+pub use lent_filling::flood_fill;
 pub use place::move_selection;
 pub use place::paste;
