@@ -1,4 +1,2 @@
-pub mod Rows
 pub mod Bytes
-pub mod Slots
 pub mod Answers

@@ -1,7 +1,7 @@
 -- `copy` and `clip_rgba` of tools.rs: their checks, in document 01's order, and their answers. Definitions only. Assumes nothing.
-use Prim.Native.Nat.{ℕ, _+_, _*_}
+use Prim.Native.Nat.{ℕ, _*_}
 use mathlib.Core.Bool.{not, cond}
-use mathlib.Core.List.{List, [], _∷_, _++_, map, flatMap}
+use mathlib.Core.List.{List, [], _∷_, _++_, flatMap}
 use lib.Dec.{ltb, eqb}
 use lib.IntN.{ℤ, pos, negsuc}
 use lib.ListN.{length, getD}
@@ -15,31 +15,10 @@ use Rattle.lists.specs.Lists.{over}
 use Rattle.sheet.specs.Sheet.{Sheet}
 use Rattle.sheet.specs.Checks.{sheetChecks}
 use Rattle.triples.specs.Triples.{rgbAt}
-use Rattle.spans.specs.Positions.{Position}
 use Rattle.selection.specs.declared.Area.{Area}
 use Rattle.selection.specs.Selection.{positions}
 use Rattle.selection.specs.Region.{regionChecks, regionIn}
-use Rattle.clips.specs.declared.Copied.{Copied}
-use Rattle.clips.specs.declared.Copied.the-variants as copied
-
--- ---- what a call that makes a clip leaves: its answer, and the buffer
-pub record Clipped : Type 0 where
-  pub answer : Copied
-  pub buffer : List ℤ
-
-abbrev pub clipped : Copied → List ℤ → Clipped
-clipped answer buffer = record { answer = answer; buffer = buffer }
-
--- a call's checks, then 16; a clip of w by h, its indices row by row at the front of the buffer
-unfoldable pub clipOf : List Check → ℕ → ℕ → List ℤ → List ℤ → Clipped
-clipOf checks w h indices out =
-    checked (checks ++ (noSpace when ltb (length out) (length indices) ∷ []))
-    (λ n. clipped (copied.Refused n) out)
-    (clipped (copied.Clip w h) (over indices out))
-
--- what the pixels at these positions give, out of rows that are w wide
-unfoldable pub fromRows : ℕ → (ℕ → ℤ) → List Position → List ℤ
-fromRows w pixel ps = map (λ p. pixel (p .y * w + p .x)) ps
+use Rattle.snapping.specs.Clipped.{Clipped, clipOf, fromRows}
 
 -- ---- `copy`: "Copy the selection's indices (the whole image without one)"; 1, 2, 3, 5, 16
 abbrev pub indexOf : List ℤ → ℕ → ℤ

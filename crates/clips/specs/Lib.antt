@@ -1,3 +1,1 @@
 pub mod Clips
-pub mod Snap
-pub mod Cache

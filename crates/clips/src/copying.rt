@@ -1,5 +1,4 @@
 // `copy` and `eyedropper`.
-use crate::Copied;
 use limits::NO_SPACE;
 use limits::OFF_THE_SHEET;
 use selection::Area;
@@ -9,6 +8,7 @@ use selection::region;
 use sheet::Got;
 use sheet::check;
 use sheet::get_at;
+use snapping::Copied;
 ghost use mathlib.Core.Path.{_≡_};
 ghost use mathlib.Core.List.{map};
 ghost use Prim.Native.Nat.{_+_, _*_, _≤_};
@@ -18,7 +18,8 @@ ghost use Rattle.sheet.specs.Sheet.{sheetOf};
 ghost use Rattle.sheet.specs.Document.{getAtOf};
 ghost use Rattle.selection.specs.Selection.{positions};
 ghost use Rattle.selection.specs.Region.{Fits};
-ghost use Rattle.clips.specs.Clips.{clipped, fromRows, indexOf, copyOf};
+ghost use Rattle.snapping.specs.Clipped.{clipped, fromRows};
+ghost use Rattle.clips.specs.Clips.{indexOf, copyOf};
 
 // Copies n indices from a place on to the front of out.
 fn copy_row(indices: &[i16], from: usize, n: usize, out: &mut [i16])

@@ -3,15 +3,9 @@
 // A clip is its size and its indices, row by row, at the front of a buffer that the caller lends.
 mod copying;
 mod rgba;
-mod snap;
 
 pub use copying::copy;
 pub use copying::eyedropper;
 pub use rgba::clip_rgba;
-pub use snap::snap_rgba;
-
-// What a call that makes a clip answers: the clip's size.
-pub enum Copied {
-    Clip { w: usize, h: usize },
-    Refused(u8),
-}
+pub use snapping::Copied;
+pub use snapping::snap_rgba;

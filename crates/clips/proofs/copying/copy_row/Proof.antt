@@ -4,8 +4,8 @@ use native.Mathlib.Omega.{arith}
 use borrow.Author.Needs.{needs}
 use mir.Syntax.{w16}
 use Rattle.ints.proofs.Back.{back}
+use Rattle.snapping.proofs.Rows.{Row, row-none, row-next, row-all}
 use Rattle.clips.specs.Clips.{indexOf}
-use Rattle.clips.proofs.Rows.{Row, row-none, row-next, row-all}
 use Rattle.clips.proofs.copying.copy_row.Statement.{statement}
 use Rattle.clips.proofs.copying.copy_row.Tie as tie
 

@@ -7,8 +7,8 @@ use lib.ListN.{length, length-take, length-drop}
 use Rattle.spans.proofs.Rows.{room}
 use Rattle.selection.specs.Selection.{positions}
 use Rattle.selection.proofs.Regions.{row-inside}
+use Rattle.snapping.proofs.Rows.{Rows, rows-none, rows-next}
 use Rattle.clips.specs.Clips.{indexOf}
-use Rattle.clips.proofs.Rows.{Rows, rows-none, rows-next}
 use Rattle.clips.proofs.copying.copy_rows.Statement.{statement}
 use Rattle.clips.proofs.copying.copy_rows.Tie as tie
 

@@ -1,9 +1,9 @@
 -- `number`: the bytes in their places. Assumes nothing.
 use native.Mathlib.Omega.{arith}
 use borrow.Author.Needs.{needs}
-use Rattle.clips.proofs.Slots.{numbered}
-use Rattle.clips.proofs.snap.number.Statement.{statement}
-use Rattle.clips.proofs.snap.number.Tie as tie
+use Rattle.snapping.proofs.Slots.{numbered}
+use Rattle.snapping.proofs.snap.number.Statement.{statement}
+use Rattle.snapping.proofs.snap.number.Tie as tie
 
 cast-result : tie.Need-cast-result
 cast-result c = search needs

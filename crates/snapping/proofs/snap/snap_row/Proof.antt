@@ -5,11 +5,11 @@ use native.Mathlib.Omega.{arith}
 use borrow.Author.Needs.{needs}
 use mir.Syntax.{w16}
 use Rattle.ints.proofs.Back.{back}
-use Rattle.clips.specs.Snap.{colourAt, snapAt}
-use Rattle.clips.specs.Cache.{allOk}
-use Rattle.clips.proofs.Rows.{Row, row-none, row-next, row-all}
-use Rattle.clips.proofs.snap.snap_row.Statement.{statement}
-use Rattle.clips.proofs.snap.snap_row.Tie as tie
+use Rattle.snapping.specs.Snap.{colourAt, snapAt}
+use Rattle.snapping.specs.Cache.{allOk}
+use Rattle.snapping.proofs.Rows.{Row, row-none, row-next, row-all}
+use Rattle.snapping.proofs.snap.snap_row.Statement.{statement}
+use Rattle.snapping.proofs.snap.snap_row.Tie as tie
 
 abbrev Inv-loop : tie.InvT-loop
 Inv-loop t lab k cache₀ rgba from n out₀ i₀ cache out i = (i ≤ n) × Row (snapAt lab k rgba) from out₀ out i × allOk lab k cache

@@ -7,10 +7,10 @@ use borrow.Author.Tests.{lt-ltb, le-ltb, eq-eqb, ne-eqb}
 use lib.IntN.{pos}
 use mir.Syntax.{w16}
 use mir.Facts.{toZ-pos}
-use Rattle.clips.specs.Snap.{snapped}
-use Rattle.clips.proofs.Slots.{entry-small}
-use Rattle.clips.proofs.snap.snap_pixel.Statement.{statement}
-use Rattle.clips.proofs.snap.snap_pixel.Tie as tie
+use Rattle.snapping.specs.Snap.{snapped}
+use Rattle.snapping.proofs.Slots.{entry-small}
+use Rattle.snapping.proofs.snap.snap_pixel.Statement.{statement}
+use Rattle.snapping.proofs.snap.snap_pixel.Tie as tie
 
 returns : tie.Need-returns
 unfolding snapped

@@ -7,10 +7,10 @@ use lib.ListN.{getD}
 use Rattle.limits.specs.declared.Lab.{Lab}
 use Rattle.distances.specs.declared.Near.{Near}
 use Rattle.distances.specs.Nearest.{nearestOf}
-use Rattle.clips.specs.Snap.{entryOf}
-use Rattle.clips.proofs.Slots.{entry-small, all-filled, hit}
-use Rattle.clips.proofs.snap.cached.Statement.{statement}
-use Rattle.clips.proofs.snap.cached.Tie as tie
+use Rattle.snapping.specs.Snap.{entryOf}
+use Rattle.snapping.proofs.Slots.{entry-small, all-filled, hit}
+use Rattle.snapping.proofs.snap.cached.Statement.{statement}
+use Rattle.snapping.proofs.snap.cached.Tie as tie
 
 number-requires : tie.Need-number-requires
 number-requires c κs = search needs

@@ -9,8 +9,8 @@ use lib.ListN.{getD, set, replicate}
 use Rattle.limits.specs.declared.Rgb.{Rgb}
 use Rattle.cielab.specs.Convert.{labOf}
 use Rattle.distances.proofs.Parts.{nearest-within}
-use Rattle.clips.specs.Snap.{entryOf}
-use Rattle.clips.specs.Cache.{rgbOf, Numbered, slotOk, allOk}
+use Rattle.snapping.specs.Snap.{entryOf}
+use Rattle.snapping.specs.Cache.{rgbOf, Numbered, slotOk, allOk}
 
 -- a colour's number has its bytes
 pub numbered : (c : Rgb) → c .r < 256 → c .g < 256 → c .b < 256 → Numbered c (c .r + 256 * c .g + 65536 * c .b)

@@ -5,7 +5,7 @@ use Prim.Native.Nat.{ℕ, _+_, _/_, _%_, _^_, _<_}
 use lib.Ieee.{Float}
 use lib.ListN.{getD}
 use Rattle.limits.specs.declared.Rgb.{Rgb}
-use Rattle.clips.specs.Snap.{entryOf}
+use Rattle.snapping.specs.Snap.{entryOf}
 
 -- a colour of three bytes as one number
 unfoldable pub rgbOf : ℕ → Rgb

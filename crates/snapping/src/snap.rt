@@ -21,9 +21,9 @@ ghost use Rattle.lists.specs.Lists.{range, over};
 ghost use Rattle.cielab.specs.Curve.{linearTable};
 ghost use Rattle.sheet.specs.Sheet.{sheetOf};
 ghost use Rattle.selection.specs.Selection.{all, positions};
-ghost use Rattle.clips.specs.Clips.{clipped, fromRows};
-ghost use Rattle.clips.specs.Snap.{entryOf, snapped, snapAt, snapRgbaOf};
-ghost use Rattle.clips.specs.Cache.{Numbered, allOk};
+ghost use Rattle.snapping.specs.Clipped.{clipped, fromRows};
+ghost use Rattle.snapping.specs.Snap.{entryOf, snapped, snapAt, snapRgbaOf};
+ghost use Rattle.snapping.specs.Cache.{Numbered, allOk};
 
 // Pixels with alpha below this are transparent.
 const PASTE_ALPHA: u8 = 128;

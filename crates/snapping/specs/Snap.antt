@@ -15,7 +15,7 @@ use Rattle.distances.specs.Nearest.{nearestOf}
 use Rattle.sheet.specs.Sheet.{Sheet}
 use Rattle.sheet.specs.Checks.{sheetChecks}
 use Rattle.selection.specs.Selection.{all, positions}
-use Rattle.clips.specs.Clips.{Clipped, clipOf, fromRows}
+use Rattle.snapping.specs.Clipped.{Clipped, clipOf, fromRows}
 
 -- "every other pixel takes the nearest entry (`color::nearest_index` on the LAB palette ..)"
 unfoldable pub entryOf : List Float → ℕ → Rgb → ℕ

@@ -5,9 +5,9 @@ use native.Mathlib.Omega.{arith}
 use borrow.Author.Needs.{needs}
 use Rattle.sheet.specs.Sheet.{sheetOf}
 use Rattle.sheet.specs.Checks.{WellFormed}
-use Rattle.clips.proofs.Answers.{snap-sheet, snap-wide, snap-high, snap-few, snap-short, snap-done}
-use Rattle.clips.proofs.snap.snap_rgba.Statement.{statement}
-use Rattle.clips.proofs.snap.snap_rgba.Tie as tie
+use Rattle.snapping.proofs.Answers.{snap-sheet, snap-wide, snap-high, snap-few, snap-short, snap-done}
+use Rattle.snapping.proofs.snap.snap_rgba.Statement.{statement}
+use Rattle.snapping.proofs.snap.snap_rgba.Tie as tie
 
 check-requires : tie.Need-check-requires
 check-requires c κs = search needs

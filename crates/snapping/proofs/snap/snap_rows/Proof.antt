@@ -7,12 +7,12 @@ use borrow.Author.Needs.{needs}
 use lib.ListN.{length, length-take, length-drop}
 use Rattle.spans.proofs.Rows.{room}
 use Rattle.selection.specs.Selection.{all, positions}
-use Rattle.clips.specs.Snap.{snapAt}
-use Rattle.clips.specs.Cache.{allOk}
-use Rattle.clips.proofs.Rows.{Rows, rows-none, rows-next}
-use Rattle.clips.proofs.Slots.{all-empty}
-use Rattle.clips.proofs.snap.snap_rows.Statement.{statement}
-use Rattle.clips.proofs.snap.snap_rows.Tie as tie
+use Rattle.snapping.specs.Snap.{snapAt}
+use Rattle.snapping.specs.Cache.{allOk}
+use Rattle.snapping.proofs.Rows.{Rows, rows-none, rows-next}
+use Rattle.snapping.proofs.Slots.{all-empty}
+use Rattle.snapping.proofs.snap.snap_rows.Statement.{statement}
+use Rattle.snapping.proofs.snap.snap_rows.Tie as tie
 
 abbrev Inv-loop : tie.InvT-loop
 Inv-loop lab k rgba image-w w h out₀ t cache₀ y₀ out cache y = (y ≤ h) × Rows (snapAt lab k rgba) image-w 0 0 w out₀ out y × allOk lab k cache

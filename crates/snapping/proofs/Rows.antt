@@ -12,7 +12,7 @@ use Rattle.lists.proofs.Over.{over-none, over-set, over-lent, length-over}
 use Rattle.lists.proofs.Collect.{length-range, range-next, flatMap-append, flatMap-one}
 use Rattle.spans.specs.Positions.{Position, position, row, rows}
 use Rattle.spans.proofs.Rows.{length-rows}
-use Rattle.clips.specs.Clips.{fromRows}
+use Rattle.snapping.specs.Clipped.{fromRows}
 
 module _ (g : ℕ → ℤ) where
   -- ---- a row: what i places from one on give

@@ -1,0 +1,3 @@
+pub mod Clipped
+pub mod Snap
+pub mod Cache
