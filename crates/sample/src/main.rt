@@ -1,6 +1,6 @@
 // A fixed sample of the answers that compare/ gets from the Rust original, made again without it: some thousands of calls, every
-// exported call among them. A line has the call, its number (0 an answer, 255 "still", nothing or outside, else document 01's) and a
-// fingerprint of all that it answered and left in the buffers that it was lent.
+// call of its table among them but four that others are made of. A line has the call, its number (0 an answer, 255 "still", nothing
+// or outside, else document 01's) and a fingerprint of all that it answered and left in the buffers that it was lent.
 //
 // The inputs are dealt from seeds (crate `deals`). The file stdout was not written by this program: compare/sample.rs deals the same
 // inputs, takes the answers from the Rust and document 01's checks, and prints the lines (`compare/run FOLDER sample`).
