@@ -11,6 +11,7 @@ mod drawn;
 mod histories;
 mod inputs;
 mod journal;
+mod panel;
 mod sample;
 mod sheet;
 mod sheets;
@@ -28,6 +29,7 @@ fn main() {
     inputs::run(&mut t);
     tiled::run(&mut t);
     histories::run(&mut t);
+    panel::run(&mut t);
     let same = t.print();
     println!();
     let sound = damage::run();

@@ -14,7 +14,7 @@ use pixelforge::editor::History;
 const EACH: u64 = 60;
 const HISTORIES: u64 = 24;
 const STEPS: u64 = 60;
-const NAMES: [&str; 59] = [
+const NAMES: [&str; 63] = [
     "check",
     "with_lab",
     "new",
@@ -74,6 +74,10 @@ const NAMES: [&str; 59] = [
     "flip",
     "extract",
     "mirror_tiles",
+    "linear",
+    "dist2",
+    "permitted_no",
+    "any_stray_below",
 ];
 
 // As in crates/deals.
@@ -306,7 +310,15 @@ fn over_sheet(c: usize, d: &Deck) -> Vec<u64> {
         24 => sheets::remove_entry(case, from, 3),
         25 => sheets::merge_entries(case, from, into, 3),
         57 => tiled::extract(case, size, 6, 4, 19),
-        _ => tiled::mirror_tiles(case, a, !once_in(d[29], 40), size, &dealt(d[25], 2, change), 6, 4),
+        _ => tiled::mirror_tiles(
+            case,
+            a,
+            !once_in(d[29], 40),
+            size,
+            &dealt(d[25], 2, change),
+            6,
+            4,
+        ),
     };
     expected
 }
@@ -393,6 +405,16 @@ fn loose(c: usize, d: &Deck) -> Vec<u64> {
                 .map(|x| x | 1 << 48)
                 .collect::<Vec<u64>>(),
         ),
+        59 => sheets::linear(d[25] as u8),
+        60 => {
+            let lab = |rgb: &[u8]| pixelforge::color::rgb8_to_lab(rgb).try_into().unwrap();
+            sheets::dist2(lab(&rgb), lab(&bytes_of(d[12], 3)))
+        }
+        61 => {
+            let list = permitted(d, once_in(d[26], 2));
+            sheets::permitted_no(list.limited, &list.list[..pick(d[24], 5)])
+        }
+        62 => sheets::any_stray_below(&indices_of(d[25], 3, 6), index(d[23])),
         _ => {
             // any well-formed sheet: the call looks at none
             let case = Case::new(sheet(&deck(1), (3, 2)));
@@ -503,18 +525,25 @@ fn history(seed: u64) {
 
 fn flip(d: &Deck) -> Vec<u64> {
     let t = if once_in(d[26], 2) { 2 } else { pick(d[24], 5) };
-    let [expected, _] = tiled::flip(&indices_of(d[25], 3, 4), t, once_in(d[14], 3), once_in(d[28], 3), 5);
+    let [expected, _] = tiled::flip(
+        &indices_of(d[25], 3, 4),
+        t,
+        once_in(d[14], 3),
+        once_in(d[28], 3),
+        5,
+    );
     expected
 }
 
 pub fn print() {
-    for c in 0..47 {
+    for c in 0..51 {
         for i in 0..EACH {
             let d = deck(1000 * c as u64 + i);
             match c {
                 26..=43 => line(c, &loose(c, &d)),
                 44 => line(56, &flip(&d)),
                 45 | 46 => line(c + 12, &over_sheet(c + 12, &d)),
+                47.. => line(c + 12, &loose(c + 12, &d)),
                 _ => line(c, &over_sheet(c, &d)),
             }
         }

@@ -151,13 +151,17 @@ pub fn linear(c: u8) -> Pair {
     [vec![0, value.to_bits()], vec![0, call_linear(c).to_bits()]]
 }
 
-/// By `delta_e`, its root, since `dist2` is private in color.rs.
+/// `dist2`, which is private in color.rs, in its own words; its root is the Rust's `delta_e`.
 pub fn dist2(p: [f64; 3], q: [f64; 3]) -> Pair {
     let told = |x: f64| vec![0, if x.is_nan() { u64::MAX } else { x.to_bits() }];
-    [
+    let d = [p[0] - q[0], p[1] - q[1], p[2] - q[2]];
+    let value = d[0] * d[0] + d[1] * d[1] + d[2] * d[2];
+    assert_eq!(
         told(color::delta_e(&p, &q)[0]),
-        told(call_dist2(&p, &q).sqrt()),
-    ]
+        told(value.sqrt()),
+        "the Rust's delta_e"
+    );
+    [told(value), told(call_dist2(&p, &q))]
 }
 
 pub fn rgb8_to_lab(rgb: [u8; 3]) -> Pair {

@@ -24,7 +24,10 @@ pub fn flip(tile: &[i16], t: usize, h: bool, v: bool, out: usize) -> Pair {
         words(16, &R, &blank)
     } else {
         let wide: Vec<i64> = tile.iter().map(|&i| i.into()).collect();
-        let flipped: Vec<i16> = tiles::flip(&wide, t, h, v).iter().map(|&i| i as i16).collect();
+        let flipped: Vec<i16> = tiles::flip(&wide, t, h, v)
+            .iter()
+            .map(|&i| i as i16)
+            .collect();
         words(0, &numbers(&[t * t]), &over(&flipped, out, INDEX))
     };
     let (mut ours, mut r) = (blank, R);
@@ -57,23 +60,51 @@ pub fn extract(c: &Case, t: usize, scratch: usize, out: usize, map: usize) -> Pa
             tileset_columns: 0,
         };
         let doc = c.doc();
-        let made = tiles::extract(&doc.indices.indices, s.h, s.w, &doc.palette_lab, &config).unwrap();
-        let entries: Vec<u32> = made.tilemap.tiles.iter().flatten().map(|&n| n as u32).collect();
+        let made =
+            tiles::extract(&doc.indices.indices, s.h, s.w, &doc.palette_lab, &config).unwrap();
+        let entries: Vec<u32> = made
+            .tilemap
+            .tiles
+            .iter()
+            .flatten()
+            .map(|&n| n as u32)
+            .collect();
         let unique: Vec<i16> = made.tiles.iter().map(|&i| i as i16).collect();
         if scratch < s.w * s.h || out < unique.len() || map < entries.len() {
             refused(16)
         } else {
             let r = numbers(&[made.n_tiles, entries.len() / 3]);
-            words(0, &r, &over(&unique, out, INDEX), &over(&entries, map, HALVES))
+            words(
+                0,
+                &r,
+                &over(&unique, out, INDEX),
+                &over(&entries, map, HALVES),
+            )
         }
     };
     let (mut unique, mut entries, mut r) = (vec![INDEX; out], vec![HALVES; map], R);
     let mut work = vec![WORD; scratch];
-    let no = sheet!(call_extract, s, t, &mut unique, &mut entries, &mut work, &mut r);
+    let no = sheet!(
+        call_extract,
+        s,
+        t,
+        &mut unique,
+        &mut entries,
+        &mut work,
+        &mut r
+    );
     [expected, words(no, &r, &unique, &entries)]
 }
 
-pub fn mirror_tiles(c: &Case, a: Area, on: bool, t: usize, list: &[u64], scratch: usize, out: usize) -> Pair {
+pub fn mirror_tiles(
+    c: &Case,
+    a: Area,
+    on: bool,
+    t: usize,
+    list: &[u64],
+    scratch: usize,
+    out: usize,
+) -> Pair {
     let s = &c.sheet;
     let off = |n: &u64| usize::from(*n as u16) >= s.w || usize::from((*n >> 16) as u16) >= s.h;
     let untouched = !on || list.is_empty() || !divides(s, t);
@@ -91,7 +122,18 @@ pub fn mirror_tiles(c: &Case, a: Area, on: bool, t: usize, list: &[u64], scratch
     });
     let (mut ours, mut r) = (vec![WORD; out], R);
     let mut work = vec![WORD; scratch];
-    let no = sheet!(call_mirror_tiles, s, a.whole, &a.s, on, t, list, &mut work, &mut ours, &mut r);
+    let no = sheet!(
+        call_mirror_tiles,
+        s,
+        a.whole,
+        &a.s,
+        on,
+        t,
+        list,
+        &mut work,
+        &mut ours,
+        &mut r
+    );
     [expected, listed(no, &r, &ours)]
 }
 
@@ -104,7 +146,11 @@ fn tiled(draw: &mut Draw) -> (Sheet, usize) {
         .map(|_| (0..t * t).map(|_| draw.below(s.k + 1) as i16 - 1).collect())
         .collect();
     for cell in 0..cw * ch {
-        let (tile, h, v) = (&few[draw.below(few.len())], draw.once_in(2), draw.once_in(2));
+        let (tile, h, v) = (
+            &few[draw.below(few.len())],
+            draw.once_in(2),
+            draw.once_in(2),
+        );
         let changed = draw.once_in(6);
         for p in 0..t * t {
             let turned = |flip: bool, i: usize| if flip { t - 1 - i } else { i };
@@ -121,15 +167,26 @@ pub fn run(t: &mut Table) {
     for side in 0..4usize {
         for n in 0..side * side + 2 {
             for flips in 0..4 {
-                for out in [side * side, (side * side).saturating_sub(1), side * side + 1] {
+                for out in [
+                    side * side,
+                    (side * side).saturating_sub(1),
+                    side * side + 1,
+                ] {
                     let tile: Vec<i16> = (0..n as i16).collect();
                     let pair = flip(&tile, side, flips % 2 == 1, flips / 2 == 1, out);
-                    t.tell("flip", &pair[0], &pair[1], || format!("{n} {side} {flips} {out}"));
+                    t.tell("flip", &pair[0], &pair[1], || {
+                        format!("{n} {side} {flips} {out}")
+                    });
                 }
             }
         }
     }
-    for (side, n) in [(1024, 1 << 20), (1025, 1025 * 1025), (usize::MAX, 1), (1 << 32, 0)] {
+    for (side, n) in [
+        (1024, 1 << 20),
+        (1025, 1025 * 1025),
+        (usize::MAX, 1),
+        (1 << 32, 0),
+    ] {
         let tile: Vec<i16> = (0..n).map(|i| i as i16).collect();
         let pair = flip(&tile, side, true, false, n);
         t.tell("flip", &pair[0], &pair[1], || format!("{n} {side}"));
@@ -142,22 +199,36 @@ pub fn run(t: &mut Table) {
         let c = Case::new(sheet);
         let s = &c.sheet;
         let n = s.w * s.h;
-        let side = if draw.once_in(8) { draw.from(&[0, 1, 5, 1024, 2000]) } else { side };
+        let side = if draw.once_in(8) {
+            draw.from(&[0, 1, 5, 1024, 2000])
+        } else {
+            side
+        };
         let pair = extract(&c, side, n, n, 3 * n);
         let (tiles, entries) = match pair[0][0] {
             0 => (pair[0][1] as usize * side * side, 3 * pair[0][2] as usize),
             _ => (draw.below(5), draw.below(7)),
         };
-        t.tell("extract", &pair[0], &pair[1], || format!("{} {side}", s.about()));
+        t.tell("extract", &pair[0], &pair[1], || {
+            format!("{} {side}", s.about())
+        });
         let (scratch, out, map) = (draw.room(n), draw.room(tiles), draw.room(entries));
         let pair = extract(&c, side, scratch, out, map);
-        t.tell("extract", &pair[0], &pair[1], || format!("{} {side} {scratch} {out} {map}", s.about()));
+        t.tell("extract", &pair[0], &pair[1], || {
+            format!("{} {side} {scratch} {out} {map}", s.about())
+        });
 
         let on = !draw.once_in(10);
         let a = match draw.below(3) {
-            0 => Area { whole: false, s: [0, 0, (s.w / 2) as u16, s.h as u16] },
+            0 => Area {
+                whole: false,
+                s: [0, 0, (s.w / 2) as u16, s.h as u16],
+            },
             1 => any_area(s, &mut draw),
-            _ => Area { whole: true, s: [0; 4] },
+            _ => Area {
+                whole: true,
+                s: [0; 4],
+            },
         };
         let list: Vec<u64> = (0..draw.below(5))
             .map(|_| {
@@ -169,19 +240,34 @@ pub fn run(t: &mut Table) {
             })
             .collect();
         let pair = mirror_tiles(&c, a, on, side, &list, n, n + list.len());
-        let count = if pair[0][0] == 0 { pair[0][1] as usize } else { draw.below(4) };
-        t.tell("mirror_tiles", &pair[0], &pair[1], || format!("{} {a:?} {on} {side} {list:x?}", s.about()));
+        let count = if pair[0][0] == 0 {
+            pair[0][1] as usize
+        } else {
+            draw.below(4)
+        };
+        t.tell("mirror_tiles", &pair[0], &pair[1], || {
+            format!("{} {a:?} {on} {side} {list:x?}", s.about())
+        });
         let (scratch, out) = (draw.room(n), draw.room(count));
         let pair = mirror_tiles(&c, a, on, side, &list, scratch, out);
-        t.tell("mirror_tiles", &pair[0], &pair[1], || format!("{} {a:?} {on} {side} {list:x?} {scratch} {out}", s.about()));
+        t.tell("mirror_tiles", &pair[0], &pair[1], || {
+            format!("{} {a:?} {on} {side} {list:x?} {scratch} {out}", s.about())
+        });
     }
     // one tile of side 1 on a large sheet: a copy of each change at every place
     let c = Case::new(good(1024, 1024, 1, &mut draw));
-    let all = Area { whole: true, s: [0; 4] };
+    let all = Area {
+        whole: true,
+        s: [0; 4],
+    };
     let pair = mirror_tiles(&c, all, true, 1, &[5 << 16 | 1 << 48], 1 << 20, 1 << 20);
-    t.tell("mirror_tiles", &pair[0], &pair[1], || "1,024 x 1,024, side 1".into());
+    t.tell("mirror_tiles", &pair[0], &pair[1], || {
+        "1,024 x 1,024, side 1".into()
+    });
     for side in [8, 16] {
         let pair = extract(&c, side, 1 << 20, 1 << 20, 3 << 20);
-        t.tell("extract", &pair[0], &pair[1], || format!("1,024 x 1,024, side {side}"));
+        t.tell("extract", &pair[0], &pair[1], || {
+            format!("1,024 x 1,024, side {side}")
+        });
     }
 }

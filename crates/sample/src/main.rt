@@ -1,5 +1,5 @@
 // A fixed sample of the answers that compare/ gets from the Rust original, made again without it: some thousands of calls, every
-// call of its table among them but four that others are made of. A line has the call, its number (0 an answer, 255 "still", nothing
+// call of its table among them. A line has the call, its number (0 an answer, 255 "still", nothing
 // or outside, else document 01's) and a fingerprint of all that it answered and left in the buffers that it was lent.
 //
 // The inputs are dealt from seeds (crate `deals`). The file stdout was not written by this program: compare/sample.rs deals the same
@@ -107,6 +107,10 @@ fn print_answer(c: usize, seed: u64) {
         44 => print_line(56, flip(deal(&d))),
         45 => print_line(57, over_sheet(57, &d)),
         46 => print_line(58, over_sheet(58, &d)),
+        47 => print_line(59, bare_answer(59, deal(&d))),
+        48 => print_line(60, bare_answer(60, deal(&d))),
+        49 => print_line(61, bare_answer(61, deal(&d))),
+        50 => print_line(62, bare_answer(62, deal(&d))),
         _ => print_line(c, over_sheet(c, &d)),
     }
 }
@@ -123,7 +127,7 @@ fn print_call(c: usize, seed: u64) {
 fn print_calls() {
     let mut c: usize = 0;
     let mut seed: u64 = 0;
-    while c < 47 {
+    while c < 51 {
         print_call(c, seed);
         seed = std::num::wrapping_add_u64(seed, 1000);
         c += 1;

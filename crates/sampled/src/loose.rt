@@ -2,10 +2,12 @@
 use deals::Hand;
 use deals::colour;
 use deals::colours;
+use deals::fill_indices;
 use deals::fill_list;
 use deals::mix;
 use prints::Outcome;
 use prints::mix_answer;
+use prints::mix_doubles;
 use prints::mix_edit;
 use prints::mix_number;
 use prints::mix_part;
@@ -13,6 +15,46 @@ use prints::mix_points;
 use prints::mix_triple;
 use prints::mix_words;
 use prints::told;
+
+fn linear(a: Hand) -> Outcome {
+    let value = [exports::call_linear(a.choice.byte)];
+    told(0, mix_doubles(mix_number(0), &value))
+}
+
+// The distance of two colours, which are now and then the same.
+fn dist2(a: Hand) -> Outcome {
+    let rgb = colour(a.seeds.colour);
+    let other = colour(a.seeds.first);
+    let mut p = [0.0f64; 3];
+    let mut q = [0.0f64; 3];
+    exports::call_rgb8_to_lab(&rgb, &mut p);
+    exports::call_rgb8_to_lab(&other, &mut q);
+    let value = [exports::call_dist2(&p, &q)];
+    told(0, mix_doubles(mix_number(0), &value))
+}
+
+// The number of the first n bytes of a list.
+fn front_no(limited: bool, list: &[u8], n: usize) -> u8 {
+    if n <= list.len() {
+        exports::call_permitted_no(limited, &list[..n])
+    } else {
+        0
+    }
+}
+
+// A list of up to 4 bytes.
+fn permitted_no(a: Hand) -> Outcome {
+    let list = colours(a.seeds.listed);
+    let no = front_no(a.choice.even, &list, a.choice.size);
+    told(no, mix_number(no))
+}
+
+fn any_stray_below(a: Hand) -> Outcome {
+    let mut indices = [0i16; 6];
+    fill_indices(a.seeds.seed, 3, &mut indices);
+    let stray = exports::call_any_stray_below(&indices, a.choice.index);
+    told(0, mix(mix_number(0), one_if(stray)))
+}
 
 fn rgb8_to_lab(a: Hand) -> Outcome {
     let rgb = colour(a.seeds.colour);
@@ -245,7 +287,11 @@ fn chosen(c: usize, a: Hand) -> Outcome {
         32 => translated(a),
         33 => grown(a),
         34 => positions(a),
-        _ => region(a),
+        35 => region(a),
+        59 => linear(a),
+        60 => dist2(a),
+        61 => permitted_no(a),
+        _ => any_stray_below(a),
     }
 }
 
