@@ -11,6 +11,8 @@ use lib.Dec.{eqb}
 use lib.IntN.{ℤ, pos, negsuc, natAbs, sucℤ, _+ℤ_, _-ℤ_, +ℤ-sucℤ, +ℤ-idr, +ℤ-one, +ℤ-comm, +ℤ-invr, +ℤ-negℤ-cancel, -ℤ-+ℤ-cancel}
 use lib.Signed.{ltZ, pos-natAbs}
 use Rattle.lists.specs.Lists.{range, kept}
+use Rattle.lists.proofs.Each.{all-of}
+use Rattle.lists.proofs.Kept.{kept-map, kept-same, kept-all}
 use Rattle.ints.specs.Ints.{eqZ, fromZero, minZ, maxZ}
 use Rattle.ints.proofs.Back.{eqZ-same, same-index, never}
 use Rattle.ints.proofs.Sums.{suc-up-to}
@@ -60,25 +62,6 @@ module _ (from size : ℕ) where
   one-held a = run-held a a 1 (+ℤ-one a)
 
 -- ---- the two ends of a row
-kept-map : {A B : Type 0} (p : B → Bool) (f : A → B) (l : List A) → kept p (map f l) ≡ map f (kept (λ x. p (f x)) l)
-unfolding kept
-kept-map p f [] = refl
-kept-map p f (x ∷ l) = rw (kept-map p f l) (go (p (f x)))
-  where
-    go : (b : Bool) → cond b (f x ∷ map f (kept (λ x. p (f x)) l)) (map f (kept (λ x. p (f x)) l)) ≡ map f (cond b (x ∷ kept (λ x. p (f x)) l) (kept (λ x. p (f x)) l))
-    go true = refl
-    go false = refl
-
-kept-same : {A : Type 0} (p q : A → Bool) → ((x : A) → p x ≡ q x) → (l : List A) → kept p l ≡ kept q l
-unfolding kept
-kept-same p q e [] = refl
-kept-same p q e (x ∷ l) = rw (e x, kept-same p q e l)
-
-kept-all : {A : Type 0} (p : A → Bool) → ((x : A) → p x ≡ true) → (l : List A) → kept p l ≡ l
-unfolding kept
-kept-all p e [] = refl
-kept-all p e (x ∷ l) = rw (e x, kept-all p e l)
-
 last-only : (m j k : ℕ) → 0 < j → j + k ≡ m → kept (λ i. eqb i 0 || eqb i m) (range j (suc k)) ≡ m ∷ []
 unfolding kept range
 last-only m j zero h e = rw (ne-eqb j 0 (λ q. omega arith), eq-eqb j m (omega arith)) (ap (λ (i : ℕ). i ∷ []) (omega arith))
@@ -104,7 +87,7 @@ same-step a i j = go (eqb i j) refl (eqZ (a +ℤ pos i) (a +ℤ pos j)) refl
 
 row-whole : (a b : ℤ) → rowOf true a b ≡ through a b
 unfolding rowOf
-row-whole a b = kept-all _ (λ x. refl) (through a b)
+row-whole a b = kept-all _ (through a b) (all-of (λ x. refl) (through a b))
 
 -- a row that is no more than one place, and one that is
 one-end : (a : ℤ) → ltZ a a ≡ false → rowOf false a a ≡ a ∷ []
@@ -132,9 +115,8 @@ two-ends a b e l = go (apart a b e) refl
         ap (kept (λ (x : ℤ). false || (eqZ x a || eqZ x b))) (through-map a b e ∙ ap (λ n. map (λ (i : ℕ). a +ℤ pos i) (range 0 (suc n))) q)
         ∙ kept-map (λ (x : ℤ). false || (eqZ x a || eqZ x b)) (λ (i : ℕ). a +ℤ pos i) (range 0 (suc (suc k)))
         ∙ ap (map (λ (i : ℕ). a +ℤ pos i))
-        (kept-same (λ i. eqZ (a +ℤ pos i) a || eqZ (a +ℤ pos i) b) (λ i. eqb i 0 || eqb i (suc k))
-        (λ i. ap (λ z. eqZ (a +ℤ pos i) z || eqZ (a +ℤ pos i) b) (sym first) ∙ ap (λ z. eqZ (a +ℤ pos i) (a +ℤ pos 0) || eqZ (a +ℤ pos i) z) (sym end) ∙ rw (same-step a i 0, same-step a i (suc k)))
-        (range 0 (suc (suc k))) ∙ ends k)
+        (kept-same (λ i. eqZ (a +ℤ pos i) a || eqZ (a +ℤ pos i) b) (λ i. eqb i 0 || eqb i (suc k)) (range 0 (suc (suc k)))
+        (all-of (λ i. ap (λ z. eqZ (a +ℤ pos i) z || eqZ (a +ℤ pos i) b) (sym first) ∙ ap (λ z. eqZ (a +ℤ pos i) (a +ℤ pos 0) || eqZ (a +ℤ pos i) z) (sym end) ∙ rw (same-step a i 0, same-step a i (suc k))) (range 0 (suc (suc k)))) ∙ ends k)
         ∙ ap (λ z. z ∷ (a +ℤ pos (suc k)) ∷ []) first ∙ ap (λ z. a ∷ z ∷ []) end
 
 -- ---- a row's places

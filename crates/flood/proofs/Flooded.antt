@@ -13,10 +13,10 @@ use Rattle.edits.specs.Change.{packed}
 use Rattle.flood.specs.Flood.{changeAt, flooded, floodOf}
 use Rattle.flood.specs.Cells.{placed, emitted, pairOf, Fills}
 
-pub kept-same : (f g : ℕ → Bool) (i k : ℕ) → ((p : ℕ) → p < i + k → f p ≡ g p) → kept f (range i k) ≡ kept g (range i k)
+pub kept-within : (f g : ℕ → Bool) (i k : ℕ) → ((p : ℕ) → p < i + k → f p ≡ g p) → kept f (range i k) ≡ kept g (range i k)
 unfolding kept range
-kept-same f g i zero h = refl
-kept-same f g i (suc k) h = let e : f i ≡ g i = h i (omega arith) in let r : kept f (range (suc i) k) ≡ kept g (range (suc i) k) = kept-same f g (suc i) k (λ p q. h p (omega arith)) in rw (e, r)
+kept-within f g i zero h = refl
+kept-within f g i (suc k) h = let e : f i ≡ g i = h i (omega arith) in let r : kept f (range (suc i) k) ≡ kept g (range (suc i) k) = kept-within f g (suc i) k (λ p q. h p (omega arith)) in rw (e, r)
 
 map-map : {A B C : Type 0} (f : B → C) (g : A → B) (l : List A) → map f (map g l) ≡ map (λ x. f (g x)) l
 map-map f g [] = refl
@@ -37,6 +37,6 @@ is-flood w l region start index s pair n f e =
     let old : ℤ = getD l start (pos 0) in
     let ps : List ℕ = kept (flooded w l region start) (range 0 (length l)) in
     rw (n, e)
-    (ap (map (placed w (pairOf old index))) (kept-same (λ p. eqb (getD s p 0 % 2) 1) (flooded w l region start) 0 (length l) (λ p q. f p (omega arith)))
+    (ap (map (placed w (pairOf old index))) (kept-within (λ p. eqb (getD s p 0 % 2) 1) (flooded w l region start) 0 (length l) (λ p q. f p (omega arith)))
     ∙ map-same (placed w (pairOf old index)) (λ p. packed (changeAt w old index p)) ps (placed-packed w old index)
     ∙ sym (map-map packed (changeAt w old index) ps))

@@ -12,18 +12,15 @@ use lib.IntN.{ℤ, pos}
 use lib.ListN.{length, getD}
 use borrow.Author.Tests.{eq-eqb, ne-eqb}
 use Rattle.lists.specs.Lists.{range, some, kept, All}
+use Rattle.lists.proofs.Each.{all-of}
+use Rattle.lists.proofs.Kept.{kept-map, kept-same, kept-all}
 use Rattle.ints.specs.Ints.{eqZ}
 use Rattle.selection.specs.declared.Selection.{Selection}
 use Rattle.edits.specs.Change.{Change}
 use Rattle.normal.specs.Normal.{keyOf, joined, enter, entered, changing, normalizeOf}
 use Rattle.normal.proofs.Group.{enter-none, enter-less, enter-same, enter-more}
 use Rattle.flood.specs.Flood.{changeAt, flooded, floodOf}
-use Rattle.flood.proofs.Flooded.{kept-same}
-
-same : (f g : ℕ → Bool) (i k : ℕ) → ((p : ℕ) → f p ≡ g p) → kept f (range i k) ≡ kept g (range i k)
-unfolding kept range
-same f g i zero h = refl
-same f g i (suc k) h = let e : f i ≡ g i = h i in let r : kept f (range (suc i) k) ≡ kept g (range (suc i) k) = same f g (suc i) k h in rw (e, r)
+use Rattle.flood.proofs.Flooded.{kept-within}
 
 nothing : (i k : ℕ) → kept (λ q. false) (range i k) ≡ []
 unfolding kept range
@@ -83,11 +80,11 @@ module _ (at : ℕ → Change) (less : (i p : ℕ) → i < p → keyOf (at i) < 
   -- all of them
   pub entered-scan : (n : ℕ) (f : ℕ → Bool) (ps : List ℕ) → All (λ p. p < n) ps → entered (map at (kept f (range 0 n))) (map at ps) ≡ map at (kept (λ q. f q || some (eqb q) ps) (range 0 n))
   unfolding entered All some plus
-  entered-scan n f [] a = ap (map at) (same f (λ q. f q || false) 0 n (λ q. sym (or-false (f q))))
+  entered-scan n f [] a = ap (map at) (kept-same f (λ q. f q || false) (range 0 n) (all-of (λ q. sym (or-false (f q))) (range 0 n)))
   entered-scan n f (p ∷ ps) a =
       ap (λ (m : List Change). entered m (map at ps)) (enter-scan f p 0 n (omega arith) (omega (arith, a .0)))
       ∙ entered-scan n (plus f p) ps (a .1)
-      ∙ ap (map at) (same (λ q. plus f p q || some (eqb q) ps) (λ q. f q || (eqb q p || some (eqb q) ps)) 0 n (λ q. or-assoc (f q) (eqb q p) (some (eqb q) ps)))
+      ∙ ap (map at) (kept-same (λ q. plus f p q || some (eqb q) ps) (λ q. f q || (eqb q p || some (eqb q) ps)) (range 0 n) (all-of (λ q. or-assoc (f q) (eqb q p) (some (eqb q) ps)) (range 0 n)))
 
   -- the normal form of the changes of places to one index: one scan of the rows
   pub normal-scan : (n : ℕ) (ps : List ℕ) → All (λ p. p < n) ps → normalizeOf (map at ps) ≡ kept changing (map at (kept (λ q. some (eqb q) ps) (range 0 n)))
@@ -97,11 +94,6 @@ module _ (at : ℕ → Change) (less : (i p : ℕ) → i < p → keyOf (at i) < 
       (ap (λ (m : List ℕ). entered (map at m) (map at ps)) (sym (nothing 0 n)) ∙ entered-scan n (λ q. false) ps a)
 
 -- ---- a flood's places
-kept-map : {A : Type 0} (f : Change → Bool) (g : A → Change) (l : List A) → ((a : A) → f (g a) ≡ true) → kept f (map g l) ≡ map g l
-unfolding kept
-kept-map f g [] h = refl
-kept-map f g (a ∷ l) h = let e : f (g a) ≡ true = h a in let r : kept f (map g l) ≡ map g l = kept-map f g l h in rw (e, r)
-
 module _ (w : ℕ) (z : 0 < w) (small : w ≤ 65536) (old new : ℤ) where
   key-at : (p : ℕ) → keyOf (changeAt w old new p) ≡ p / w * 65536 + p % w
   unfolding keyOf changeAt
@@ -132,6 +124,8 @@ pub any-order : (w : ℕ) (l : List ℤ) (region : Selection) (start : ℕ) (ind
 unfolding floodOf
 any-order w l region start index z small e ps a h =
     let old : ℤ = getD l start (pos 0) in
+    let reached : List ℕ = kept (λ q. some (eqb q) ps) (range 0 (length l)) in
     normal-scan (changeAt w old index) (key-less w z small old index) (joined-at w z small old index) (length l) ps a
-    ∙ kept-map changing (changeAt w old index) (kept (λ q. some (eqb q) ps) (range 0 (length l))) (changes-at w z small old index e)
-    ∙ ap (map (changeAt w old index)) (kept-same (λ q. some (eqb q) ps) (flooded w l region start) 0 (length l) (λ p q. h p (omega arith)))
+    ∙ kept-map changing (changeAt w old index) reached
+    ∙ ap (map (changeAt w old index)) (kept-all (λ p. changing (changeAt w old index p)) reached (all-of (changes-at w z small old index e) reached))
+    ∙ ap (map (changeAt w old index)) (kept-within (λ q. some (eqb q) ps) (flooded w l region start) 0 (length l) (λ p q. h p (omega arith)))

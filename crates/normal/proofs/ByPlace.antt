@@ -11,6 +11,7 @@ use Rattle.edits.specs.Change.{Change}
 use Rattle.lists.specs.Lists.{All, kept}
 use Rattle.sorting.proofs.Order.{less, same, more, tri}
 use Rattle.lists.proofs.Each.{all-map}
+use Rattle.lists.proofs.Kept.{kept-all}
 use Rattle.normal.specs.Normal.{keyOf, joined, enter, entered, changing, normalizeOf}
 use Rattle.normal.specs.Laws.{Ordered, atPlace, folded, firstLast}
 use Rattle.normal.proofs.Group.{enter-none, enter-less, enter-same, enter-more, key-joined}
@@ -122,11 +123,6 @@ unfolding entered
 entered-ordered m [] o = sym (append-nil m)
 entered-ordered m (c ∷ cs) o =
     ap (λ (x : List Change). entered x cs) (enter-last c m (below m c cs o)) ∙ entered-ordered (m ++ (c ∷ [])) cs (rw (append-assoc m (c ∷ []) cs) o) ∙ append-assoc m (c ∷ []) cs
-
-kept-all : (t : Change → Bool) (m : List Change) → All (λ e. t e ≡ true) m → kept t m ≡ m
-unfolding kept All
-kept-all t [] a = refl
-kept-all t (e ∷ m) a = rw (a .0) (ap (λ (x : List Change). e ∷ x) (kept-all t m (a .1)))
 
 -- normalised again, a normal form is the same
 pub normal-again : (cs : List Change) → normalizeOf (normalizeOf cs) ≡ normalizeOf cs
