@@ -26,11 +26,11 @@ use Rattle.edits.specs.Change.{Change, packed}
 use Rattle.edits.specs.Checks.{permittedOf}
 use Rattle.entries.specs.Unfilled.{noLab}
 use Rattle.removals.specs.Removal.{remapOf, mergeChecks}
+use Rattle.ledger.specs.Handle.{dirty}
 use Rattle.ledger.specs.Calls.{Outcome, refused, guarded}
 use Rattle.ledger.specs.Calls.Call.{push, undo, redo, mark}
 use Rattle.ledger.specs.Journal.{State, opened, step}
 use Rattle.editing.specs.Editing.{Given, givenOf, editing}
-use Rattle.looks.specs.Looks.{dirty}
 use Rattle.frames.specs.Reading.{frameOf, paletteIn, indicesIn, changesFrom}
 use Rattle.frames.specs.Writing.{lineOf, numberLine}
 use Rattle.frames.specs.declared.Frame.{Frame}

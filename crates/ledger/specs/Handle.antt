@@ -1,5 +1,5 @@
--- Document 01's handle: when it is sound, and the steps that push, undo, redo and mark make on it. Definitions only. Assumes nothing.
-use mathlib.Core.Bool.{Bool, true, cond, _&&_, _||_, Bool·beq}
+-- Document 01's handle: when it is sound, when it is dirty, and the steps that push, undo, redo and mark make on it. Definitions only. Assumes nothing.
+use mathlib.Core.Bool.{Bool, true, not, cond, _&&_, _||_, Bool·beq}
 use mathlib.Core.List.{List, [], _∷_}
 use mathlib.Core.Option.{Option, none, some}
 use Prim.Native.Nat.{ℕ, _+_, _-_, _*_}
@@ -60,3 +60,11 @@ steppedForth n h = record { offset = h .offset + n; end = h .end; position = h .
 -- "Mark: saved is standing"
 abbrev pub marked : Handle → Handle
 marked h = record { offset = h .offset; end = h .end; position = h .position; count = h .count; saved = h .position }
+
+-- "Dirty means saved is none or another position"
+unfoldable pub isOther : Option ℕ → ℕ → Bool
+isOther none position = true
+isOther (some saved) position = not (eqb saved position)
+
+abbrev pub dirty : Handle → Bool
+dirty h = isOther (savedPosition h) (h .position)

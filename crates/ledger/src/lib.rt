@@ -6,7 +6,7 @@
 ghost use mathlib.Core.Path.{_≡_};
 ghost use Prim.Native.Nat.{_+_, _≤_, _<_};
 ghost use Rattle.limits.specs.Limits.{maxJournal};
-ghost use Rattle.ledger.specs.Handle.{fresh, sound, afterPush, steppedBack, steppedForth, marked};
+ghost use Rattle.ledger.specs.Handle.{fresh, sound, afterPush, steppedBack, steppedForth, marked, dirty};
 
 // No saved position.
 pub const NOWHERE: usize = 18_446_744_073_709_551_615;
@@ -77,6 +77,17 @@ impl Handle {
     {
         self.saved = self.position;
         self
+    }
+
+    // Whether no position is saved, or another than the standing one.
+    pub fn is_dirty(self) -> bool
+        ensures { λ r. ⌜ r ≡ dirty self ⌝ }
+    {
+        let saved = self.saved;
+        if saved == NOWHERE {
+            return true;
+        }
+        saved != self.position
     }
 }
 

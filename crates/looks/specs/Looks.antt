@@ -1,8 +1,8 @@
 -- What a maker asks of a history without changing its sheet: history.rs, `is_dirty`, `can_undo`, `can_redo`, `next_undo`, `next_redo` and `applied`. Each looks
 -- at the journal's length (1) and the handle (4), at no sheet. Definitions only. Assumes nothing.
-use mathlib.Core.Bool.{Bool, true, not, cond}
+use mathlib.Core.Bool.{Bool, not, cond}
 use mathlib.Core.List.{List, [], _∷_}
-use mathlib.Core.Option.{Option, none, some}
+use mathlib.Core.Option.{none, some}
 use Prim.Native.Nat.{ℕ, _+_, _-_, _*_}
 use lib.Dec.{leb, eqb}
 use lib.ListN.{length, take, drop}
@@ -12,7 +12,7 @@ use Rattle.edits.specs.declared.Edit.{Edit}
 use Rattle.edits.specs.Change.{Change}
 use Rattle.records.specs.Record.{Reading, readForth, readBack}
 use Rattle.ledger.specs.declared.Handle.{Handle}
-use Rattle.ledger.specs.Handle.{savedPosition, steppedBack, steppedForth}
+use Rattle.ledger.specs.Handle.{steppedBack, steppedForth}
 use Rattle.ledger.specs.Journal.{unsound}
 use Rattle.editing.specs.Calls.{handleChecks}
 use Rattle.looks.specs.declared.Truth.{Truth}
@@ -23,14 +23,6 @@ use Rattle.looks.specs.declared.Next.the-variants as next
 -- ---- questions
 unfoldable pub asked : ℕ → Handle → Bool → Truth
 asked n h b = checked (handleChecks n h) truth.Refused (truth.Is b)
-
--- "Dirty means saved is none or another position"
-unfoldable pub isOther : Option ℕ → ℕ → Bool
-isOther none position = true
-isOther (some saved) position = not (eqb saved position)
-
-abbrev pub dirty : Handle → Bool
-dirty h = isOther (savedPosition h) (h .position)
 
 -- "Undo: at 0 "still"", "Redo: at the last "still"": else there is a record
 abbrev pub undoLeft : Handle → Bool

@@ -2,10 +2,10 @@
 use crate::Truth;
 use editing::handle_no;
 use ledger::Handle;
-use ledger::NOWHERE;
 ghost use mathlib.Core.Path.{_≡_};
 ghost use lib.ListN.{length};
-ghost use Rattle.looks.specs.Looks.{asked, dirty, undoLeft, redoLeft};
+ghost use Rattle.ledger.specs.Handle.{dirty};
+ghost use Rattle.looks.specs.Looks.{asked, undoLeft, redoLeft};
 
 // What a question about a sound handle answers, or the number of the first of 1 and 4 that applies.
 fn ask(size: usize, handle: Handle, truth: bool) -> Truth
@@ -18,22 +18,11 @@ fn ask(size: usize, handle: Handle, truth: bool) -> Truth
     Truth::Is(truth)
 }
 
-// Whether no position is saved, or another than the standing one.
-fn is_other(handle: Handle) -> bool
-    ensures { λ r. ⌜ r ≡ dirty handle ⌝ }
-{
-    let saved = handle.saved;
-    if saved == NOWHERE {
-        return true;
-    }
-    saved != handle.position
-}
-
 // Whether the sheet differs from its last saved state, as far as the history tells.
 pub fn is_dirty(journal: &[u8], handle: Handle) -> Truth
     ensures { λ r. ⌜ r ≡ asked (length (now (journal .entry))) handle (dirty handle) ⌝ }
 {
-    ask(journal.len(), handle, is_other(handle))
+    ask(journal.len(), handle, handle.is_dirty())
 }
 
 // Whether there is a record to undo.

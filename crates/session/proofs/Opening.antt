@@ -21,8 +21,7 @@ use Rattle.sheet.specs.Sheet.{Sheet, sheetOf}
 use Rattle.sheet.specs.Checks.{limitChecks, indexChecks}
 use Rattle.sheet.specs.Document.{New, newMade, newLab, newOf}
 use Rattle.ledger.specs.declared.Handle.{Handle}
-use Rattle.ledger.specs.Handle.{fresh}
-use Rattle.looks.specs.Looks.{dirty}
+use Rattle.ledger.specs.Handle.{fresh, dirty}
 use Rattle.frames.specs.Reading.{paletteIn, indicesIn, indexOf}
 use Rattle.frames.specs.Writing.{lineOf, numberLine}
 use Rattle.session.specs.declared.Core.{Core}

@@ -17,7 +17,7 @@ use Rattle.limits.specs.Answer.{numberOf}
 use Rattle.sheet.specs.Sheet.{sheetOf}
 use Rattle.editing.specs.declared.Moved.{Moved}
 use Rattle.editing.specs.Calls.{stateOf, leaves}
-use Rattle.looks.specs.Looks.{dirty}
+use Rattle.ledger.specs.Handle.{dirty}
 use Rattle.records.proofs.LittleEndian.{drop-take}
 use Rattle.frames.specs.Reading.{told, sizeOf, frameOf, changeAt, changesFrom}
 use Rattle.frames.specs.Writing.{lineOf, numberLine}

@@ -7,38 +7,25 @@ use frames::Frame;
 use frames::decode;
 use frames::put_line;
 use frames::put_number;
-use history::Handle;
-use history::NOWHERE;
 use limits::UNREAD_FRAME;
 ghost use mathlib.Core.Path.{_≡_};
 ghost use mathlib.Core.Bool.{true, false};
 ghost use Prim.Native.Nat.{_+_, _*_, _≤_};
 ghost use lib.ListN.{length, take};
-ghost use Rattle.looks.specs.Looks as looks;
+ghost use Rattle.ledger.specs.Handle.{dirty};
 ghost use Rattle.frames.specs.Reading.{sizeOf};
 ghost use Rattle.frames.specs.Writing.{lineOf, numberLine};
 ghost use Rattle.answering.specs.Panel.{unopenedOf, actOf, stepOf};
 ghost use Rattle.session.specs.Memory.{panelIn, Fits, Tells, Steps};
 
-// Whether no position is saved, or another than the standing one.
-fn is_dirty(handle: Handle) -> bool
-    ensures { λ r. ⌜ r ≡ looks.dirty handle ⌝ }
-{
-    let saved = handle.saved;
-    if saved == NOWHERE {
-        return true;
-    }
-    saved != handle.position
-}
-
 // The whole line.
 pub(crate) fn whole(core: Core, indices: &[i16], answer: u8, out: &mut [u8], at: usize) -> Stepped
     requires { ⌜ (core .w * core .h ≤ 4096) × (length (now indices) ≡ 4096) × (at + 8203 ≤ length (now out)) ⌝ }
-    ensures { λ r. ⌜ Tells r core (now (out .entry)) (now (out .exit)) at (lineOf answer (core .handle .position) (looks.dirty (core .handle)) (core .k) (take (core .w * core .h) (now (indices .entry)))) ⌝ }
+    ensures { λ r. ⌜ Tells r core (now (out .entry)) (now (out .exit)) at (lineOf answer (core .handle .position) (dirty (core .handle)) (core .k) (take (core .w * core .h) (now (indices .entry)))) ⌝ }
 {
     let n = core.w * core.h;
     let handle = core.handle;
-    let dirty = is_dirty(handle);
+    let dirty = handle.is_dirty();
     let end = put_line(
         out,
         at,

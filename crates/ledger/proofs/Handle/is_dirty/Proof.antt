@@ -1,9 +1,8 @@
--- `is_dirty`: none is saved, or another position. Assumes nothing.
-use Rattle.looks.specs.Looks.{isOther}
-use Rattle.ledger.specs.Handle.{savedPosition}
+-- `Handle::is_dirty`: none is saved, or another position. Assumes nothing.
 use borrow.Author.Tests.{eq-eqb, ne-eqb}
-use Rattle.session.proofs.line.is_dirty.Statement.{statement}
-use Rattle.session.proofs.line.is_dirty.Tie as tie
+use Rattle.ledger.specs.Handle.{savedPosition, isOther}
+use Rattle.ledger.proofs.Handle.is_dirty.Statement.{statement}
+use Rattle.ledger.proofs.Handle.is_dirty.Tie as tie
 
 returns : tie.Need-returns
 unfolding savedPosition isOther
