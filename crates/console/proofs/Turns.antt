@@ -9,10 +9,10 @@ use lib.ListN.{length, take, drop, set, length-append}
 use Rattle.lists.specs.Lists.{over}
 use lib.Seq.{length-take-le, take-at, take-suc-set}
 use Rattle.records.specs.Bytes.{splice}
-use Rattle.session.specs.declared.Stepped.{Stepped}
+use Rattle.opening.specs.declared.Stepped.{Stepped}
 use Rattle.answering.specs.Lines.{fed, grown, saying, byteFed}
 use Rattle.answering.specs.Panel.{Panel, stepOf}
-use Rattle.session.specs.Memory.{Steps}
+use Rattle.opening.specs.Memory.{Steps}
 
 fed-eq : {S : Type 0} {s s′ : S} {l l′ t t′ : List ℕ} → s ≡ s′ → l ≡ l′ → t ≡ t′ → fed s l t ≡ fed s′ l′ t′
 fed-eq e f g = rw (e, f, g)

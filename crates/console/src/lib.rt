@@ -4,8 +4,8 @@
 mod pour;
 mod reads;
 
+use opening::Core;
 pub use reads::run;
-use session::Core;
 
 // Digits of a line that are held: one more than are read, so that a longer line is known, however long.
 const HELD: usize = 16_385;

@@ -4,14 +4,14 @@ use crate::HELD;
 use crate::LONGEST;
 use crate::Poured;
 use crate::Turn;
-use session::Core;
+use opening::Core;
 use session::step;
 ghost use mathlib.Core.Path.{_≡_};
 ghost use Prim.Native.Nat.{_+_, _≤_};
 ghost use lib.ListN.{length, take, drop};
 ghost use Rattle.answering.specs.Lines.{fed, saying, byteFed, chunkFed};
 ghost use Rattle.answering.specs.Panel.{stepOf};
-ghost use Rattle.session.specs.Memory.{panelIn, Fits};
+ghost use Rattle.opening.specs.Memory.{panelIn, Fits};
 ghost use Rattle.console.specs.Chunks.{Holds, Onward};
 
 // What one byte does. Of a line that is too long the later bytes are not kept.

@@ -7,13 +7,13 @@ use crate::pour::pour;
 use history::fresh;
 use libc::STDIN_FILENO;
 use libc::STDOUT_FILENO;
-use session::Core;
+use opening::Core;
 use session::step;
 ghost use mathlib.Core.Path.{_≡_};
 ghost use lib.ListN.{length, take};
 ghost use Rattle.answering.specs.Lines.{chunkFed};
 ghost use Rattle.answering.specs.Panel.{stepOf};
-ghost use Rattle.session.specs.Memory.{panelIn, Fits};
+ghost use Rattle.opening.specs.Memory.{panelIn, Fits};
 ghost use Rattle.console.specs.Chunks.{Holds, Left};
 
 // Answers a chunk: the text is written whenever it may lack room, and at the chunk's end.

@@ -1,4 +1,2 @@
-pub mod Clearing
-pub mod Opening
 pub mod Steps
 pub mod Played

@@ -1,7 +1,7 @@
--- From texts and calls to what a line does. Assumes nothing.
+-- From calls to what a line does. Assumes nothing.
 use Prim.Native.Nat.{ℕ, zero, suc, _+_, _*_, _-_, _≤_}
-use mathlib.Core.Path.{_≡_, refl, sym, ap, _∙_}
-use mathlib.Core.Bool.{Bool, true, false}
+use mathlib.Core.Path.{_≡_, refl, _∙_}
+use mathlib.Core.Bool.{true, false}
 use mathlib.Core.List.{List, [], _∷_, _++_}
 use mathlib.Core.Logic.{⊎-elim}
 use mathlib.Core.Option.{none, some}
@@ -24,25 +24,11 @@ use Rattle.frames.specs.Writing.{lineOf, numberLine}
 use Rattle.frames.specs.declared.Frame.{Frame}
 use Rattle.frames.specs.declared.Frame.the-variants.{Open, Pixels, Set, Add, Merge, Undo, Redo, Mark, Malformed}
 use Rattle.frames.proofs.Frame.{the-type}
-use Rattle.frames.proofs.Lines.{length-line}
-use Rattle.session.specs.declared.Core.{Core}
-use Rattle.session.specs.declared.Stepped.{Stepped}
 use Rattle.answering.specs.Lines.{Said, said}
 use Rattle.answering.specs.Panel.{Panel, callOf, wholeLine, shown, openSheet, unopenedOf, actOf, stepOf}
-use Rattle.session.specs.Memory.{panelIn, Fits, Tells, Steps}
-
--- a text that was told, and the state that stands
-pub told-steps : (r : Stepped) (core : Core) (palette : List ℕ) (lab : List Float) (indices : List ℤ) (journal out₀ out : List ℕ) (at : ℕ) (text : List ℕ) (o : Said Panel)
-    → Tells r core out₀ out at text → text ≡ o .text → panelIn core palette lab indices journal ≡ o .state → core .w * core .h ≤ 4096
-    → Steps r (panelIn (r .core) palette lab indices journal) out₀ out at o
-told-steps r core palette lab indices journal out₀ out at text o t e s small =
-    record {
-      state-is = rw (t .core-is) s;
-      out-is = rw e at (t .out-is);
-      end-is = rw e at (t .end-is);
-      short = rw e at (t .short);
-      small = rw (t .core-is) small;
-    }
+use Rattle.opening.specs.declared.Core.{Core}
+use Rattle.opening.specs.Memory.{panelIn, Fits}
+use Rattle.opening.proofs.Texts.{shut}
 
 -- ---- a frame on the open sheet, which the call left as m and the buffers have it
 module _
@@ -83,10 +69,6 @@ module _ (part indices : List ℤ) (n : ℕ) (room : n ≤ length indices) (same
 
   pub part-whole : length (part ++ drop n indices) ≡ length indices
   part-whole = simp (length-append, length-drop) (omega (arith, part-length))
-
--- the text of a line fits
-pub line-short : (answer position : ℕ) (d : Bool) (k n : ℕ) (indices : List ℤ) → n ≤ 4096 → n ≤ length indices → length (lineOf answer position d k (take n indices)) ≤ 8203
-line-short answer position d k n indices small room = omega (arith, length-line answer position d k (take n indices), length-take-le n indices room)
 
 -- ---- a line, by its frame
 
@@ -141,10 +123,6 @@ unfolding stepOf
 step-by p line f l e = rw (← e) (act-take p f l)
 
 -- before the opening
-pub shut : (core : Core) (palette : List ℕ) (lab : List Float) (indices : List ℤ) (journal : List ℕ) → core .opened ≡ false → panelIn core palette lab indices journal ≡ none
-unfolding panelIn
-shut core palette lab indices journal e = rw e
-
 pub act-shut : (core : Core) (palette : List ℕ) (lab : List Float) (indices : List ℤ) (journal : List ℕ) (f : Frame) (bs : List ℕ) → core .opened ≡ false
     → actOf (panelIn core palette lab indices journal) f bs ≡ unopenedOf f bs
 unfolding actOf
@@ -171,16 +149,6 @@ unopened-call Undo bs o = refl
 unopened-call Redo bs o = refl
 unopened-call Mark bs o = refl
 unopened-call Malformed bs o = refl
-
--- a line that is answered by its number only, before the opening
-pub told-failed : (r : Stepped) (core : Core) (palette : List ℕ) (lab : List Float) (indices : List ℤ) (journal out₀ out : List ℕ) (at n : ℕ) (o : Said Panel)
-    → Tells r core out₀ out at (numberLine n) → core .opened ≡ false → o ≡ said none (numberLine n) → core .w * core .h ≤ 4096
-    → Steps r (panelIn (r .core) palette lab indices journal) out₀ out at o
-told-failed r core palette lab indices journal out₀ out at n o t e q small =
-    told-steps r core palette lab indices journal out₀ out at (numberLine n) o t
-    (sym (ap (λ (x : Said Panel). x .text) q))
-    (shut core palette lab indices journal e ∙ sym (ap (λ (x : Said Panel). x .state) q))
-    small
 
 -- buffers keep their lengths
 pub refits : {core core′ : Core} {p l i j b s p′ l′ i′ j′ b′ s′ : ℕ} → Fits core p l i j b s → core′ .w * core′ .h ≤ 4096

@@ -1,51 +1,20 @@
 // A line answered: the state after it, and its text.
-use crate::Core;
-use crate::Stepped;
-use crate::open::open_sheet;
 use answering::call;
 use frames::Frame;
 use frames::decode;
-use frames::put_line;
-use frames::put_number;
 use limits::UNREAD_FRAME;
+use opening::Core;
+use opening::Stepped;
+use opening::number;
+use opening::open_sheet;
+use opening::whole;
 ghost use mathlib.Core.Path.{_≡_};
 ghost use mathlib.Core.Bool.{true, false};
-ghost use Prim.Native.Nat.{_+_, _*_, _≤_};
-ghost use lib.ListN.{length, take};
-ghost use Rattle.ledger.specs.Handle.{dirty};
+ghost use Prim.Native.Nat.{_+_, _≤_};
+ghost use lib.ListN.{length};
 ghost use Rattle.frames.specs.Reading.{sizeOf};
-ghost use Rattle.frames.specs.Writing.{lineOf, numberLine};
 ghost use Rattle.answering.specs.Panel.{unopenedOf, actOf, stepOf};
-ghost use Rattle.session.specs.Memory.{panelIn, Fits, Tells, Steps};
-
-// The whole line.
-pub(crate) fn whole(core: Core, indices: &[i16], answer: u8, out: &mut [u8], at: usize) -> Stepped
-    requires { ⌜ (core .w * core .h ≤ 4096) × (length (now indices) ≡ 4096) × (at + 8203 ≤ length (now out)) ⌝ }
-    ensures { λ r. ⌜ Tells r core (now (out .entry)) (now (out .exit)) at (lineOf answer (core .handle .position) (dirty (core .handle)) (core .k) (take (core .w * core .h) (now (indices .entry)))) ⌝ }
-{
-    let n = core.w * core.h;
-    let handle = core.handle;
-    let dirty = handle.is_dirty();
-    let end = put_line(
-        out,
-        at,
-        answer,
-        handle.position,
-        dirty,
-        core.k,
-        &indices[..n],
-    );
-    Stepped { core, at: end }
-}
-
-// A number only.
-pub(crate) fn number(core: Core, no: u8, out: &mut [u8], at: usize) -> Stepped
-    requires { ⌜ at + 8203 ≤ length (now out) ⌝ }
-    ensures { λ r. ⌜ Tells r core (now (out .entry)) (now (out .exit)) at (numberLine no) ⌝ }
-{
-    let end = put_number(out, at, no);
-    Stepped { core, at: end }
-}
+ghost use Rattle.opening.specs.Memory.{panelIn, Fits, Steps};
 
 // A frame before the opening.
 fn unopened(

@@ -1,6 +1,6 @@
 -- `pour`: the bytes of the chunk up to i are taken. Assumes nothing.
 use Rattle.console.proofs.Pours.{Pouring, pouring-none, pouring-next, pouring-end, pouring-long}
-use Rattle.session.specs.Memory.{panelIn, Fits}
+use Rattle.opening.specs.Memory.{panelIn, Fits}
 use Rattle.console.specs.Chunks.{Holds}
 use lib.ListN.{length, take}
 use native.Mathlib.Omega.{arith}

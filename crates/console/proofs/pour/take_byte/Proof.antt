@@ -1,7 +1,7 @@
 -- `take_byte`: the line's end, a byte kept, or one too many. Assumes nothing.
 use Rattle.console.proofs.Turns.{byte-ends, byte-kept, byte-skipped}
 use Rattle.session.proofs.Steps.{refits}
-use Rattle.session.specs.Memory.{panelIn}
+use Rattle.opening.specs.Memory.{panelIn}
 use lib.Seq.{length-take-le}
 use lib.ListN.{length-set, take}
 use native.Mathlib.Omega.{arith}

@@ -1,6 +1,6 @@
 -- `answer_chunk`: the parts of the chunk before `from` are answered. Assumes nothing.
 use Rattle.console.proofs.Pours.{Answering, answering-none, answering-next, answering-all}
-use Rattle.session.specs.Memory.{panelIn, Fits}
+use Rattle.opening.specs.Memory.{panelIn, Fits}
 use Rattle.console.specs.Chunks.{Holds}
 use lib.Seq.{length-take-le}
 use lib.ListN.{length, take}

@@ -1,5 +1,5 @@
 -- `answer_reads`: the buffers keep their lengths. Assumes nothing.
-use Rattle.session.specs.Memory.{Fits}
+use Rattle.opening.specs.Memory.{Fits}
 use Rattle.console.specs.Chunks.{Holds}
 use lib.ListN.{length}
 use native.Mathlib.Omega.{arith}

@@ -1,5 +1,6 @@
 -- `act`: the call, then the line. Assumes nothing.
-use Rattle.session.proofs.Steps.{told-steps, act-state, act-number, act-whole, part-front, part-whole}
+use Rattle.opening.proofs.Texts.{told-steps}
+use Rattle.session.proofs.Steps.{act-state, act-number, act-whole, part-front, part-whole}
 use lib.Seq.{length-take-le}
 use native.Mathlib.Omega.{arith}
 use Prim.Native.Nat.{_*_}

@@ -1,6 +1,6 @@
 -- `step`: the frame, then what it does. Assumes nothing.
 use Rattle.session.proofs.Steps.{refits, step-by, act-shut}
-use Rattle.session.specs.Memory.{panelIn}
+use Rattle.opening.specs.Memory.{panelIn}
 use mathlib.Core.Path.{refl, _∙_}
 use borrow.Author.Needs.{needs}
 use Rattle.session.proofs.line.step.Statement.{statement}

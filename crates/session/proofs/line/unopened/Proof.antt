@@ -1,5 +1,6 @@
 -- `unopened`: an opening, or 22. Assumes nothing.
-use Rattle.session.proofs.Steps.{told-failed, unopened-call}
+use Rattle.opening.proofs.Texts.{told-failed}
+use Rattle.session.proofs.Steps.{unopened-call}
 use Rattle.answering.specs.Panel.{unopenedOf}
 use Rattle.frames.specs.Reading.{sizeOf}
 use borrow.Author.Needs.{needs}

@@ -1,13 +1,13 @@
 -- `whole`: a line of at most 4,096 indices. Assumes nothing.
-use Rattle.session.proofs.Steps.{line-short}
+use Rattle.opening.proofs.Texts.{line-short}
 use lib.Seq.{length-take-le}
 use lib.ListN.{length, take}
 use native.Mathlib.Omega.{arith}
 use Prim.Native.Nat.{_*_}
 use mathlib.Core.Path.{_≡_, refl, sym}
 use borrow.Author.Needs.{needs}
-use Rattle.session.proofs.line.whole.Statement.{statement}
-use Rattle.session.proofs.line.whole.Tie as tie
+use Rattle.opening.proofs.text.whole.Statement.{statement}
+use Rattle.opening.proofs.text.whole.Tie as tie
 
 mul-n : tie.Need-mul-n
 mul-n c = search needs

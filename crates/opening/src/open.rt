@@ -3,8 +3,8 @@ use crate::Core;
 use crate::Stepped;
 use crate::clear::clear_bytes;
 use crate::clear::clear_lab;
-use crate::line::number;
-use crate::line::whole;
+use crate::text::number;
+use crate::text::whole;
 use frames::take_bytes;
 use frames::take_indices;
 use history::fresh;
@@ -19,7 +19,7 @@ ghost use Rattle.limits.specs.Limits.{storage};
 ghost use Rattle.lists.specs.Lists.{over};
 ghost use Rattle.frames.specs.Reading.{paletteIn, indexOf};
 ghost use Rattle.answering.specs.Panel.{openSheet, openOf};
-ghost use Rattle.session.specs.Memory.{panelIn, Fits, Steps};
+ghost use Rattle.opening.specs.Memory.{panelIn, Fits, Steps};
 
 // Sides of the sheets that are opened.
 const MAX_OPEN: usize = 64;
@@ -44,7 +44,7 @@ fn open_indices(bytes: &[u8], start: usize, n: usize, indices: &mut [i16])
 }
 
 // Opens the sheet, with zeros for what the frame leaves open. A failed opening prints its number only.
-pub(crate) fn open_sheet(
+pub fn open_sheet(
     core: Core,
     palette: &mut [u8],
     lab: &mut [f64],

@@ -24,10 +24,10 @@ use Rattle.ledger.specs.declared.Handle.{Handle}
 use Rattle.ledger.specs.Handle.{fresh, dirty}
 use Rattle.frames.specs.Reading.{paletteIn, indicesIn, indexOf}
 use Rattle.frames.specs.Writing.{lineOf, numberLine}
-use Rattle.session.specs.declared.Core.{Core}
+use Rattle.opening.specs.declared.Core.{Core}
 use Rattle.answering.specs.Lines.{said}
 use Rattle.answering.specs.Panel.{journalBytes, wholeLine, openSheet, begun, openChecks, openOf}
-use Rattle.session.specs.Memory.{panelIn}
+use Rattle.opening.specs.Memory.{panelIn}
 
 -- ---- the buffers
 pub palette-filled : (bs : List ℕ) (k n : ℕ) (palette cleared palette′ : List ℕ) → n ≡ 3 * k → length palette ≡ 765 → cleared ≡ replicate (length palette) 0

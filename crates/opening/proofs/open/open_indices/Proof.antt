@@ -1,10 +1,10 @@
 -- `open_indices`: they stand at the front. Assumes nothing.
 use Prim.Native.Nat.{_+_, _-_}
-use Rattle.session.proofs.Opening.{indices-filled}
+use Rattle.opening.proofs.Opening.{indices-filled}
 use native.Mathlib.Omega.{arith}
 use borrow.Author.Needs.{needs}
-use Rattle.session.proofs.open.open_indices.Statement.{statement}
-use Rattle.session.proofs.open.open_indices.Tie as tie
+use Rattle.opening.proofs.open.open_indices.Statement.{statement}
+use Rattle.opening.proofs.open.open_indices.Tie as tie
 
 add-end : tie.Need-add-end
 add-end c = search needs

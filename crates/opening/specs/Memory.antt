@@ -10,8 +10,8 @@ use lib.ListN.{length, take}
 use Rattle.sheet.specs.Sheet.{sheetOf}
 use Rattle.records.specs.Bytes.{splice}
 use Rattle.editing.specs.Calls.{stateOf}
-use Rattle.session.specs.declared.Core.{Core}
-use Rattle.session.specs.declared.Stepped.{Stepped}
+use Rattle.opening.specs.declared.Core.{Core}
+use Rattle.opening.specs.declared.Stepped.{Stepped}
 use Rattle.answering.specs.Lines.{Said}
 use Rattle.answering.specs.Panel.{Panel}
 

@@ -1,11 +1,11 @@
 -- `open_palette`: zeros, and the palette in front. Assumes nothing.
 use Prim.Native.Nat.{_+_, _*_, _-_}
-use Rattle.session.proofs.Opening.{palette-filled}
+use Rattle.opening.proofs.Opening.{palette-filled}
 use lib.ListN.{length-take, length-drop}
 use native.Mathlib.Omega.{arith}
 use borrow.Author.Needs.{needs}
-use Rattle.session.proofs.open.open_palette.Statement.{statement}
-use Rattle.session.proofs.open.open_palette.Tie as tie
+use Rattle.opening.proofs.open.open_palette.Statement.{statement}
+use Rattle.opening.proofs.open.open_palette.Tie as tie
 
 mul-end : tie.Need-mul-end
 mul-end c = search needs

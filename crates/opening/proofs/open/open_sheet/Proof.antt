@@ -1,6 +1,6 @@
 -- `open_sheet`: the sides, the buffers, `new`. Assumes nothing.
-use Rattle.session.proofs.Opening.{open-wide, open-tall, open-many, open-failed, open-done, lab-made, open-state, open-text, new-is}
-use Rattle.session.proofs.Steps.{told-steps, told-failed}
+use Rattle.opening.proofs.Opening.{open-wide, open-tall, open-many, open-failed, open-done, lab-made, open-state, open-text, new-is}
+use Rattle.opening.proofs.Texts.{told-steps, told-failed}
 use Rattle.answering.specs.Panel.{Panel}
 use Rattle.answering.specs.Lines.{Said}
 use lib.Seq.{length-take-le}
@@ -8,8 +8,8 @@ use native.Mathlib.Omega.{arith}
 use native.Mathlib.Nat.{mul-le-mul}
 use mathlib.Core.Path.{sym, ap, _∙_}
 use borrow.Author.Needs.{needs}
-use Rattle.session.proofs.open.open_sheet.Statement.{statement}
-use Rattle.session.proofs.open.open_sheet.Tie as tie
+use Rattle.opening.proofs.open.open_sheet.Statement.{statement}
+use Rattle.opening.proofs.open.open_sheet.Tie as tie
 
 number-requires : tie.Need-number-requires
 number-requires c κs = search needs

@@ -3,8 +3,8 @@ use Rattle.frames.proofs.Lines.{length-number}
 use native.Mathlib.Omega.{arith}
 use mathlib.Core.Path.{refl}
 use borrow.Author.Needs.{needs}
-use Rattle.session.proofs.line.number.Statement.{statement}
-use Rattle.session.proofs.line.number.Tie as tie
+use Rattle.opening.proofs.text.number.Statement.{statement}
+use Rattle.opening.proofs.text.number.Tie as tie
 
 put-number-requires : tie.Need-put-number-requires
 put-number-requires c κs = search needs
