@@ -1,33 +1,8 @@
-// Input of `panel` in chunks of any size, answered byte by byte, and the loop of reads and writes.
-//
-// proofs/Printed.antt: input in chunks of any size gives what is printed for its lines.
-mod pour;
+// The loop of reads and writes of `panel`.
 mod reads;
 
-use opening::Core;
+use pouring::Turn;
 pub use reads::run;
-
-// Digits of a line that are held: one more than are read, so that a longer line is known, however long.
-const HELD: usize = 16_385;
-
-// The longest text of a line: 5 bytes and 4,096 indices in digits, and a newline.
-const LONGEST: usize = 8_203;
-
-// Bytes of text that are gathered before they are written.
-const GATHERED: usize = 65_536;
-
-// After a byte: the numbers, how much of a line is held, and where the text ends.
-pub struct Turn {
-    pub core: Core,
-    pub len: usize,
-    pub at: usize,
-}
-
-// After a part of a chunk: the turn, and the next byte's place.
-pub struct Poured {
-    pub turn: Turn,
-    pub next: usize,
-}
 
 // After a read: the turn, and whether there may be more.
 pub struct Got {

@@ -1,20 +1,21 @@
 // The loop of reads and writes: what is read goes to `pour`, and the text that it leaves is written.
-use crate::GATHERED;
 use crate::Got;
-use crate::HELD;
-use crate::Turn;
-use crate::pour::pour;
 use history::fresh;
 use libc::STDIN_FILENO;
 use libc::STDOUT_FILENO;
 use opening::Core;
+use pouring::GATHERED;
+use pouring::HELD;
+use pouring::Turn;
+use pouring::pour;
 use session::step;
 ghost use mathlib.Core.Path.{_≡_};
 ghost use lib.ListN.{length, take};
 ghost use Rattle.answering.specs.Lines.{chunkFed};
 ghost use Rattle.answering.specs.Panel.{stepOf};
 ghost use Rattle.opening.specs.Memory.{panelIn, Fits};
-ghost use Rattle.console.specs.Chunks.{Holds, Left};
+ghost use Rattle.pouring.specs.Chunks.{Holds};
+ghost use Rattle.console.specs.Left.{Left};
 
 // Answers a chunk: the text is written whenever it may lack room, and at the chunk's end.
 fn answer_chunk(

@@ -1,7 +1,7 @@
 -- `answer_chunk`: the parts of the chunk before `from` are answered. Assumes nothing.
-use Rattle.console.proofs.Pours.{Answering, answering-none, answering-next, answering-all}
+use Rattle.console.proofs.Parts.{Answering, answering-none, answering-next, answering-all}
 use Rattle.opening.specs.Memory.{panelIn, Fits}
-use Rattle.console.specs.Chunks.{Holds}
+use Rattle.pouring.specs.Chunks.{Holds}
 use lib.Seq.{length-take-le}
 use lib.ListN.{length, take}
 use native.Mathlib.Omega.{arith}

@@ -1,6 +1,6 @@
 -- `answer_reads`: the buffers keep their lengths. Assumes nothing.
 use Rattle.opening.specs.Memory.{Fits}
-use Rattle.console.specs.Chunks.{Holds}
+use Rattle.pouring.specs.Chunks.{Holds}
 use lib.ListN.{length}
 use native.Mathlib.Omega.{arith}
 use mathlib.Core.Path.{_≡_, _∙_}

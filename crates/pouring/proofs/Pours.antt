@@ -1,15 +1,15 @@
--- The loops over the bytes of a chunk and over its parts. Assumes nothing.
+-- The loop over the bytes of a chunk. Assumes nothing.
 use Prim.Native.Nat.{ℕ, suc, _+_, _*_, _-_, _≤_, _<_}
-use mathlib.Core.Path.{_≡_, refl, ap, _∙_}
-use mathlib.Core.List.{List, []}
+use mathlib.Core.Path.{_≡_, _∙_}
+use mathlib.Core.List.{List}
 use native.Mathlib.Numerals.{add-one}
 use native.Mathlib.Omega.{arith}
-use lib.ListN.{length, take, drop, getD, drop-of-length-le}
+use lib.ListN.{length, take, drop, getD}
 use lib.Seq.{drop-cons}
-use Rattle.answering.specs.Lines.{Fed, fed, saying, byteFed, chunkFed}
+use Rattle.answering.specs.Lines.{fed, saying, byteFed, chunkFed}
 use Rattle.answering.specs.Panel.{Panel, stepOf}
-use Rattle.console.specs.Chunks.{Onward, Left}
-use Rattle.console.proofs.Feeding.{saying-nil, turned}
+use Rattle.pouring.specs.Chunks.{Onward}
+use Rattle.pouring.proofs.Feeding.{saying-nil, turned}
 
 -- the bytes of a chunk from `from` to i are taken: p₀ and l₀ are state and held line before them, p and l after them, and n bytes of text are in `out`
 pub record Pouring (p₀ : Panel) (l₀ chunk : List ℕ) (from : ℕ) (p : Panel) (l out : List ℕ) (n i : ℕ) : Type 0 where
@@ -45,31 +45,3 @@ module _ (p₀ : Panel) (l₀ chunk : List ℕ) (from : ℕ) where
 
     pub pouring-long : 57333 < n → Onward from (length chunk) i n
     pouring-long h = record { some = λ k. omega (arith, q .some, q .low); inside = q .high; fits = q .short }
-
--- the parts of a chunk before `from` are taken
-pub record Answering (p₀ : Panel) (l₀ chunk : List ℕ) (p : Panel) (l : List ℕ) (from : ℕ) : Type 0 where
-  pub high : from ≤ length chunk
-  pub state-is : chunkFed stepOf p l (drop from chunk) .state ≡ chunkFed stepOf p₀ l₀ chunk .state
-  pub line-is : chunkFed stepOf p l (drop from chunk) .line ≡ chunkFed stepOf p₀ l₀ chunk .line
-
-module _ (p₀ : Panel) (l₀ chunk : List ℕ) where
-  pub answering-none : Answering p₀ l₀ chunk p₀ l₀ 0
-  answering-none = record { high = omega arith; state-is = refl; line-is = refl }
-
-  module _ (p : Panel) (l : List ℕ) (from : ℕ) (q : Answering p₀ l₀ chunk p l from) where
-    pub answering-next : (p′ : Panel) (l′ : List ℕ) (next n : ℕ) (text : List ℕ)
-        → saying text (chunkFed stepOf p′ l′ (drop next chunk)) ≡ chunkFed stepOf p l (drop from chunk) → Onward from (length chunk) next n
-        → Answering p₀ l₀ chunk p′ l′ next
-    unfolding saying
-    answering-next p′ l′ next n text e o =
-        record {
-          high = o .inside;
-          state-is = ap (λ (x : Fed Panel). x .state) e ∙ q .state-is;
-          line-is = ap (λ (x : Fed Panel). x .line) e ∙ q .line-is;
-        }
-
-    pub answering-all : length chunk ≤ from → Left p l (chunkFed stepOf p₀ l₀ chunk)
-    unfolding chunkFed
-    answering-all h =
-        let e : drop from chunk ≡ [] = drop-of-length-le chunk {i = from} h in
-        record { state-is = rw e at (q .state-is); line-is = rw e at (q .line-is) }

@@ -1,14 +1,14 @@
 -- `pour`: the bytes of the chunk up to i are taken. Assumes nothing.
-use Rattle.console.proofs.Pours.{Pouring, pouring-none, pouring-next, pouring-end, pouring-long}
+use Rattle.pouring.proofs.Pours.{Pouring, pouring-none, pouring-next, pouring-end, pouring-long}
 use Rattle.opening.specs.Memory.{panelIn, Fits}
-use Rattle.console.specs.Chunks.{Holds}
+use Rattle.pouring.specs.Chunks.{Holds}
 use lib.ListN.{length, take}
 use native.Mathlib.Omega.{arith}
 use mathlib.Core.Path.{_≡_, _∙_}
 use Prim.Native.Nat.{_-_}
 use borrow.Author.Needs.{needs}
-use Rattle.console.proofs.pour.pour.Statement.{statement}
-use Rattle.console.proofs.pour.pour.Tie as tie
+use Rattle.pouring.proofs.chunk.pour.Statement.{statement}
+use Rattle.pouring.proofs.chunk.pour.Tie as tie
 
 abbrev Inv-loop : tie.InvT-loop
 Inv-loop len palette₀ lab₀ indices₀ journal₀ line₀ chunk from bytes₀ list₀ out₀ t₀ i₀ palette lab indices journal line bytes list out t i = Fits (t .core) (length palette) (length lab) (length indices) (length journal) (length bytes) (length list) × Holds t (length line) × (length out ≡ 65536) × Pouring (panelIn (t₀ .core) palette₀ lab₀ indices₀ journal₀) (take (t₀ .len) line₀) chunk from (panelIn (t .core) palette lab indices journal) (take (t .len) line) out (t .at) i

@@ -1,5 +1,5 @@
 -- `take_byte`: the line's end, a byte kept, or one too many. Assumes nothing.
-use Rattle.console.proofs.Turns.{byte-ends, byte-kept, byte-skipped}
+use Rattle.pouring.proofs.Turns.{byte-ends, byte-kept, byte-skipped}
 use Rattle.session.proofs.Steps.{refits}
 use Rattle.opening.specs.Memory.{panelIn}
 use lib.Seq.{length-take-le}
@@ -7,8 +7,8 @@ use lib.ListN.{length-set, take}
 use native.Mathlib.Omega.{arith}
 use mathlib.Core.Path.{sym, _∙_}
 use borrow.Author.Needs.{needs}
-use Rattle.console.proofs.pour.take_byte.Statement.{statement}
-use Rattle.console.proofs.pour.take_byte.Tie as tie
+use Rattle.pouring.proofs.chunk.take_byte.Statement.{statement}
+use Rattle.pouring.proofs.chunk.take_byte.Tie as tie
 
 slice-reshare-prefix-step : tie.Need-slice-reshare-prefix-step
 slice-reshare-prefix-step c =

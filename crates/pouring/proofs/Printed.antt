@@ -12,7 +12,7 @@ use lib.Seq.{take-all, length-take-le}
 use Rattle.frames.specs.Reading.{Told, frameOf}
 use Rattle.answering.specs.Lines.{linesOf, joined, printed, chunkFed, finished, held}
 use Rattle.answering.specs.Panel.{Panel, actOf, stepOf, panelOf}
-use Rattle.console.proofs.Feeding.{fed-printed}
+use Rattle.pouring.proofs.Feeding.{fed-printed}
 
 -- a frame is known by the first 16,385 bytes of its line
 pub frame-clip : (l : List ℕ) → frameOf (take held l) ≡ frameOf l

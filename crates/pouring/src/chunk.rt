@@ -1,4 +1,4 @@
-// Bytes of input, one by one: a line is held until its newline comes, and then answered.
+// The bytes of a chunk, one by one: a line is held until its newline comes, and then answered.
 use crate::GATHERED;
 use crate::HELD;
 use crate::LONGEST;
@@ -12,7 +12,7 @@ ghost use lib.ListN.{length, take, drop};
 ghost use Rattle.answering.specs.Lines.{fed, saying, byteFed, chunkFed};
 ghost use Rattle.answering.specs.Panel.{stepOf};
 ghost use Rattle.opening.specs.Memory.{panelIn, Fits};
-ghost use Rattle.console.specs.Chunks.{Holds, Onward};
+ghost use Rattle.pouring.specs.Chunks.{Holds, Onward};
 
 // What one byte does. Of a line that is too long the later bytes are not kept.
 fn take_byte(
@@ -69,7 +69,7 @@ fn take_byte(
 }
 
 // Takes the chunk's bytes from `from` on, until its end or until the text may lack room for one line more.
-pub(crate) fn pour(
+pub fn pour(
     core: Core,
     len: usize,
     palette: &mut [u8],

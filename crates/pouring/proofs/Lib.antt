@@ -1,0 +1,4 @@
+pub mod Feeding
+pub mod Turns
+pub mod Pours
+pub mod Printed
