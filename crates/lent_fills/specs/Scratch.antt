@@ -7,9 +7,6 @@ use Rattle.limits.specs.Numbers.{noSpace}
 use Rattle.limits.specs.Answer.{Filled, filled}
 use Rattle.limits.specs.declared.Counted.{Counted}
 use Rattle.limits.specs.declared.Counted.the-variants as counted
-use Rattle.removals.specs.declared.Removal.{Removal}
-use Rattle.removals.specs.declared.Removal.the-variants as removal
-use Rattle.removals.specs.Removal.{Remapped, remapped}
 
 -- "scratch under w × h places": 16, where nothing else refuses the call
 unfoldable pub noRoom : Counted → Counted
@@ -19,16 +16,3 @@ noRoom (counted.Refused n) = counted.Refused n
 -- a call with scratch of `room` places on a sheet of `pixels`
 unfoldable pub needing : ℕ → ℕ → (List ℕ → Filled ℕ) → List ℕ → Filled ℕ
 needing room pixels call out = cond (ltb room pixels) (filled (noRoom (call out .answer)) out) (call out)
-
--- ---- the same of a removal
--- how many changes it has, none where it is a refusal
-abbrev pub removalCount : Removal → ℕ
-removalCount (removal.Made edit n) = n
-removalCount (removal.Refused n) = 0
-
-unfoldable pub noRemoval : Removal → Removal
-noRemoval (removal.Made edit n) = removal.Refused noSpace
-noRemoval (removal.Refused n) = removal.Refused n
-
-unfoldable pub needingRemap : ℕ → ℕ → (List ℕ → Remapped) → List ℕ → Remapped
-needingRemap room pixels call out = cond (ltb room pixels) (remapped (noRemoval (call out .answer)) out) (call out)

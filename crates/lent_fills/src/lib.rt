@@ -2,9 +2,8 @@
 // slice of structs. The flat calls take no scratch; these do, a place a pixel, and a shorter one is 16 after all
 // other checks.
 mod index;
-mod removing;
 
 pub use index::fill_global;
 pub use index::replace_color;
-pub use removing::merge_entries;
-pub use removing::remove_entry;
+pub use lent_removals::merge_entries;
+pub use lent_removals::remove_entry;

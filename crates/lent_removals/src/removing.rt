@@ -11,7 +11,7 @@ ghost use Rattle.sheet.specs.Sheet.{sheetOf};
 ghost use Rattle.changes.specs.Listed.{InScratch};
 ghost use Rattle.structs.specs.Struct.{packedOf};
 ghost use Rattle.removals.specs.Removal.{remapped, removeEntryOf, mergeEntriesOf};
-ghost use Rattle.lent_fills.specs.Scratch.{removalCount, noRemoval, needingRemap};
+ghost use Rattle.lent_removals.specs.Scratch.{removalCount, noRemoval, needingRemap};
 
 // How many changes a removal has, none where it was refused.
 fn removal_count(answer: Removal) -> usize

@@ -23,8 +23,8 @@ use Rattle.entries.specs.Unfilled.{noLab}
 use Rattle.removals.specs.Nearest.{otherChecks, nearestOther}
 use Rattle.removals.specs.Removal.{remapOf, Remapped, remapped, removeTo, removeEntryOf, mergeChecks, mergeEntriesOf}
 use Rattle.removals.proofs.Answers.{remap-length, remove-refused, remove-past, remove-short, remove-done}
-use Rattle.lent_fills.specs.Scratch.{removalCount, noRemoval, needingRemap}
-use Rattle.lent_fills.proofs.Listing.{Lists, listed-in, none-same}
+use Rattle.lent_removals.specs.Scratch.{removalCount, noRemoval, needingRemap}
+use Rattle.lent_removals.proofs.Listing.{Lists, listed-in, none-same}
 
 -- ---- a remap over a list
 abbrev Listing : (List ℕ → Remapped) → List ℕ → ℕ → Removal → Type 0

@@ -1,4 +1,4 @@
--- `lent_fills::merge_entries` meets its contract: a walk of its MIR, by hand. `lent_fills::merge_entries_in` leaves its list in the scratch, which is lent to it, and the list is unpacked into out; the scratch is lent to that, too.
+-- `lent_removals::merge_entries` meets its contract: a walk of its MIR, by hand. `lent_removals::merge_entries_in` leaves its list in the scratch, which is lent to it, and the list is unpacked into out; the scratch is lent to that, too.
 -- All that the proof knows of what it calls is that it meets its contract.
 -- Assumes nothing.
 use mathlib.Core.Path.{_≡_, refl, sym, ap, subst}
@@ -55,22 +55,22 @@ use Rattle.structs.proofs.unpack.Symbol.{name as #unpack}
 use Rattle.structs.proofs.unpack.Met as unpack-thm
 use Rattle.sheet.specs.Sheet.{sheetOf}
 use Rattle.removals.specs.Removal.{remapped, mergeEntriesOf}
-use Rattle.lent_fills.specs.Scratch.{removalCount, needingRemap}
+use Rattle.lent_removals.specs.Scratch.{removalCount, needingRemap}
 use Rattle.removals.specs.declared.Removal.{Removal}
 use Rattle.removals.proofs.Removal as E
 use Rattle.removals.proofs.Removal.Laws as E′
-use Rattle.lent_fills.proofs.removing.merge_entries_in as core
-use Rattle.lent_fills.proofs.removing.merge_entries_in.Symbol as core-def
-use Rattle.lent_fills.proofs.removing.merge_entries_in.Symbol.{name as #core}
-use Rattle.lent_fills.proofs.removing.merge_entries_in.Met as core-thm
-use Rattle.lent_fills.proofs.removing.removal_count as counting
-use Rattle.lent_fills.proofs.removing.removal_count.Symbol as counting-def
-use Rattle.lent_fills.proofs.removing.removal_count.Symbol.{name as #counting}
-use Rattle.lent_fills.proofs.removing.removal_count.Met as counting-thm
-use Rattle.lent_fills.proofs.removing.merge_entries.Key.{name as #own}
-use Rattle.lent_fills.proofs.removing.merge_entries as f
-use Rattle.lent_fills.proofs.removing.merge_entries.Statement as stated
-use Rattle.lent_fills.proofs.removing.merge_entries.Code as code
+use Rattle.lent_removals.proofs.removing.merge_entries_in as core
+use Rattle.lent_removals.proofs.removing.merge_entries_in.Symbol as core-def
+use Rattle.lent_removals.proofs.removing.merge_entries_in.Symbol.{name as #core}
+use Rattle.lent_removals.proofs.removing.merge_entries_in.Met as core-thm
+use Rattle.lent_removals.proofs.removing.removal_count as counting
+use Rattle.lent_removals.proofs.removing.removal_count.Symbol as counting-def
+use Rattle.lent_removals.proofs.removing.removal_count.Symbol.{name as #counting}
+use Rattle.lent_removals.proofs.removing.removal_count.Met as counting-thm
+use Rattle.lent_removals.proofs.removing.merge_entries.Key.{name as #own}
+use Rattle.lent_removals.proofs.removing.merge_entries as f
+use Rattle.lent_removals.proofs.removing.merge_entries.Statement as stated
+use Rattle.lent_removals.proofs.removing.merge_entries.Code as code
 
 abbrev stayed : Stays (f.ended .signature .params) (f.ended .kept)
 stayed = (stay-none (λ _. usize) yes, (stay-none (λ _. usize) yes, (stay-none (λ _. usize) yes, (stay-none-slice (0 ∷ []) tt (plain (λ _. u8)) yes, (stay-none-slice (1 ∷ []) tt (plain (λ _. f64)) yes, (stay-none-slice (2 ∷ []) tt (plain (λ _. i16)) yes, (stay-none (λ _. usize) yes, (stay-none (λ _. usize) yes, (stay-slice (3 ∷ []) tt (plain (λ _. u64)), (gave-slice (4 ∷ []) tt (plain (λ _. C.the-row)), tt))))))))))
@@ -236,6 +236,6 @@ merge-entries-spec 𝓤 H 𝓜 𝓖 𝓡 =
     entered 𝓤 H (tripleOf 𝓤 H (𝓖 .A) f.signature (f.spec 𝓤 H (𝓖 .A) (𝓜 .mem) (𝓡 .run)))
     (tables 𝓤 H 𝓜 𝓡 code.env .C) (tables 𝓤 H 𝓜 𝓡 code.env .Λ) #own code.function (code.unfolded 𝓤 H 𝓜 𝓡)
     (merge-entries-meets 𝓤 H (𝓖 .A) (givenOf 𝓤 H 𝓜 𝓖) (𝓜 .mem) (𝓡 .run) (tablesOf 𝓤 H 𝓜 (tables 𝓤 H 𝓜 𝓡 code.env))
-    (cited 𝓤 H (Core 𝓤 H (𝓖 .A) (𝓜 .mem) (𝓡 .run)) 𝓜 𝓡 code.env #core core-def.routine code.calls-lent-fills·removing·merge-entries-in (core-thm.met 𝓤 H 𝓜 𝓖 𝓡))
-    (cited 𝓤 H (Counting 𝓤 H (𝓖 .A) (𝓜 .mem) (𝓡 .run)) 𝓜 𝓡 code.env #counting counting-def.routine code.calls-lent-fills·removing·removal-count (counting-thm.met 𝓤 H 𝓜 𝓖 𝓡))
+    (cited 𝓤 H (Core 𝓤 H (𝓖 .A) (𝓜 .mem) (𝓡 .run)) 𝓜 𝓡 code.env #core core-def.routine code.calls-lent-removals·removing·merge-entries-in (core-thm.met 𝓤 H 𝓜 𝓖 𝓡))
+    (cited 𝓤 H (Counting 𝓤 H (𝓖 .A) (𝓜 .mem) (𝓡 .run)) 𝓜 𝓡 code.env #counting counting-def.routine code.calls-lent-removals·removing·removal-count (counting-thm.met 𝓤 H 𝓜 𝓖 𝓡))
     (cited 𝓤 H (Unpack 𝓤 H (𝓖 .A) (𝓜 .mem) (𝓡 .run)) 𝓜 𝓡 code.env #unpack unpack-def.routine code.calls-structs·unpack (unpack-thm.met 𝓤 H 𝓜 𝓖 𝓡)))

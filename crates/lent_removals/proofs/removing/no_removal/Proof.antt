@@ -1,8 +1,8 @@
 -- `no_removal`: by the answer. Assumes nothing.
-use Rattle.lent_fills.specs.Scratch.{noRemoval}
+use Rattle.lent_removals.specs.Scratch.{noRemoval}
 use borrow.Author.Needs.{needs}
-use Rattle.lent_fills.proofs.removing.no_removal.Statement.{statement}
-use Rattle.lent_fills.proofs.removing.no_removal.Tie as tie
+use Rattle.lent_removals.proofs.removing.no_removal.Statement.{statement}
+use Rattle.lent_removals.proofs.removing.no_removal.Tie as tie
 
 enum-told : tie.Need-enum-told
 enum-told c = search needs
