@@ -4,8 +4,7 @@
 //
 // Two buffers of numbers are lent as scratch; what they hold after a call is free.
 mod op;
-mod strokes;
 
+pub use lent_strokes::extend;
 pub use op::normalize;
 pub use op::pixels;
-pub use strokes::extend;

@@ -4,7 +4,6 @@ use mathlib.Core.List.{List, _++_, append-assoc}
 use Prim.Native.Nat.{ℕ, _<_, _≤_}
 use native.Mathlib.Omega.{arith}
 use native.Mathlib.Decide.{ℕ-discrete, decLt}
-use borrow.Author.Tests.{lt-ltb, le-ltb}
 use lib.ListN.{length, take, drop, length-append}
 use lib.Seq.{length-take-le, take-at}
 use Rattle.lists.specs.Lists.{over}
@@ -12,17 +11,7 @@ use Rattle.lists.proofs.Over.{length-over}
 use Rattle.changes.specs.Listed.{InScratch}
 use Rattle.changes.proofs.InScratch.{scratch-none}
 use Rattle.structs.specs.Struct.{least}
-
-is-first : (a b : ℕ) → a < b → least a b ≡ a
-unfolding least
-is-first a b h = rw (lt-ltb a b h)
-
-is-second : (a b : ℕ) → b ≤ a → least a b ≡ b
-unfolding least
-is-second a b h = rw (le-ltb a b h)
-
-pub least-second : (a b : ℕ) → least a b ≤ b
-least-second a b = elim (decLt a b) [ yes h ↦ let e = is-first a b h in omega arith | no h ↦ let e = is-second a b (omega arith) in omega arith ]
+use Rattle.structs.proofs.Packing.{is-first, is-second, least-fits}
 
 -- the front of what a callee wrote over the front of a buffer
 front-is : (ns t : List ℕ) (l : List ℕ) → take (length ns) (over ns l ++ t) ≡ ns
@@ -44,7 +33,7 @@ module _ {B Ans : Type 0} (leaves : Ans → List ℕ → B) (ans : B → Ans) (b
 
     pub listed-in : (s f : List ℕ) (r : Ans) (m room : ℕ) → m ≡ least room (length s) → (n ≡ 0 → length ns ≤ length s) → leaves r f ≡ call (take m s) → InScratch (count r) room (f ++ drop m s) (leaves r) call
     listed-in s f r m room q h d =
-        let within : m ≤ length s = (let k = least-second room (length s) in omega arith) in
+        let within : m ≤ length s = (let k = least-fits room (length s) .1 in omega arith) in
         let size : length (take m s) ≡ m = length-take-le m s within in
         elim (ℕ-discrete n 0) [
           | no z ↦ rw (answers d (c .refuses z (take m s)), count-none n) (scratch-none (λ out k. c .refuses z out))

@@ -55,8 +55,7 @@ use Rattle.structs.proofs.unpack.Symbol as unpack-def
 use Rattle.structs.proofs.unpack.Symbol.{name as #unpack}
 use Rattle.structs.proofs.unpack.Met as unpack-thm
 use Rattle.structs.specs.Struct.{least}
-use Rattle.lent_lists.proofs.Packed.{least-fits}
-use Rattle.lent_mirror.proofs.Told.{told}
+use Rattle.structs.proofs.Packing.{least-fits, told}
 use Rattle.sheet.specs.Sheet.{sheetOf}
 use Rattle.limits.specs.Answer.{filled}
 use Rattle.mirror.specs.Places.{mirrorPlaced}

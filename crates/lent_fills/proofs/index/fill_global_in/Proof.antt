@@ -5,7 +5,7 @@ use lib.ListN.{length}
 use lib.Seq.{length-take-le}
 use mir.Facts.{toZ-ofZ}
 use Rattle.sheet.specs.Sheet.{Sheet, sheetOf}
-use Rattle.lent_removals.proofs.Listing.{least-second}
+use Rattle.structs.proofs.Packing.{least-fits}
 use Rattle.lent_fills.proofs.Counts.{short-scratch, in-scratch, global-is, global-few}
 use borrow.Author.Needs.{needs}
 use Rattle.lent_fills.proofs.index.fill_global_in.Statement.{statement}
@@ -39,10 +39,10 @@ lesser-requires : tie.Need-lesser-requires
 lesser-requires c κs = search needs
 
 slice-relend-prefix-fill-global-2 : tie.Need-slice-relend-prefix-fill-global-2
-slice-relend-prefix-fill-global-2 c = let k = least-second (c .before .before .before .before .before .args .room) (length (c .before .before .before .before .before .args .scratch .now)) in omega (arith, c .lesser .ensures, k)
+slice-relend-prefix-fill-global-2 c = let k = least-fits (c .before .before .before .before .before .args .room) (length (c .before .before .before .before .before .args .scratch .now)) .1 in omega (arith, c .lesser .ensures, k)
 
 slice-aggregate-fill-global-2 : tie.Need-slice-aggregate-fill-global-2
-slice-aggregate-fill-global-2 c = let k = least-second (c .before .before .before .before .before .before .args .room) (length (c .before .before .before .before .before .before .args .scratch .now)) in sym (length-take-le _ _ (omega (arith, c .before .lesser .ensures, k)))
+slice-aggregate-fill-global-2 c = let k = least-fits (c .before .before .before .before .before .before .args .room) (length (c .before .before .before .before .before .before .args .scratch .now)) .1 in sym (length-take-le _ _ (omega (arith, c .before .lesser .ensures, k)))
 
 fill-global-requires-2 : tie.Need-fill-global-requires-2
 fill-global-requires-2 c κs = search needs

@@ -53,7 +53,7 @@ use Rattle.structs.proofs.unpack.Symbol as unpack-def
 use Rattle.structs.proofs.unpack.Symbol.{name as #unpack}
 use Rattle.structs.proofs.unpack.Met as unpack-thm
 use Rattle.structs.specs.Struct.{least}
-use Rattle.lent_lists.proofs.Packed.{least-fits, told}
+use Rattle.structs.proofs.Packing.{least-fits, told}
 use Rattle.limits.specs.Answer.{filled}
 use Rattle.tools.specs.Op.{normalizeCall}
 use Rattle.limits.specs.declared.Counted.{Counted}
@@ -276,7 +276,7 @@ module _ {M : Type 1} (𝓤 : URA M) (H : Heap 𝓤) (A : Atoms 𝓤) (W : Given
         assigns ! (agg ! (and-then ! (load ! (from ! (stop !)) (look ! 20 refl)) (and-then ! (load ! (from ! (fld ! refl (stop !))) (look-in ! 50 (sub ! 1 refl (whole !)))) (no-more !)))) (from ! (stop !)) (init ! 18 refl (tt, (tt, (record { fits = out-room .0 }, tt)))) $
         lft-new ! tt (λ π.
         move ! (3 ∷ 4 ∷ []) $ use2 W (later (some (λ (η : GName). ‵ (ShrSlice (named 0) (π ∷ []) u64 .own (scratch-at η (z₃ .1 .1 .0)) (scratch-val ∷ [])) ⊛ ‵ (LentShared u64 κ₂ (π ∷ []) q₂ γ₂ b₂ o₂ (z₃ .1 .1 .0))))) (lend-shr u64 κ₂ (π ∷ []) q₂ γ₂ b₂ o₂ 𝓤 H A W (named 2) (named 0) (z₃ .1 .1 .0) n-scratch l₃) $ await ! tt $ pick ! (λ η. split ! $
-        move ! (2 ∷ 15 ∷ 0 ∷ 17 ∷ []) $ group ! 4 $ use1 W (raw (Unpack 𝓤 H A at-mem run .pre (to-unpack 𝓤 H A W at-mem run κ₃ q₃ b₂ o₂ n-scratch b₃ o₃ γ₃ out (z₃ .1 .1 .0) c π η))) (goes-unpack 𝓤 H A W at-mem run κ₃ q₃ b₂ o₂ n-scratch b₃ o₃ γ₃ out (z₃ .1 .1 .0) c π η (c-is .1) (copy-fits (told (normalizeCall) (map packedOf list) flat (z₂ .1 .1 .0) (z₃ .1 .1 .0) n m n-scratch e₃ (length-map list packedOf) e₁ l₂ e₂) e₄)) $
+        move ! (2 ∷ 15 ∷ 0 ∷ 17 ∷ []) $ group ! 4 $ use1 W (raw (Unpack 𝓤 H A at-mem run .pre (to-unpack 𝓤 H A W at-mem run κ₃ q₃ b₂ o₂ n-scratch b₃ o₃ γ₃ out (z₃ .1 .1 .0) c π η))) (goes-unpack 𝓤 H A W at-mem run κ₃ q₃ b₂ o₂ n-scratch b₃ o₃ γ₃ out (z₃ .1 .1 .0) c π η (c-is .1) (copy-fits (told (λ i. normalizeCall (least i n-scratch)) (map packedOf list) flat (z₂ .1 .1 .0) (z₃ .1 .1 .0) n m e₃ (length-map list packedOf) e₁ l₂ e₂) e₄)) $
         calls-at ! fm (Unpack 𝓤 H A at-mem run) known-unpack (to-unpack 𝓤 H A W at-mem run κ₃ q₃ b₂ o₂ n-scratch b₃ o₃ γ₃ out (z₃ .1 .1 .0) c π η) (and-then ! (load ! (from ! (stop !)) (look ! 20 refl)) (and-then ! (load ! (from ! (stop !)) (look ! 40 refl)) (and-then ! (load ! (from ! (stop !)) (look ! 16 refl)) (no-more !)))) (λ w₅.
         use1 W (later (some (λ (u₅ : Unit {0}). ((‵ (flft (π ∷ []) fullShare) ⊛ ‵ (flft κ₃ q₃) ⊛ ‵ ftrue) ⊛ ‵ (unit .own u₅ (w₅ ∷ []))) ⊛ raw (ensured 𝓤 H A unpack.ended (unpack.clauses 𝓤 H A at-mem run) (π ∷ [], (κ₃, tt)) (scratch-at η (z₃ .1 .1 .0), (c, (out-at, tt))) tt u₅)))) (id⊢ 𝓤 _) $ await ! tt $ pick ! (λ u₅.
         split ! $ move ! (1 ∷ []) $ use1 W (some (λ (z₅ : Unit {0} × (Unit {0} × (List Change × Unit {0}))). ‵ (lasts unpack.ended (π ∷ [], (κ₃, tt)) (scratch-at η (z₃ .1 .1 .0), (c, (out-at, tt))) z₅) ⊛ raw (fact 𝓤 (map packedOf (z₅ .1 .1 .0) ≡ over (take c (z₃ .1 .1 .0)) (map packedOf out))))) (id⊢ 𝓤 _) $ pick ! (λ z₅.
@@ -292,7 +292,7 @@ module _ {M : Type 1} (𝓤 : URA M) (H : Heap 𝓤) (A : Atoms 𝓤) (W : Given
         returns ! (look ! 60 refl) $ forget ! 60 refl $ forget ! 58 refl $ forget ! 56 refl $ forget ! 54 refl $ forget ! 52 refl $ forget ! 50 refl $ forget ! 48 refl $ forget ! 46 refl $ forget ! 44 refl $ forget ! 42 refl $ forget ! 40 refl $ forget ! 38 refl $ forget ! 36 refl $ forget ! 34 refl $ forget ! 32 refl $ forget ! 30 refl $ forget ! 28 refl $ forget ! 26 refl $ forget ! 24 refl $ forget ! 22 refl $ forget ! 20 refl $
         move ! (60 ∷ 61 ∷ []) $ free1 ! $ move ! (58 ∷ 59 ∷ []) $ free1 ! $ move ! (56 ∷ 57 ∷ []) $ free1 ! $ move ! (54 ∷ 55 ∷ []) $ free1 ! $ move ! (52 ∷ 53 ∷ []) $ free1 ! $ move ! (50 ∷ 51 ∷ []) $ free1 ! $ move ! (48 ∷ 49 ∷ []) $ free1 ! $ move ! (46 ∷ 47 ∷ []) $ free1 ! $ move ! (44 ∷ 45 ∷ []) $ free1 ! $ move ! (42 ∷ 43 ∷ []) $ free1 ! $ move ! (40 ∷ 41 ∷ []) $ free1 ! $ move ! (38 ∷ 39 ∷ []) $ free1 ! $ move ! (36 ∷ 37 ∷ []) $ free1 ! $ move ! (34 ∷ 35 ∷ []) $ free1 ! $ move ! (32 ∷ 33 ∷ []) $ free1 ! $ move ! (30 ∷ 31 ∷ []) $ free1 ! $ move ! (28 ∷ 29 ∷ []) $ free1 ! $ move ! (26 ∷ 27 ∷ []) $ free1 ! $ move ! (24 ∷ 25 ∷ []) $ free1 ! $ move ! (22 ∷ 23 ∷ []) $ free1 ! $ move ! (20 ∷ 21 ∷ []) $ free1 ! $ free0 ! $
         -- [o2; k2; k3; tr9; finO; tr78; tr8; tr7; o1; k1; tr6; tr48; tr5; k0; tr26; o0; tr4; tr3; tr2; tr1]
-        keep ! (13 ∷ 9 ∷ 1 ∷ 2 ∷ 15 ∷ 8 ∷ 0 ∷ 4 ∷ []) $ by ! (exits r (z₂ .1 .1 .0) (z₃ .1 .1 .0) (z₅ .1 .1 .0) (copied (told (normalizeCall) (map packedOf list) flat (z₂ .1 .1 .0) (z₃ .1 .1 .0) n m n-scratch e₃ (length-map list packedOf) e₁ l₂ e₂) e₄ (map packedOf out) (sym (length-map out packedOf)) e₅, l₂, l₃) l₅ (answer-is r _ is)))))))))))))))))))))))))))))))))))))))))))))))))))))))))))
+        keep ! (13 ∷ 9 ∷ 1 ∷ 2 ∷ 15 ∷ 8 ∷ 0 ∷ 4 ∷ []) $ by ! (exits r (z₂ .1 .1 .0) (z₃ .1 .1 .0) (z₅ .1 .1 .0) (copied (told (λ i. normalizeCall (least i n-scratch)) (map packedOf list) flat (z₂ .1 .1 .0) (z₃ .1 .1 .0) n m e₃ (length-map list packedOf) e₁ l₂ e₂) e₄ (map packedOf out) (sym (length-map out packedOf)) e₅, l₂, l₃) l₅ (answer-is r _ is)))))))))))))))))))))))))))))))))))))))))))))))))))))))))))
 
 module _ {M : Type 1} (𝓤 : URA M) (H : Heap 𝓤) (A : Atoms 𝓤) (W : Given 𝓤 H A) (mem : Memory → SProp 𝓤) (run : Routine → Fun 𝓤) where
   normalize-walks : (Cs : Calls 𝓤 H) (Λ : Loops 𝓤 H) → FmC 𝓤 H (W .laws) Cs → Triple 𝓤 (Cs #lesser) (Lesser 𝓤 H A mem run) → Triple 𝓤 (Cs #pack) (Pack 𝓤 H A mem run) → Triple 𝓤 (Cs #core) (Core 𝓤 H A mem run) → Triple 𝓤 (Cs #counting) (Counting 𝓤 H A mem run) → Triple 𝓤 (Cs #unpack) (Unpack 𝓤 H A mem run)

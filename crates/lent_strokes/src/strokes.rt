@@ -17,7 +17,7 @@ ghost use Rattle.limits.specs.Answer.{filled};
 ghost use Rattle.changes.specs.Listed.{countOf, InScratch};
 ghost use Rattle.structs.specs.Struct.{packedOf, least};
 ghost use Rattle.tools.specs.Stroke.{extendCall};
-ghost use Rattle.lent_lists.specs.Places.{roomFor, extendOver};
+ghost use Rattle.lent_strokes.specs.Places.{roomFor, extendOver};
 
 // The scratch's places, or none where a buffer has too few for its list.
 fn room_for(flat: usize, more: usize, room: usize, count: usize, n: usize) -> usize

@@ -1,7 +1,7 @@
 -- `room_for`: by the tests. Assumes nothing.
-use Rattle.lent_lists.proofs.Joined.{room-flat, room-more, room-all}
-use Rattle.lent_lists.proofs.strokes.room_for.Statement.{statement}
-use Rattle.lent_lists.proofs.strokes.room_for.Tie as tie
+use Rattle.lent_strokes.proofs.Joined.{room-flat, room-more, room-all}
+use Rattle.lent_strokes.proofs.strokes.room_for.Statement.{statement}
+use Rattle.lent_strokes.proofs.strokes.room_for.Tie as tie
 
 returns : tie.Need-returns
 returns c = room-flat _ _ _ _ _ (c .if1 .taken)

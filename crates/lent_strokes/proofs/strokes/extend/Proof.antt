@@ -1,4 +1,4 @@
--- `lent_lists::extend` meets its contract: a walk of its MIR, by hand. The stroke is packed into flat and the list into more, `extend_packed` leaves its list in the scratch, and that is unpacked into the stroke; each buffer is lent to each.
+-- `lent_strokes::extend` meets its contract: a walk of its MIR, by hand. The stroke is packed into flat and the list into more, `extend_packed` leaves its list in the scratch, and that is unpacked into the stroke; each buffer is lent to each.
 -- All that the proof knows of what it calls is that it meets its contract.
 -- Assumes nothing.
 use mathlib.Core.Path.{_≡_, refl, sym, ap, subst, _∙_}
@@ -53,18 +53,18 @@ use Rattle.structs.proofs.unpack.Symbol as unpack-def
 use Rattle.structs.proofs.unpack.Symbol.{name as #unpack}
 use Rattle.structs.proofs.unpack.Met as unpack-thm
 use Rattle.structs.specs.Struct.{least}
-use Rattle.lent_lists.specs.Places.{roomFor, extendOver}
-use Rattle.lent_lists.proofs.Packed.{least-fits}
-use Rattle.lent_lists.proofs.Joined.{over-own, stroke-front, list-front, three-fit}
+use Rattle.lent_strokes.specs.Places.{roomFor, extendOver}
+use Rattle.structs.proofs.Packing.{least-fits}
+use Rattle.lent_strokes.proofs.Joined.{over-own, stroke-front, list-front, three-fit}
 use Rattle.limits.specs.Answer.{filled}
 use Rattle.tools.specs.Stroke.{extendCall}
 use Rattle.limits.specs.declared.Counted.{Counted}
 use Rattle.limits.proofs.Counted as E
 use Rattle.limits.proofs.Counted.Laws as E′
-use Rattle.lent_lists.proofs.strokes.least_of as three
-use Rattle.lent_lists.proofs.strokes.least_of.Symbol as three-def
-use Rattle.lent_lists.proofs.strokes.least_of.Symbol.{name as #three}
-use Rattle.lent_lists.proofs.strokes.least_of.Met as three-thm
+use Rattle.lent_strokes.proofs.strokes.least_of as three
+use Rattle.lent_strokes.proofs.strokes.least_of.Symbol as three-def
+use Rattle.lent_strokes.proofs.strokes.least_of.Symbol.{name as #three}
+use Rattle.lent_strokes.proofs.strokes.least_of.Met as three-thm
 use Rattle.structs.proofs.lesser as lesser
 use Rattle.structs.proofs.lesser.Symbol as lesser-def
 use Rattle.structs.proofs.lesser.Symbol.{name as #lesser}
@@ -73,18 +73,18 @@ use Rattle.structs.proofs.pack as pack
 use Rattle.structs.proofs.pack.Symbol as pack-def
 use Rattle.structs.proofs.pack.Symbol.{name as #pack}
 use Rattle.structs.proofs.pack.Met as pack-thm
-use Rattle.lent_lists.proofs.strokes.extend_packed as core
-use Rattle.lent_lists.proofs.strokes.extend_packed.Symbol as core-def
-use Rattle.lent_lists.proofs.strokes.extend_packed.Symbol.{name as #core}
-use Rattle.lent_lists.proofs.strokes.extend_packed.Met as core-thm
+use Rattle.lent_strokes.proofs.strokes.extend_packed as core
+use Rattle.lent_strokes.proofs.strokes.extend_packed.Symbol as core-def
+use Rattle.lent_strokes.proofs.strokes.extend_packed.Symbol.{name as #core}
+use Rattle.lent_strokes.proofs.strokes.extend_packed.Met as core-thm
 use Rattle.changes.proofs.count_of as counting
 use Rattle.changes.proofs.count_of.Symbol as counting-def
 use Rattle.changes.proofs.count_of.Symbol.{name as #counting}
 use Rattle.changes.proofs.count_of.Met as counting-thm
-use Rattle.lent_lists.proofs.strokes.extend.Key.{name as #own}
-use Rattle.lent_lists.proofs.strokes.extend as f
-use Rattle.lent_lists.proofs.strokes.extend.Statement as stated
-use Rattle.lent_lists.proofs.strokes.extend.Code as code
+use Rattle.lent_strokes.proofs.strokes.extend.Key.{name as #own}
+use Rattle.lent_strokes.proofs.strokes.extend as f
+use Rattle.lent_strokes.proofs.strokes.extend.Statement as stated
+use Rattle.lent_strokes.proofs.strokes.extend.Code as code
 
 abbrev stayed : Stays (f.ended .signature .params) (f.ended .kept)
 stayed = (gave-slice (0 ∷ []) tt (plain (λ _. C.the-row)), (stay-none (λ _. usize) yes, (stay-none-slice (1 ∷ []) tt (plain (λ _. C.the-row)) yes, (stay-slice (2 ∷ []) tt (plain (λ _. u64)), (stay-slice (3 ∷ []) tt (plain (λ _. u64)), (stay-slice (4 ∷ []) tt (plain (λ _. u64)), tt))))))
@@ -398,9 +398,9 @@ extend-spec 𝓤 H 𝓜 𝓖 𝓡 =
     entered 𝓤 H (tripleOf 𝓤 H (𝓖 .A) f.signature (f.spec 𝓤 H (𝓖 .A) (𝓜 .mem) (𝓡 .run)))
     (tables 𝓤 H 𝓜 𝓡 code.env .C) (tables 𝓤 H 𝓜 𝓡 code.env .Λ) #own code.function (code.unfolded 𝓤 H 𝓜 𝓡)
     (extend-meets 𝓤 H (𝓖 .A) (givenOf 𝓤 H 𝓜 𝓖) (𝓜 .mem) (𝓡 .run) (tablesOf 𝓤 H 𝓜 (tables 𝓤 H 𝓜 𝓡 code.env))
-    (cited 𝓤 H (Three 𝓤 H (𝓖 .A) (𝓜 .mem) (𝓡 .run)) 𝓜 𝓡 code.env #three three-def.routine code.calls-lent-lists·strokes·least-of (three-thm.met 𝓤 H 𝓜 𝓖 𝓡))
+    (cited 𝓤 H (Three 𝓤 H (𝓖 .A) (𝓜 .mem) (𝓡 .run)) 𝓜 𝓡 code.env #three three-def.routine code.calls-lent-strokes·strokes·least-of (three-thm.met 𝓤 H 𝓜 𝓖 𝓡))
     (cited 𝓤 H (Lesser 𝓤 H (𝓖 .A) (𝓜 .mem) (𝓡 .run)) 𝓜 𝓡 code.env #lesser lesser-def.routine code.calls-structs·lesser (lesser-thm.met 𝓤 H 𝓜 𝓖 𝓡))
     (cited 𝓤 H (Pack 𝓤 H (𝓖 .A) (𝓜 .mem) (𝓡 .run)) 𝓜 𝓡 code.env #pack pack-def.routine code.calls-structs·pack (pack-thm.met 𝓤 H 𝓜 𝓖 𝓡))
-    (cited 𝓤 H (Core 𝓤 H (𝓖 .A) (𝓜 .mem) (𝓡 .run)) 𝓜 𝓡 code.env #core core-def.routine code.calls-lent-lists·strokes·extend-packed (core-thm.met 𝓤 H 𝓜 𝓖 𝓡))
+    (cited 𝓤 H (Core 𝓤 H (𝓖 .A) (𝓜 .mem) (𝓡 .run)) 𝓜 𝓡 code.env #core core-def.routine code.calls-lent-strokes·strokes·extend-packed (core-thm.met 𝓤 H 𝓜 𝓖 𝓡))
     (cited 𝓤 H (Counting 𝓤 H (𝓖 .A) (𝓜 .mem) (𝓡 .run)) 𝓜 𝓡 code.env #counting counting-def.routine code.calls-changes·count-of (counting-thm.met 𝓤 H 𝓜 𝓖 𝓡))
     (cited 𝓤 H (Unpack 𝓤 H (𝓖 .A) (𝓜 .mem) (𝓡 .run)) 𝓜 𝓡 code.env #unpack unpack-def.routine code.calls-structs·unpack (unpack-thm.met 𝓤 H 𝓜 𝓖 𝓡)))

@@ -21,8 +21,8 @@ use Rattle.normal.specs.Normal.{normalPacked}
 use Rattle.structs.specs.Struct.{least}
 use Rattle.tools.specs.Stroke.{extended, extendChecks, extendCall}
 use Rattle.tools.proofs.Extending.{extend-fine}
-use Rattle.lent_lists.specs.Places.{roomFor, extendOver}
-use Rattle.lent_lists.proofs.Packed.{least-fits, packed-front}
+use Rattle.lent_strokes.specs.Places.{roomFor, extendOver}
+use Rattle.structs.proofs.Packing.{least-fits, packed-front}
 
 module _ (flat more room count n : ℕ) where
   pub room-flat : flat < count → 0 ≡ roomFor flat more room count n

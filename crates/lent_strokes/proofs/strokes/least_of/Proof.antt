@@ -3,8 +3,8 @@ use mathlib.Core.Path.{ap, _∙_}
 use Prim.Native.Nat.{ℕ}
 use Rattle.structs.specs.Struct.{least}
 use borrow.Author.Needs.{needs}
-use Rattle.lent_lists.proofs.strokes.least_of.Statement.{statement}
-use Rattle.lent_lists.proofs.strokes.least_of.Tie as tie
+use Rattle.lent_strokes.proofs.strokes.least_of.Statement.{statement}
+use Rattle.lent_strokes.proofs.strokes.least_of.Tie as tie
 
 lesser-requires : tie.Need-lesser-requires
 lesser-requires c κs = search needs

@@ -2,10 +2,10 @@
 use mathlib.Core.Path.{sym, _∙_}
 use lib.Seq.{length-take-le}
 use Rattle.changes.proofs.Fronts.{front-within}
-use Rattle.lent_lists.proofs.Joined.{ready, parts-fit, over-refused, over-done}
+use Rattle.lent_strokes.proofs.Joined.{ready, parts-fit, over-refused, over-done}
 use borrow.Author.Needs.{needs}
-use Rattle.lent_lists.proofs.strokes.extend_packed.Statement.{statement}
-use Rattle.lent_lists.proofs.strokes.extend_packed.Tie as tie
+use Rattle.lent_strokes.proofs.strokes.extend_packed.Statement.{statement}
+use Rattle.lent_strokes.proofs.strokes.extend_packed.Tie as tie
 
 room-for-requires : tie.Need-room-for-requires
 room-for-requires c κs = search needs
