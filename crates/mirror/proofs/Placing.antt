@@ -30,10 +30,10 @@ use Rattle.changes.specs.Fronts.{Front}
 use Rattle.changes.specs.Listed.{handed, countOf, InScratch}
 use Rattle.changes.proofs.InScratch.{scratch-none, scratch-then}
 use Rattle.mirroring.specs.Mirror.{mirrored}
-use Rattle.mirror.specs.declared.Stage.the-variants as stage
-use Rattle.mirror.specs.Calls.{touching, stageOf, mirrorList, mirrorCall}
+use Rattle.mirror_checks.specs.declared.Stage.the-variants as stage
+use Rattle.mirror_checks.specs.Calls.{touching, stageOf, mirrorList, mirrorCall}
 use Rattle.mirror.specs.Places.{lacking, unreadChecks, unread, mirrorPlaced}
-use Rattle.mirror.proofs.Staging.{Passed, call-refused, call-done}
+use Rattle.mirror_checks.proofs.Staging.{Passed, call-refused, call-done}
 
 -- ---- whether the buffers lack places
 module _ (touched : Bool) (flat room n : ℕ) where

@@ -14,7 +14,7 @@ use Rattle.selection.specs.declared.Area.{Area}
 use Rattle.selection.specs.Region.{regionChecks}
 use Rattle.sheet.specs.Sheet.{Sheet}
 use Rattle.sheet.specs.Checks.{sheetChecks}
-use Rattle.mirror.specs.Calls.{touching, mirrorCall}
+use Rattle.mirror_checks.specs.Calls.{touching, mirrorCall}
 
 -- the buffer that n changes are packed into has fewer places than they are; or they are handed back untouched, and the scratch has fewer
 unfoldable pub lacking : Bool → ℕ → ℕ → ℕ → Bool

@@ -1,7 +1,4 @@
 // `mirror_tiles` for a list that is packed into a buffer of numbers; its result is left in the scratch.
-use crate::Stage;
-use crate::is_touching;
-use crate::prepare;
 use changes::copy_out;
 use changes::counted;
 use limits::Counted;
@@ -9,6 +6,9 @@ use limits::LIST_TOO_LONG;
 use limits::MAX_CHANGES;
 use limits::NO_SPACE;
 use limits::OFF_THE_SHEET;
+use mirror_checks::Stage;
+use mirror_checks::is_touching;
+use mirror_checks::prepare;
 use mirroring::mirror_in;
 use selection::Area;
 use selection::Chosen;
@@ -23,7 +23,7 @@ ghost use lib.ListN.{length, take};
 ghost use Rattle.limits.specs.Answer.{filled};
 ghost use Rattle.sheet.specs.Sheet.{sheetOf};
 ghost use Rattle.changes.specs.Listed.{handed, countOf, InScratch};
-ghost use Rattle.mirror.specs.Calls.{touching, mirrorList, mirrorCall, Ready};
+ghost use Rattle.mirror_checks.specs.Calls.{touching, mirrorList, mirrorCall, Ready};
 ghost use Rattle.mirror.specs.Places.{lacking, unread, mirrorPlaced};
 
 // Whether a buffer of numbers has too few places for n changes.

@@ -1,5 +1,5 @@
 -- `finish`: with the copies, or as it is. Assumes nothing.
-use Rattle.mirror.proofs.Staging.{handed-mirrored, handed-untouched}
+use Rattle.mirror.proofs.Ending.{handed-mirrored, handed-untouched}
 use Rattle.changes.proofs.Fronts.{front-within}
 use borrow.Author.Needs.{needs}
 use Rattle.mirror.proofs.finish.Statement.{statement}

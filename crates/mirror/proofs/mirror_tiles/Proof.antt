@@ -2,9 +2,9 @@
 use lib.ListN.{length}
 use mathlib.Core.Path.{_≡_, sym, _∙_}
 use Rattle.sheet.specs.Sheet.{Sheet, sheetOf}
-use Rattle.mirror.proofs.Touching.{mirrorable}
-use Rattle.mirror.proofs.Staging.{Passed, passed, call-refused, call-done}
-use Rattle.mirror.specs.Calls.{stageOf}
+use Rattle.mirror_checks.proofs.Touching.{mirrorable}
+use Rattle.mirror_checks.proofs.Staging.{Passed, passed, call-refused, call-done}
+use Rattle.mirror_checks.specs.Calls.{stageOf}
 use borrow.Author.Needs.{needs}
 use Rattle.mirror.proofs.mirror_tiles.Statement.{statement}
 use Rattle.mirror.proofs.mirror_tiles.Tie as tie

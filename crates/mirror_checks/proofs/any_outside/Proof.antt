@@ -6,8 +6,8 @@ use Rattle.edits.specs.Change.{outside, unpacked}
 use Rattle.lists.proofs.Scan.{Flagged, flag-step, flag-end}
 use Rattle.lists.proofs.Nowhere.{some-map}
 use borrow.Author.Needs.{needs}
-use Rattle.mirror.proofs.any_outside.Statement.{statement}
-use Rattle.mirror.proofs.any_outside.Tie as tie
+use Rattle.mirror_checks.proofs.any_outside.Statement.{statement}
+use Rattle.mirror_checks.proofs.any_outside.Tie as tie
 
 abbrev Inv-loop : tie.InvT-loop
 Inv-loop w h list off₀ i₀ off i = (i ≤ length list) × Flagged (λ c. outside w h (unpacked c)) list i off

@@ -1,8 +1,8 @@
 -- `is_dividing`: by the tests. Assumes nothing.
-use Rattle.mirror.proofs.Touching.{no-side, across-not, across-then}
+use Rattle.mirror_checks.proofs.Touching.{no-side, across-not, across-then}
 use borrow.Author.Needs.{needs}
-use Rattle.mirror.proofs.is_dividing.Statement.{statement}
-use Rattle.mirror.proofs.is_dividing.Tie as tie
+use Rattle.mirror_checks.proofs.is_dividing.Statement.{statement}
+use Rattle.mirror_checks.proofs.is_dividing.Tie as tie
 
 returns : tie.Need-returns
 returns c = no-side _ _ _ (c .if1 .taken)

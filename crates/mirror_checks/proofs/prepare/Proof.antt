@@ -2,13 +2,14 @@
 use types.Run.{miss}
 use mathlib.Core.List.{[], _∷_}
 use mathlib.Core.Path.{sym, _∙_}
+use native.Mathlib.Omega.{arith}
 use Rattle.sheet.specs.Checks.{WellFormed}
 use Rattle.sheet.specs.Sheet.{sheetOf}
 use Rattle.selection.proofs.Regions.{Found, region-found, region-none}
-use Rattle.mirror.proofs.Staging.{stage-sheet, stage-long, stage-off, stage-stray, stage-short, stage-done}
+use Rattle.mirror_checks.proofs.Staging.{stage-sheet, stage-long, stage-off, stage-stray, stage-short, stage-done}
 use borrow.Author.Needs.{needs}
-use Rattle.mirror.proofs.prepare.Statement.{statement}
-use Rattle.mirror.proofs.prepare.Tie as tie
+use Rattle.mirror_checks.proofs.prepare.Statement.{statement}
+use Rattle.mirror_checks.proofs.prepare.Tie as tie
 
 check-requires : tie.Need-check-requires
 check-requires c κs = search needs
@@ -43,10 +44,10 @@ returns-4 : tie.Need-returns-4
 returns-4 c = stage-stray _ _ _ _ _ (past (c .before .before .before .before .before .before .before)) (c .before .before .before .before .before .before .if2 .left) (found (c .before .before .before) .unrefused) (sym (c .before .is-straying .ensures) ∙ c .if3 .taken)
 
 returns-5 : tie.Need-returns-5
-returns-5 c = let f = past (c .before .before .before .before .before .before .before .before) in stage-short _ _ _ _ _ f (c .before .before .before .before .before .before .before .if2 .left) (found (c .before .before .before .before) .unrefused) (sym (c .before .before .is-straying .ensures) ∙ c .before .if3 .left) (rw (f .limits .indices-length) at (c .if4 .taken))
+returns-5 c = let f = past (c .before .before .before .before .before .before .before .before) in stage-short _ _ _ _ _ f (c .before .before .before .before .before .before .before .if2 .left) (found (c .before .before .before .before) .unrefused) (sym (c .before .before .is-straying .ensures) ∙ c .before .if3 .left) (omega (arith, f .limits .indices-length, c .if4 .taken))
 
 returns-6 : tie.Need-returns-6
-returns-6 c = let f = past (c .before .before .before .before .before .before .before .before) in rw (found (c .before .before .before .before) .value) (stage-done _ _ _ _ _ f (c .before .before .before .before .before .before .before .if2 .left) (found (c .before .before .before .before) .unrefused) (sym (c .before .before .is-straying .ensures) ∙ c .before .if3 .left) (rw (f .limits .indices-length) at (c .if4 .left)))
+returns-6 c = let f = past (c .before .before .before .before .before .before .before .before) in rw (found (c .before .before .before .before) .value) (stage-done _ _ _ _ _ f (c .before .before .before .before .before .before .before .if2 .left) (found (c .before .before .before .before) .unrefused) (sym (c .before .before .is-straying .ensures) ∙ c .before .if3 .left) (omega (arith, f .limits .indices-length, c .if4 .left)))
 
 pub prepare-spec : {M : Type 1} → statement M
 prepare-spec =

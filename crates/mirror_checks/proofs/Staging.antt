@@ -1,14 +1,12 @@
 -- The checks of the call in their order, and what they leave. Assumes nothing.
 use mathlib.Core.Path.{_≡_, refl, sym, ap, _∙_}
 use mathlib.Core.Bool.{Bool, true, false}
-use mathlib.Core.List.{List, [], _∷_, _++_, map}
+use mathlib.Core.List.{List, [], _∷_, _++_}
 use Prim.Native.Nat.{ℕ, zero, suc, _*_, _≤_, _<_}
 use native.Mathlib.Omega.{arith}
 use borrow.Author.Tests.{lt-ltb, le-ltb, ltb-false}
 use lib.Dec.{ltb}
-use lib.IntN.{ℤ}
-use lib.ListN.{length, take}
-use lib.Seq.{take-length}
+use lib.ListN.{length}
 use Rattle.limits.specs.Limits.{maxChanges}
 use Rattle.limits.specs.Numbers.{offTheSheet, noSpace, listTooLong}
 use Rattle.limits.specs.Checks.{Check, _when_, firstOf, refusedOr}
@@ -22,12 +20,9 @@ use Rattle.selection.specs.Region.{regionChecks, regionIn}
 use Rattle.sheet.specs.Sheet.{Sheet}
 use Rattle.sheet.specs.Checks.{sheetChecks, WellFormed, Judged}
 use Rattle.sheet.proofs.Judging.{none-applied, past-sheet, refused-sheet}
-use Rattle.edits.specs.Change.{packed, unpacked}
-use Rattle.changes.specs.Fronts.{Front}
 use Rattle.changes.specs.Listed.{handed}
-use Rattle.mirroring.specs.Mirror.{mirrored}
-use Rattle.mirror.specs.declared.Stage.the-variants.{Canvas, Refused}
-use Rattle.mirror.specs.Calls.{touching, straying, mirrorChecks, stageOf, mirrorList, mirrorCall}
+use Rattle.mirror_checks.specs.declared.Stage.the-variants.{Canvas, Refused}
+use Rattle.mirror_checks.specs.Calls.{touching, straying, mirrorChecks, stageOf, mirrorList, mirrorCall}
 
 module _ (s : Sheet) (a : Area) (touched : Bool) (list : List ℕ) (room : ℕ) where
   abbrev ends : List Check
@@ -138,15 +133,3 @@ module _ (s : Sheet) (a : Area) (touched : Bool) (list : List ℕ) (room : ℕ) 
         rw (← is)
         (d ∙ ap (λ (g : Selection). handed (mirrorList touched (s .w) (s .h) t (s .indices) g list) out) (p .is)
         ∙ result-first (mirrorChecks s a touched list room) (λ n. filled (counted.Refused n) out) (handed (mirrorList touched (s .w) (s .h) t (s .indices) (regionIn a (s .w) (s .h)) list) out) (p .none))
-
--- ---- the end
-module _ (w h t : ℕ) (l : List ℤ) (region : Selection) (list out : List ℕ) where
-  pub handed-mirrored : (touched : Bool) {r : Counted} {m s : List ℕ} {n : ℕ} → touched ≡ true → Front (map packed (mirrored w h t l region (map unpacked list))) s n
-      → filled r m ≡ handed (take n s) out → filled r m ≡ handed (mirrorList touched w h t l region list) out
-  unfolding mirrorList
-  handed-mirrored touched e f d = d ∙ rw (e, f .front)
-
-  pub handed-untouched : (touched : Bool) {r : Counted} {m : List ℕ} → touched ≡ false → filled r m ≡ handed (take (length list) list) out
-      → filled r m ≡ handed (mirrorList touched w h t l region list) out
-  unfolding mirrorList
-  handed-untouched touched e d = d ∙ rw (e, take-length list)

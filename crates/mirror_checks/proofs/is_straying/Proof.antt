@@ -1,9 +1,9 @@
 -- `is_straying`: by the test. Assumes nothing.
 use borrow.Author.Tests.{not-true, not-false}
-use Rattle.mirror.proofs.Touching.{untouched, touched-then}
+use Rattle.mirror_checks.proofs.Touching.{untouched, touched-then}
 use borrow.Author.Needs.{needs}
-use Rattle.mirror.proofs.is_straying.Statement.{statement}
-use Rattle.mirror.proofs.is_straying.Tie as tie
+use Rattle.mirror_checks.proofs.is_straying.Statement.{statement}
+use Rattle.mirror_checks.proofs.is_straying.Tie as tie
 
 returns : tie.Need-returns
 returns c = untouched _ _ _ _ (not-true _ (c .if1 .taken))

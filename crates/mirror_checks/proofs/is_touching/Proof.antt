@@ -1,9 +1,9 @@
 -- `is_touching`: by the tests. Assumes nothing.
 use borrow.Author.Tests.{not-true, not-false}
-use Rattle.mirror.proofs.Touching.{off-not, empty-not, else-divides}
+use Rattle.mirror_checks.proofs.Touching.{off-not, empty-not, else-divides}
 use borrow.Author.Needs.{needs}
-use Rattle.mirror.proofs.is_touching.Statement.{statement}
-use Rattle.mirror.proofs.is_touching.Tie as tie
+use Rattle.mirror_checks.proofs.is_touching.Statement.{statement}
+use Rattle.mirror_checks.proofs.is_touching.Tie as tie
 
 returns : tie.Need-returns
 returns c = off-not _ _ _ _ _ (not-true _ (c .if1 .taken))

@@ -20,8 +20,8 @@ use Rattle.sheet.specs.Checks.{sheetChecks}
 use Rattle.edits.specs.Change.{outside, packed, unpacked}
 use Rattle.changes.specs.Listed.{handed}
 use Rattle.mirroring.specs.Mirror.{mirrored, Mirrorable}
-use Rattle.mirror.specs.declared.Stage.{Stage}
-use Rattle.mirror.specs.declared.Stage.the-variants.{Canvas, Refused}
+use Rattle.mirror_checks.specs.declared.Stage.{Stage}
+use Rattle.mirror_checks.specs.declared.Stage.the-variants.{Canvas, Refused}
 
 -- the tile side divides both sides: not "0 or does not divide"
 unfoldable pub divides : ℕ → ℕ → ℕ → Bool

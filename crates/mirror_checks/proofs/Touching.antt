@@ -17,7 +17,7 @@ use Rattle.sheet.specs.Checks.{WellFormed}
 use Rattle.edits.specs.Change.{outside, unpacked}
 use Rattle.pixels.proofs.Fitting.{pixel-fits}
 use Rattle.mirroring.specs.Mirror.{Mirrorable}
-use Rattle.mirror.specs.Calls.{divides, touching, straying}
+use Rattle.mirror_checks.specs.Calls.{divides, touching, straying}
 
 -- ---- by the tests
 module _ (t w h : ℕ) where
