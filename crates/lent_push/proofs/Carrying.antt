@@ -41,7 +41,7 @@ use Rattle.editing.specs.Calls.{stateOf, Standing, Acceptable}
 use Rattle.editing.proofs.Accepting.{filled-length, writable, not-refused}
 use Rattle.lent_replay.specs.Phases.{pushedOr, nonePut, finished, Finishes}
 use Rattle.lent_replay.proofs.Replaying.{redoable-paints, redoable-finishes, unpainted}
-use Rattle.lent_push.proofs.PushSteps.{none-put, none-there}
+use Rattle.push_checks.proofs.PushSteps.{none-put, none-there}
 
 -- ---- an empty list asks nothing
 nowhere-none : {A : Type 0} (p : A → Bool) (l : List A) → length l ≡ 0 → some p l ≡ false

@@ -1,3 +1,3 @@
-pub mod PushSteps
+pub mod Pushed
 pub mod Finishing
 pub mod Carrying

@@ -4,7 +4,8 @@ use mathlib.Core.List.{[]}
 use native.Mathlib.Omega.{arith}
 use Rattle.editing.proofs.Answers.{leaves-refused, leaves-still}
 use Rattle.lent_replay.specs.Phases.{Finishes}
-use Rattle.lent_push.proofs.PushSteps.{empty-is, refused-push, still-push, done-push}
+use Rattle.push_checks.proofs.PushSteps.{empty-is}
+use Rattle.lent_push.proofs.Pushed.{refused-push, still-push, done-push}
 use Rattle.lent_push.proofs.Finishing.{around-asks, offset-inside, finished-is}
 use borrow.Author.Needs.{needs}
 use Rattle.lent_push.proofs.pushing.finish.Statement.{statement}

@@ -14,10 +14,10 @@ use Rattle.editing.specs.Editing.{givenOf, editing}
 use Rattle.editing.specs.Calls.{stateOf, Standing}
 use Rattle.editing.proofs.PushChecks.{pushes-long, pushes-scratch, pushes-own}
 use Rattle.lent_replay.proofs.Replaying.{head-decides}
-use Rattle.lent_push.proofs.PushSteps.{number-entry, number-push, begun-refused, begun-still, begun-ready}
+use Rattle.push_checks.proofs.PushSteps.{number-entry, number-push, begun-refused, begun-still, begun-ready}
 use borrow.Author.Needs.{needs}
-use Rattle.lent_push.proofs.pushing.begin.Statement.{statement}
-use Rattle.lent_push.proofs.pushing.begin.Tie as tie
+use Rattle.push_checks.proofs.begin.Statement.{statement}
+use Rattle.push_checks.proofs.begin.Tie as tie
 
 entry-no-requires : tie.Need-entry-no-requires
 entry-no-requires c κs = search needs

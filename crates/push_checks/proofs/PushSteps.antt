@@ -1,16 +1,16 @@
 -- The steps of `push` over a list of structs, put together: its number. Assumes nothing.
 use mathlib.Core.Path.{_≡_, refl, sym, ap, _∙_}
-use mathlib.Core.Bool.{Bool, true, false, cond}
+use mathlib.Core.Bool.{Bool, true, false}
 use mathlib.Core.List.{List, [], _∷_, flatMap}
 use Prim.Native.Nat.{ℕ, zero, suc, _+_, _*_, _^_, _<_, _≤_}
 use native.Mathlib.Omega.{arith}
-use borrow.Author.Tests.{eqb-true, ltb-true, ltb-false}
+use borrow.Author.Tests.{eqb-true, ltb-true, ltb-false, lt-ltb, le-ltb}
 use lib.Dec.{ltb}
 use lib.IntN.{ℤ, pos}
 use lib.Ieee.{Float}
 use lib.ListN.{length, replicate, length-replicate}
 use Rattle.limits.specs.Limits.{maxChanges, maxJournal}
-use Rattle.limits.specs.Checks.{orElse, firstOf, refusedOr}
+use Rattle.limits.specs.Checks.{orElse, firstOf}
 use Rattle.limits.proofs.First.{or-else-assoc}
 use Rattle.ints.proofs.Back.{never}
 use Rattle.sheet.specs.Sheet.{Sheet, sheetOf}
@@ -28,13 +28,12 @@ use Rattle.change_lists.proofs.Checking.{first-zero}
 use Rattle.change_lists.proofs.Told.{told-length}
 use Rattle.change_lists.proofs.Whole.{checked-all, marked-all}
 use Rattle.ledger.specs.declared.Handle.{Handle}
-use Rattle.ledger.specs.Calls.{refused, still, done}
-use Rattle.ledger.specs.Journal.{State, entryChecks, pushChecks, pushOf, pushed}
+use Rattle.ledger.specs.Journal.{State, entryChecks, pushChecks}
 use Rattle.ledger.proofs.Soundness.{sound-facts}
 use Rattle.editing.specs.Editing.{Given, givenOf, editing}
 use Rattle.editing.specs.Calls.{stateOf, Standing}
 use Rattle.editing.proofs.PushChecks.{pushes-own, pushes-full, pushes-fine}
-use Rattle.lent_replay.specs.Phases.{pushNumber, pushedOr, Readied, Begun, Numbered, nonePut, fullNumber}
+use Rattle.lent_replay.specs.Phases.{pushNumber, Readied, Begun, Numbered, nonePut, fullNumber}
 use Rattle.lent_replay.proofs.Replaying.{first-kept, head-markable, list-decides, bare-each, bare-left}
 
 -- ---- "an empty pixel list"
@@ -250,18 +249,6 @@ module _ (room w h k : ℕ) (palette : List ℕ) (lab : List Float) (indices : L
                 fine = λ y _. absurd (kept (sym is ∙ y));
               }
 
--- ---- `push`: what the number decides
-pub push-is : (room : ℕ) (st : State editing) (g : Given) (n : ℕ) → n ≡ pushNumber room st g → pushedOr n (noPixels (g .edit) (g .changes)) st (pushed editing st g) ≡ pushOf editing room st g
-unfolding pushedOr pushNumber pushOf refusedOr
-push-is room st g n q = rw q (by (firstOf (entryChecks editing st g)) (noPixels (g .edit) (g .changes)))
-  where
-    by : (a : ℕ) (t : Bool)
-        → refusedOr (orElse a (cond t 0 (firstOf (pushChecks editing room st g)))) (refused st) (cond t (still st) (done (pushed editing st g)))
-        ≡ refusedOr a (refused st) (cond t (still st) (refusedOr (firstOf (pushChecks editing room st g)) (refused st) (done (pushed editing st g))))
-    by zero true = refl
-    by zero false = refl
-    by (suc a) t = refl
-
 -- ---- the end of a record that is not too long
 pub end-small : (e : Edit) (offset n r : ℕ) → offset ≤ maxJournal → n ≤ maxChanges → r ≡ recordLength e n → offset + r < 2 ^ 64
 unfolding recordLength
@@ -270,20 +257,10 @@ end-small (PaletteSet i old new lab) offset n r a b q = omega (arith, a, b, q)
 end-small (PaletteAdd c) offset n r a b q = omega (arith, a, b, q)
 end-small (PaletteRemove i c lab) offset n r a b q = omega (arith, a, b, q)
 
--- ---- a push after its number
-module _ (n : ℕ) (empty : Bool) (st after : State editing) where
-  pub refused-push : (n ≡ 0 → ⊥) → refused st n ≡ pushedOr n empty st after
-  unfolding pushedOr refusedOr
-  refused-push h = by n h
-    where
-      by : (m : ℕ) → (m ≡ 0 → ⊥) → refused st m ≡ refusedOr m (refused st) (cond empty (still st) (done after))
-      by zero h = absurd (h refl)
-      by (suc m) h = refl
+-- ---- 14, by the journal's bytes
+module _ (e : Edit) (offset n size r : ℕ) (f : nonePut e n ≡ false) (q : r ≡ recordLength e n) where
+  pub full-here : size < offset + r → 14 ≡ fullNumber offset e n size
+  full-here h = rw (f, lt-ltb size (offset + recordLength e n) (omega (arith, h, q)))
 
-  pub still-push : n ≡ 0 → empty ≡ true → still st ≡ pushedOr n empty st after
-  unfolding pushedOr refusedOr
-  still-push z t = rw (z, t)
-
-  pub done-push : (x : State editing) → n ≡ 0 → empty ≡ false → x ≡ after → done x ≡ pushedOr n empty st after
-  unfolding pushedOr refusedOr
-  done-push x z t q = rw (z, t, q)
+  pub full-not : offset + r ≤ size → 0 ≡ fullNumber offset e n size
+  full-not h = rw (f, le-ltb size (offset + recordLength e n) (omega (arith, h, q)))

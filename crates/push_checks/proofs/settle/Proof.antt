@@ -1,11 +1,10 @@
 -- `settle`: the number so far and 13, then 14. Assumes nothing.
-use mathlib.Core.Path.{sym}
-use borrow.Author.Tests.{lt-ltb, le-ltb}
+use mathlib.Core.Path.{sym, _∙_}
 use Rattle.lent_replay.proofs.Replaying.{first-kept}
-use Rattle.lent_push.proofs.PushSteps.{empty-is, end-small}
+use Rattle.push_checks.proofs.PushSteps.{empty-is, end-small, full-here, full-not}
 use borrow.Author.Needs.{needs}
-use Rattle.lent_push.proofs.pushing.settle.Statement.{statement}
-use Rattle.lent_push.proofs.pushing.settle.Tie as tie
+use Rattle.push_checks.proofs.settle.Statement.{statement}
+use Rattle.push_checks.proofs.settle.Tie as tie
 
 returns : tie.Need-returns
 returns c cs m = sym (rw (first-kept _ _ (c .if1 .taken)) (first-kept _ _ (c .if1 .taken)))
@@ -29,10 +28,10 @@ add-if4 : tie.Need-add-if4
 add-if4 c = let p = c .before .before .before .before .before .before .before .pre .1 (c .before .before .before .before .before .if1 .left) in record { fits = end-small _ _ _ _ (p .1) (p .0) (c .record-length .ensures) }
 
 returns-4 : tie.Need-returns-4
-returns-4 c cs m = rw (c .before .before .before .before .before .before .if1 .left, ← c .before .before .before .before .before .left-no .ensures cs (m (c .before .before .before .before .before .before .if1 .left)), c .before .before .before .before .if2 .left, ← empty-is _ _ _ (c .before .before .before .is-empty .ensures), c .before .before .if3 .left, lt-ltb _ _ (rw (c .before .record-length .ensures) at (c .if4 .taken)))
+returns-4 c cs m = rw (c .before .before .before .before .before .before .if1 .left, ← c .before .before .before .before .before .left-no .ensures cs (m (c .before .before .before .before .before .before .if1 .left)), c .before .before .before .before .if2 .left) (full-here _ _ _ _ _ (sym (empty-is _ _ _ (c .before .before .before .is-empty .ensures)) ∙ c .before .before .if3 .left) (c .before .record-length .ensures) (c .if4 .taken))
 
 returns-5 : tie.Need-returns-5
-returns-5 c cs m = rw (c .before .before .before .before .before .before .if1 .left, ← c .before .before .before .before .before .left-no .ensures cs (m (c .before .before .before .before .before .before .if1 .left)), c .before .before .before .before .if2 .left, ← empty-is _ _ _ (c .before .before .before .is-empty .ensures), c .before .before .if3 .left, le-ltb _ _ (rw (c .before .record-length .ensures) at (c .if4 .left)))
+returns-5 c cs m = rw (c .before .before .before .before .before .before .if1 .left, ← c .before .before .before .before .before .left-no .ensures cs (m (c .before .before .before .before .before .before .if1 .left)), c .before .before .before .before .if2 .left) (full-not _ _ _ _ _ (sym (empty-is _ _ _ (c .before .before .before .is-empty .ensures)) ∙ c .before .before .if3 .left) (c .before .record-length .ensures) (c .if4 .left))
 
 pub settle-spec : {M : Type 1} → statement M
 settle-spec =

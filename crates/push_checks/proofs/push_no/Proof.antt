@@ -64,23 +64,23 @@ use Rattle.change_lists.specs.Walk.{packedAll, toldAll, checkUpto, markUpto, Ch
 use Rattle.editing.specs.Editing.{givenOf}
 use Rattle.editing.specs.Calls.{stateOf}
 use Rattle.lent_replay.specs.Phases.{Begun, Numbered, fullNumber}
-use Rattle.lent_push.proofs.PushSteps.{begun-checkable, settle-checkable, settle-short, settle-marks, push-number}
-use Rattle.lent_push.proofs.pushing.begin as Beginning-f
-use Rattle.lent_push.proofs.pushing.begin.Symbol as Beginning-def
-use Rattle.lent_push.proofs.pushing.begin.Symbol.{name as #lent_push·pushing·begin}
-use Rattle.lent_push.proofs.pushing.begin.Met as Beginning-thm
+use Rattle.push_checks.proofs.PushSteps.{begun-checkable, settle-checkable, settle-short, settle-marks, push-number}
+use Rattle.push_checks.proofs.begin as Beginning-f
+use Rattle.push_checks.proofs.begin.Symbol as Beginning-def
+use Rattle.push_checks.proofs.begin.Symbol.{name as #push_checks·begin}
+use Rattle.push_checks.proofs.begin.Met as Beginning-thm
 use Rattle.change_lists.proofs.check_list as Checking-f
 use Rattle.change_lists.proofs.check_list.Symbol as Checking-def
 use Rattle.change_lists.proofs.check_list.Symbol.{name as #change_lists·check-list}
 use Rattle.change_lists.proofs.check_list.Met as Checking-thm
-use Rattle.lent_push.proofs.pushing.settle as Settling-f
-use Rattle.lent_push.proofs.pushing.settle.Symbol as Settling-def
-use Rattle.lent_push.proofs.pushing.settle.Symbol.{name as #lent_push·pushing·settle}
-use Rattle.lent_push.proofs.pushing.settle.Met as Settling-thm
-use Rattle.lent_push.proofs.pushing.push_no.Key.{name as #lent_push·pushing·push-no}
-use Rattle.lent_push.proofs.pushing.push_no as f
-use Rattle.lent_push.proofs.pushing.push_no.Statement as stated
-use Rattle.lent_push.proofs.pushing.push_no.Code as code
+use Rattle.push_checks.proofs.settle as Settling-f
+use Rattle.push_checks.proofs.settle.Symbol as Settling-def
+use Rattle.push_checks.proofs.settle.Symbol.{name as #push_checks·settle}
+use Rattle.push_checks.proofs.settle.Met as Settling-thm
+use Rattle.push_checks.proofs.push_no.Key.{name as #push_checks·push-no}
+use Rattle.push_checks.proofs.push_no as f
+use Rattle.push_checks.proofs.push_no.Statement as stated
+use Rattle.push_checks.proofs.push_no.Code as code
 
 abbrev stayed : Stays (f.ended .signature .params) (f.ended .kept)
 stayed = (stay-none (λ _. usize) yes, (stay-none (λ _. usize) yes, (stay-none (λ _. usize) yes, (stay-none-slice (0 ∷ []) tt (plain (λ _. u8)) yes, (stay-none-slice (1 ∷ []) tt (plain (λ _. f64)) yes, (stay-none-slice (2 ∷ []) tt (plain (λ _. i16)) yes, (stay-none (λ _. bool) yes, (stay-none-slice (3 ∷ []) tt (plain (λ _. u8)) yes, (stay-none (λ _. Edit-T.the-row) yes, (stay-none-slice (4 ∷ []) tt (plain (λ _. Change-T.the-row)) yes, (stay-none-slice (5 ∷ []) tt (plain (λ _. u8)) yes, (stay-none (λ _. Handle-T.the-row) yes, (stay-slice (6 ∷ []) tt (plain (λ _. u8)), tt)))))))))))))
@@ -161,7 +161,7 @@ module _ {M : Type 1} (𝓤 : URA M) (H : Heap 𝓤) (A : Atoms 𝓤) (W : Given
       suffices ! _ (ends-at 𝓤 H A f.ended stayed (f.clauses 𝓤 H A at-mem run) W ((((κ₀, (κ₁, (κ₂, (κ₃, (κ₄, (κ₅, (κ₆, tt))))))), (q₀, (q₁, (q₂, (q₃, (q₄, (q₅, (q₆, tt))))))), tt, a, vals), tt)) (vint w8 r) r (tt, (tt, (tt, (tt, (tt, (tt, (tt, (tt, (tt, (tt, (tt, (tt, (marks′, tt))))))))))))) (tt, (tt, (tt, (tt, (tt, (tt, (tt, (tt, (tt, (tt, (tt, (tt, (marks-len, tt)))))))))))))) $ says ! said $
       nothing ! $ move ! (14 ∷ 0 ∷ []) $ join ! $ move ! (12 ∷ 0 ∷ []) $ join ! $ move ! (10 ∷ 0 ∷ []) $ join ! $ move ! (8 ∷ 0 ∷ []) $ join ! $ move ! (6 ∷ 0 ∷ []) $ join ! $ move ! (4 ∷ 0 ∷ []) $ join ! $ move ! (2 ∷ 0 ∷ []) $ join ! $ frame ! $ nothing ! $ move ! (7 ∷ 0 ∷ []) $ fjoin ! $ owned ! Handle-T.the-row (Is Handle-T.the-row) (LL.makes Handle-T.the-type Handle-T′.the-plain 𝓤 H A) handle _ handle-is $ fjoin ! $ move ! (6 ∷ 0 ∷ []) $ fjoin ! $ move ! (5 ∷ 0 ∷ []) $ fjoin ! $ owned ! Edit-T.the-row (Is Edit-T.the-row) (EL.makes Edit-T.the-type Edit-T′.the-plain 𝓤 H A) edit _ edit-is $ fjoin ! $ move ! (4 ∷ 0 ∷ []) $ fjoin ! $ owned ! bool (Is bool) (bool-makes 𝓤 H A W) limited _ refl $ fjoin ! $ move ! (3 ∷ 0 ∷ []) $ fjoin ! $ move ! (2 ∷ 0 ∷ []) $ fjoin ! $ move ! (1 ∷ 0 ∷ []) $ fjoin ! $ owned ! usize (Is usize) (uint-makes 𝓤 H A W w64) k _ (refl, k-fits) $ fjoin ! $ owned ! usize (Is usize) (uint-makes 𝓤 H A W w64) h _ (refl, h-fits) $ fjoin ! $ owned ! usize (Is usize) (uint-makes 𝓤 H A W w64) w _ (refl, w-fits) $ fjoin ! $ frame ! $ owned ! u8 (Is u8) (uint-makes 𝓤 H A W w8) r _ (refl, is) $ done !
 
-  module _ (C : Calls 𝓤 H) (Λ : Loops 𝓤 H) (fm : FmC 𝓤 H (W .laws) C) (known-Beginning : Triple 𝓤 (C #lent_push·pushing·begin) (Beginning 𝓤 H A at-mem run)) (known-Checking : Triple 𝓤 (C #change_lists·check-list) (Checking 𝓤 H A at-mem run)) (known-Settling : Triple 𝓤 (C #lent_push·pushing·settle) (Settling 𝓤 H A at-mem run)) where
+  module _ (C : Calls 𝓤 H) (Λ : Loops 𝓤 H) (fm : FmC 𝓤 H (W .laws) C) (known-Beginning : Triple 𝓤 (C #push_checks·begin) (Beginning 𝓤 H A at-mem run)) (known-Checking : Triple 𝓤 (C #change_lists·check-list) (Checking 𝓤 H A at-mem run)) (known-Settling : Triple 𝓤 (C #push_checks·settle) (Settling 𝓤 H A at-mem run)) where
     walk : ent 𝓤 (onEntry 𝓤 H A f.signature (κ₀, (κ₁, (κ₂, (κ₃, (κ₄, (κ₅, (κ₆, tt))))))) (q₀, (q₁, (q₂, (q₃, (q₄, (q₅, (q₆, tt))))))) a vals) (WpFn 𝓤 H C Λ code.function (vint w64 w ∷ vint w64 h ∷ vint w64 k ∷ sliceVal (palette-b, palette-o) (length palette) ∷ sliceVal (lab-b, lab-o) (length lab) ∷ sliceVal (indices-b, indices-o) (length indices) ∷ vbool limited ∷ sliceVal (permitted-b, permitted-o) (length permitted) ∷ EL.val Edit-T.the-type Edit-T′.the-laws edit ∷ sliceVal (list-b, list-o) (length list) ∷ sliceVal (journal-b, journal-o) (length journal) ∷ LL.val Handle-T.the-type Handle-T′.the-laws handle ∷ sliceVal (marks-b, marks-o) (length marks) ∷ []) Post)
     walk =
         qed W ((‵ (flft κ₀ q₀) ⊛ ‵ (flft κ₁ q₁) ⊛ ‵ (flft κ₂ q₂) ⊛ ‵ (flft κ₃ q₃) ⊛ ‵ (flft κ₄ q₄) ⊛ ‵ (flft κ₅ q₅) ⊛ ‵ (flft κ₆ q₆) ⊛ ‵ ftrue) ∷ ‵ (owns (usize ∷ usize ∷ usize ∷ ShrSlice (named 0) κ₀ u8 ∷ ShrSlice (named 1) κ₁ f64 ∷ ShrSlice (named 2) κ₂ i16 ∷ bool ∷ ShrSlice (named 3) κ₃ u8 ∷ Edit-T.the-row ∷ ShrSlice (named 4) κ₄ Change-T.the-row ∷ ShrSlice (named 5) κ₅ u8 ∷ Handle-T.the-row ∷ MutSlice (named 6) κ₆ u8 ∷ []) a vals) ∷ []) ∵ enter ! C Λ code.function (vint w64 w ∷ vint w64 h ∷ vint w64 k ∷ sliceVal (palette-b, palette-o) (length palette) ∷ sliceVal (lab-b, lab-o) (length lab) ∷ sliceVal (indices-b, indices-o) (length indices) ∷ vbool limited ∷ sliceVal (permitted-b, permitted-o) (length permitted) ∷ EL.val Edit-T.the-type Edit-T′.the-laws edit ∷ sliceVal (list-b, list-o) (length list) ∷ sliceVal (journal-b, journal-o) (length journal) ∷ LL.val Handle-T.the-type Handle-T′.the-laws handle ∷ sliceVal (marks-b, marks-o) (length marks) ∷ []) _ $
@@ -236,13 +236,13 @@ module _ {M : Type 1} (𝓤 : URA M) (H : Heap 𝓤) (A : Atoms 𝓤) (W : Given
         keep ! (19 ∷ 14 ∷ 18 ∷ 13 ∷ 5 ∷ 3 ∷ 17 ∷ 12 ∷ 9 ∷ 6 ∷ 16 ∷ 11 ∷ 0 ∷ 1 ∷ []) $ by ! (exits (r₃) (z₂ .1 .1 .1 .1 .1 .1 .1 .0) (push-number (length marks) w h k palette lab indices journal handle limited permitted edit list r₁ (z₁ .1 .1 .1 .1 .1 .1 .1 .1 .1 .1 .1 .1 .0) (e₁ (packedAll list) (length-map list packedOf)) l₁-marks r₂ r₃ (e₂ .0) (e₃ (toldAll list) (λ z. rw (e₂ .1) (settle-marks (length marks) w h k palette lab indices journal handle limited permitted edit list r₁ (z₁ .1 .1 .1 .1 .1 .1 .1 .1 .1 .1 .1 .1 .0) (e₁ (packedAll list) (length-map list packedOf)) l₁-marks r₂ (e₂ .0) z)))) (l₂-marks ∙ l₁-marks) (is₃ .1))))))))))))))))))))))))))))))))))))))))))))))))))
 
 module _ {M : Type 1} (𝓤 : URA M) (H : Heap 𝓤) (A : Atoms 𝓤) (W : Given 𝓤 H A) (mem : Memory → SProp 𝓤) (run : Routine → Fun 𝓤) where
-  push-no-walks : (C : Calls 𝓤 H) (Λ : Loops 𝓤 H) → FmC 𝓤 H (W .laws) C → Triple 𝓤 (C #lent_push·pushing·begin) (Beginning 𝓤 H A mem run) → Triple 𝓤 (C #change_lists·check-list) (Checking 𝓤 H A mem run) → Triple 𝓤 (C #lent_push·pushing·settle) (Settling 𝓤 H A mem run) → Walks 𝓤 H A f.ended stayed (WpFn 𝓤 H C Λ code.function) (f.clauses 𝓤 H A mem run)
+  push-no-walks : (C : Calls 𝓤 H) (Λ : Loops 𝓤 H) → FmC 𝓤 H (W .laws) C → Triple 𝓤 (C #push_checks·begin) (Beginning 𝓤 H A mem run) → Triple 𝓤 (C #change_lists·check-list) (Checking 𝓤 H A mem run) → Triple 𝓤 (C #push_checks·settle) (Settling 𝓤 H A mem run) → Walks 𝓤 H A f.ended stayed (WpFn 𝓤 H C Λ code.function) (f.clauses 𝓤 H A mem run)
   push-no-walks C Λ fm known-Beginning known-Checking known-Settling = walked 𝓤 H A f.ended stayed (f.clauses 𝓤 H A mem run) (WpFn 𝓤 H C Λ code.function)
       (λ κs. (uint-vals w64, (uint-vals w64, (uint-vals w64, (slice-vals, (slice-vals, (slice-vals, (bool-vals, (slice-vals, (EL.vals Edit-T.the-type Edit-T′.the-laws, (slice-vals, (slice-vals, (LL.vals Handle-T.the-type Handle-T′.the-laws, (slice-vals, tt)))))))))))))) (λ κs. (uint-tells w64, (uint-tells w64, (uint-tells w64, (shr-slice-tells (named 0) (κs .0) u8, (shr-slice-tells (named 1) (κs .1 .0) f64, (shr-slice-tells (named 2) (κs .1 .1 .0) i16, (bool-tells, (shr-slice-tells (named 3) (κs .1 .1 .1 .0) u8, (EL.tells Edit-T.the-type Edit-T′.the-laws, (shr-slice-tells (named 4) (κs .1 .1 .1 .1 .0) Change-T.the-row, (shr-slice-tells (named 5) (κs .1 .1 .1 .1 .1 .0) u8, (LL.tells Handle-T.the-type Handle-T′.the-laws, (mut-slice-tells (named 6) (κs .1 .1 .1 .1 .1 .1 .0) u8, tt))))))))))))))
       (λ κs qs bounds a g are. via 𝓤 _ (fst∗ 𝓤 _ (emp 𝓤))
       (walk 𝓤 H A W mem run (κs .0) (κs .1 .0) (κs .1 .1 .0) (κs .1 .1 .1 .0) (κs .1 .1 .1 .1 .0) (κs .1 .1 .1 .1 .1 .0) (κs .1 .1 .1 .1 .1 .1 .0) (qs .0) (qs .1 .0) (qs .1 .1 .0) (qs .1 .1 .1 .0) (qs .1 .1 .1 .1 .0) (qs .1 .1 .1 .1 .1 .0) (qs .1 .1 .1 .1 .1 .1 .0) (a .0) (a .1 .0) (a .1 .1 .0) (a .1 .1 .1 .0 .ptr .0) (a .1 .1 .1 .0 .ptr .1) (a .1 .1 .1 .0 .name) (a .1 .1 .1 .0 .now) (a .1 .1 .1 .1 .0 .ptr .0) (a .1 .1 .1 .1 .0 .ptr .1) (a .1 .1 .1 .1 .0 .name) (a .1 .1 .1 .1 .0 .now) (a .1 .1 .1 .1 .1 .0 .ptr .0) (a .1 .1 .1 .1 .1 .0 .ptr .1) (a .1 .1 .1 .1 .1 .0 .name) (a .1 .1 .1 .1 .1 .0 .now) (a .1 .1 .1 .1 .1 .1 .0) (a .1 .1 .1 .1 .1 .1 .1 .0 .ptr .0) (a .1 .1 .1 .1 .1 .1 .1 .0 .ptr .1) (a .1 .1 .1 .1 .1 .1 .1 .0 .name) (a .1 .1 .1 .1 .1 .1 .1 .0 .now) (a .1 .1 .1 .1 .1 .1 .1 .1 .0) (a .1 .1 .1 .1 .1 .1 .1 .1 .1 .0 .ptr .0) (a .1 .1 .1 .1 .1 .1 .1 .1 .1 .0 .ptr .1) (a .1 .1 .1 .1 .1 .1 .1 .1 .1 .0 .name) (a .1 .1 .1 .1 .1 .1 .1 .1 .1 .0 .now) (a .1 .1 .1 .1 .1 .1 .1 .1 .1 .1 .0 .ptr .0) (a .1 .1 .1 .1 .1 .1 .1 .1 .1 .1 .0 .ptr .1) (a .1 .1 .1 .1 .1 .1 .1 .1 .1 .1 .0 .name) (a .1 .1 .1 .1 .1 .1 .1 .1 .1 .1 .0 .now) (a .1 .1 .1 .1 .1 .1 .1 .1 .1 .1 .1 .0) (a .1 .1 .1 .1 .1 .1 .1 .1 .1 .1 .1 .1 .0 .ptr .0) (a .1 .1 .1 .1 .1 .1 .1 .1 .1 .1 .1 .1 .0 .ptr .1) (a .1 .1 .1 .1 .1 .1 .1 .1 .1 .1 .1 .1 .0 .name) (a .1 .1 .1 .1 .1 .1 .1 .1 .1 .1 .1 .1 .0 .now) (are .0 .1) (are .1 .0 .1) (are .1 .1 .0 .1) (are .1 .1 .1 .0 .0 .1) (are .1 .1 .1 .1 .0 .0 .1) (are .1 .1 .1 .1 .1 .0 .0 .1) (are .1 .1 .1 .1 .1 .1 .1 .0 .0 .1) (are .1 .1 .1 .1 .1 .1 .1 .1 .0) (are .1 .1 .1 .1 .1 .1 .1 .1 .1 .0 .0 .1) (are .1 .1 .1 .1 .1 .1 .1 .1 .1 .1 .0 .0 .1) (are .1 .1 .1 .1 .1 .1 .1 .1 .1 .1 .1 .0) (are .1 .1 .1 .1 .1 .1 .1 .1 .1 .1 .1 .1 .0 .0 .1) C Λ fm known-Beginning known-Checking known-Settling))
 
-push-no-meets : {M : Type 1} (𝓤 : URA M) (H : Heap 𝓤) (A : Atoms 𝓤) → Given 𝓤 H A → (mem : Memory → SProp 𝓤) (run : Routine → Fun 𝓤) (𝓣 : Tables 𝓤 H) → Triple 𝓤 (𝓣 .C #lent_push·pushing·begin) (Beginning 𝓤 H A mem run) → Triple 𝓤 (𝓣 .C #change_lists·check-list) (Checking 𝓤 H A mem run) → Triple 𝓤 (𝓣 .C #lent_push·pushing·settle) (Settling 𝓤 H A mem run)
+push-no-meets : {M : Type 1} (𝓤 : URA M) (H : Heap 𝓤) (A : Atoms 𝓤) → Given 𝓤 H A → (mem : Memory → SProp 𝓤) (run : Routine → Fun 𝓤) (𝓣 : Tables 𝓤 H) → Triple 𝓤 (𝓣 .C #push_checks·begin) (Beginning 𝓤 H A mem run) → Triple 𝓤 (𝓣 .C #change_lists·check-list) (Checking 𝓤 H A mem run) → Triple 𝓤 (𝓣 .C #push_checks·settle) (Settling 𝓤 H A mem run)
     → Meets 𝓤 H A f.signature (WpFn 𝓤 H (𝓣 .C) (𝓣 .Λ) code.function) (f.spec 𝓤 H A mem run)
 push-no-meets 𝓤 H A W mem run 𝓣 known-Beginning known-Checking known-Settling =
     walk-meets 𝓤 H A f.ended stayed W (goes-none 𝓤 H A W 7 (λ _. usize) yes (λ κs x f. refl), (goes-none 𝓤 H A W 7 (λ _. usize) yes (λ κs x f. refl), (goes-none 𝓤 H A W 7 (λ _. usize) yes (λ κs x f. refl), (goes-none-slice 𝓤 H A W 7 (0 ∷ []) tt (plain (λ _. u8)) yes, (goes-none-slice 𝓤 H A W 7 (1 ∷ []) tt (plain (λ _. f64)) yes, (goes-none-slice 𝓤 H A W 7 (2 ∷ []) tt (plain (λ _. i16)) yes, (goes-none 𝓤 H A W 7 (λ _. bool) yes (λ κs x f. refl), (goes-none-slice 𝓤 H A W 7 (3 ∷ []) tt (plain (λ _. u8)) yes, (goes-none 𝓤 H A W 7 (λ _. Edit-T.the-row) yes (λ κs x f. refl), (goes-none-slice 𝓤 H A W 7 (4 ∷ []) tt (plain (λ _. Change-T.the-row)) yes, (goes-none-slice 𝓤 H A W 7 (5 ∷ []) tt (plain (λ _. u8)) yes, (goes-none 𝓤 H A W 7 (λ _. Handle-T.the-row) yes (λ κs x f. refl), (goes-slice 𝓤 H A W 7 6 tt (plain (λ _. u8)), tt))))))))))))) (f.clauses 𝓤 H A mem run)
@@ -252,8 +252,8 @@ pub push-no-spec : {M : Type 1} → stated.statement M
 unfolding code.routine tablesOf
 push-no-spec 𝓤 H 𝓜 𝓖 𝓡 =
     entered 𝓤 H (tripleOf 𝓤 H (𝓖 .A) f.signature (f.spec 𝓤 H (𝓖 .A) (𝓜 .mem) (𝓡 .run)))
-    (tables 𝓤 H 𝓜 𝓡 code.env .C) (tables 𝓤 H 𝓜 𝓡 code.env .Λ) #lent_push·pushing·push-no code.function (code.unfolded 𝓤 H 𝓜 𝓡)
+    (tables 𝓤 H 𝓜 𝓡 code.env .C) (tables 𝓤 H 𝓜 𝓡 code.env .Λ) #push_checks·push-no code.function (code.unfolded 𝓤 H 𝓜 𝓡)
     (push-no-meets 𝓤 H (𝓖 .A) (given-of 𝓤 H 𝓜 𝓖) (𝓜 .mem) (𝓡 .run) (tablesOf 𝓤 H 𝓜 (tables 𝓤 H 𝓜 𝓡 code.env))
-    (cited 𝓤 H (Beginning 𝓤 H (𝓖 .A) (𝓜 .mem) (𝓡 .run)) 𝓜 𝓡 code.env #lent_push·pushing·begin Beginning-def.routine code.calls-lent-push·pushing·begin (Beginning-thm.met 𝓤 H 𝓜 𝓖 𝓡))
+    (cited 𝓤 H (Beginning 𝓤 H (𝓖 .A) (𝓜 .mem) (𝓡 .run)) 𝓜 𝓡 code.env #push_checks·begin Beginning-def.routine code.calls-push-checks·begin (Beginning-thm.met 𝓤 H 𝓜 𝓖 𝓡))
     (cited 𝓤 H (Checking 𝓤 H (𝓖 .A) (𝓜 .mem) (𝓡 .run)) 𝓜 𝓡 code.env #change_lists·check-list Checking-def.routine code.calls-change-lists·check-list (Checking-thm.met 𝓤 H 𝓜 𝓖 𝓡))
-    (cited 𝓤 H (Settling 𝓤 H (𝓖 .A) (𝓜 .mem) (𝓡 .run)) 𝓜 𝓡 code.env #lent_push·pushing·settle Settling-def.routine code.calls-lent-push·pushing·settle (Settling-thm.met 𝓤 H 𝓜 𝓖 𝓡)))
+    (cited 𝓤 H (Settling 𝓤 H (𝓖 .A) (𝓜 .mem) (𝓡 .run)) 𝓜 𝓡 code.env #push_checks·settle Settling-def.routine code.calls-push-checks·settle (Settling-thm.met 𝓤 H 𝓜 𝓖 𝓡)))
