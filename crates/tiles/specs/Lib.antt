@@ -1,2 +1,1 @@
-pub mod Flips
 pub mod Extracts

@@ -1,6 +1,5 @@
 // Tiles: `flip` and `extract` of tiles.rs, the latter at tolerance 0.
 mod cutting;
-mod flips;
 
 pub use cutting::extract;
 pub use flips::flip;

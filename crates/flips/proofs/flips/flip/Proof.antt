@@ -4,9 +4,9 @@ use native.Mathlib.Nat.{mul-le-mul}
 use native.Mathlib.Omega.{arith}
 use borrow.Author.Needs.{needs}
 use Rattle.tiling.proofs.Corners.{alone-lies}
-use Rattle.tiles.proofs.Answers.{flip-wide, flip-odd, flip-short, flip-done}
-use Rattle.tiles.proofs.flips.flip.Statement.{statement}
-use Rattle.tiles.proofs.flips.flip.Tie as tie
+use Rattle.flips.proofs.Answers.{flip-wide, flip-odd, flip-short, flip-done}
+use Rattle.flips.proofs.flips.flip.Statement.{statement}
+use Rattle.flips.proofs.flips.flip.Tie as tie
 
 returns : tie.Need-returns
 returns c = flip-wide _ _ _ _ _ (c .if1 .taken)

@@ -6,7 +6,7 @@ use limits::NO_SPACE;
 use tiling::copy_tile;
 ghost use mathlib.Core.Path.{_≡_};
 ghost use Rattle.limits.specs.Answer.{filled};
-ghost use Rattle.tiles.specs.Flips.{flipOf};
+ghost use Rattle.flips.specs.Flips.{flipOf};
 
 // A t × t tile flipped horizontally (columns reversed) and/or vertically (rows reversed), over the front of out.
 pub fn flip(tile: &[i16], t: usize, flip_h: bool, flip_v: bool, out: &mut [i16]) -> Counted
