@@ -5,3 +5,4 @@ pub mod Answers
 pub mod PushChecks
 pub mod Accepting
 pub mod ReplayChecks
+pub mod Steps

@@ -16,8 +16,8 @@ pub use mark::fresh;
 pub use mark::mark_saved;
 pub use op::replay;
 pub use pushing::push;
-pub use stepping::redo;
-pub use stepping::undo;
+pub use stepping_back::undo;
+pub use stepping_forth::redo;
 
 // What `mark_saved` answers, and the handle that it leaves.
 pub struct Marked {

@@ -1,4 +1,4 @@
--- `lent_history::redo` meets its contract: a walk of its MIR, by hand. The borrows of k and handle are opened and copied out, `stepping::redo` is called with the copies and with the other parameters, what it returned is stored, and the borrows are closed at it.
+-- `lent_history::redo` meets its contract: a walk of its MIR, by hand. The borrows of k and handle are opened and copied out, `stepping_forth::redo` is called with the copies and with the other parameters, what it returned is stored, and the borrows are closed at it.
 -- All that the proof knows of the call is that it meets its contract.
 -- Assumes nothing.
 use mathlib.Core.Path.{_≡_, refl, ap}
@@ -57,10 +57,10 @@ use Rattle.editing.proofs.Moved as S
 use Rattle.editing.proofs.Moved.Laws as S′
 use Rattle.ledger.proofs.Handle as Handle-T
 use Rattle.ledger.proofs.Handle.Laws as Handle-T′
-use Rattle.stepping.proofs.redo as step
-use Rattle.stepping.proofs.redo.Symbol as step-def
-use Rattle.stepping.proofs.redo.Symbol.{name as #stepping·redo}
-use Rattle.stepping.proofs.redo.Met as step-thm
+use Rattle.stepping_forth.proofs.redo as step
+use Rattle.stepping_forth.proofs.redo.Symbol as step-def
+use Rattle.stepping_forth.proofs.redo.Symbol.{name as #stepping_forth·redo}
+use Rattle.stepping_forth.proofs.redo.Met as step-thm
 use Rattle.lent_history.proofs.moving.redo.Key.{name as #lent_history·redo}
 use Rattle.lent_history.proofs.moving.redo as f
 use Rattle.lent_history.proofs.moving.redo.Statement as stated
@@ -111,7 +111,7 @@ module _ {M : Type 1} (𝓤 : URA M) (H : Heap 𝓤) (A : Atoms 𝓤) (W : Given
       split ! $ move ! (1 ∷ []) $ split ! $ move ! (1 ∷ []) $ split ! $ move ! (1 ∷ []) $ split ! $ move ! (1 ∷ []) $ split ! $ join ! $ move ! (10 ∷ 0 ∷ []) $ join ! $ move ! (1 ∷ 0 ∷ []) $ join ! $ move ! (1 ∷ 0 ∷ []) $ join ! $ move ! (1 ∷ 0 ∷ []) $ join ! $ move ! (1 ∷ 0 ∷ []) $ join ! $ move ! (3 ∷ 0 ∷ []) $ join ! $ frame ! $ nothing ! $ move ! (9 ∷ 0 ∷ []) $ fjoin ! $ move ! (3 ∷ 4 ∷ 0 ∷ []) $ feqI ! (List Val) (vptr handle-b handle-o ∷ []) (vptr handle-b handle-o ∷ []) refl $ fjoin3 ! $ fjoin ! $ move ! (6 ∷ 0 ∷ []) $ fjoin ! $ move ! (5 ∷ 0 ∷ []) $ fjoin ! $ move ! (4 ∷ 0 ∷ []) $ fjoin ! $ move ! (3 ∷ 0 ∷ []) $ fjoin ! $ move ! (1 ∷ 2 ∷ 0 ∷ []) $ feqI ! (List Val) (vptr k-b k-o ∷ []) (vptr k-b k-o ∷ []) refl $ fjoin3 ! $ fjoin ! $ owned ! usize (Is usize) (uint-makes 𝓤 H A W w64) h _ (refl, h-fits) $ fjoin ! $ owned ! usize (Is usize) (uint-makes 𝓤 H A W w64) w _ (refl, w-fits) $ fjoin ! $ frame ! $
       owned ! E.the-row (Is E.the-row) (EL.makes E.the-type E′.the-plain 𝓤 H A) (r .answer) _ is $ done !
 
-  module _ (C : Calls 𝓤 H) (Λ : Loops 𝓤 H) (fm : FmC 𝓤 H (W .laws) C) (known : Triple 𝓤 (C #stepping·redo) (Step 𝓤 H A at-mem run)) where
+  module _ (C : Calls 𝓤 H) (Λ : Loops 𝓤 H) (fm : FmC 𝓤 H (W .laws) C) (known : Triple 𝓤 (C #stepping_forth·redo) (Step 𝓤 H A at-mem run)) where
     walk : ent 𝓤 (onEntry 𝓤 H A f.signature (κ₀, (κ₁, (κ₂, (κ₃, (κ₄, (κ₅, (κ₆, tt))))))) (q₀, (q₁, (q₂, (q₃, (q₄, (q₅, (q₆, tt))))))) a vals) (WpFn 𝓤 H C Λ code.function (vint w64 w ∷ vint w64 h ∷ vptr k-b k-o ∷ sliceVal (palette-b, palette-o) (length palette) ∷ sliceVal (lab-b, lab-o) (length lab) ∷ sliceVal (indices-b, indices-o) (length indices) ∷ sliceVal (journal-b, journal-o) (length journal) ∷ vptr handle-b handle-o ∷ sliceVal (scratch-b, scratch-o) (length scratch) ∷ []) Post)
     walk =
         qed W ((‵ (flft κ₀ q₀) ⊛ ‵ (flft κ₁ q₁) ⊛ ‵ (flft κ₂ q₂) ⊛ ‵ (flft κ₃ q₃) ⊛ ‵ (flft κ₄ q₄) ⊛ ‵ (flft κ₅ q₅) ⊛ ‵ (flft κ₆ q₆) ⊛ ‵ ftrue) ∷ ‵ (owns (usize ∷ usize ∷ MutRef (named 0) κ₀ usize ∷ MutSlice (named 1) κ₁ u8 ∷ MutSlice (named 2) κ₂ f64 ∷ MutSlice (named 3) κ₃ i16 ∷ ShrSlice (named 4) κ₄ u8 ∷ MutRef (named 5) κ₅ Handle-T.the-row ∷ MutSlice (named 6) κ₆ u8 ∷ []) a vals) ∷ []) ∵ enter ! C Λ code.function (vint w64 w ∷ vint w64 h ∷ vptr k-b k-o ∷ sliceVal (palette-b, palette-o) (length palette) ∷ sliceVal (lab-b, lab-o) (length lab) ∷ sliceVal (indices-b, indices-o) (length indices) ∷ sliceVal (journal-b, journal-o) (length journal) ∷ vptr handle-b handle-o ∷ sliceVal (scratch-b, scratch-o) (length scratch) ∷ []) _ $
@@ -162,13 +162,13 @@ module _ {M : Type 1} (𝓤 : URA M) (H : Heap 𝓤) (A : Atoms 𝓤) (W : Given
         keep ! (6 ∷ 3 ∷ 4 ∷ 5 ∷ 0 ∷ 1 ∷ 2 ∷ 11 ∷ 10 ∷ 9 ∷ 13 ∷ 7 ∷ []) $ by ! (exits r (ws .1 .1 .1 .0) (ws .1 .1 .1 .1 .0) (ws .1 .1 .1 .1 .1 .0) (ws .1 .1 .1 .1 .1 .1 .1 .1 .0) e palette-len lab-len indices-len scratch-len (LL.owed S.the-type S′.the-laws r _ is .0))))))))))))))))))))))))))))))))))))
 
 module _ {M : Type 1} (𝓤 : URA M) (H : Heap 𝓤) (A : Atoms 𝓤) (W : Given 𝓤 H A) (mem : Memory → SProp 𝓤) (run : Routine → Fun 𝓤) where
-  redo-walks : (C : Calls 𝓤 H) (Λ : Loops 𝓤 H) → FmC 𝓤 H (W .laws) C → Triple 𝓤 (C #stepping·redo) (Step 𝓤 H A mem run) → Walks 𝓤 H A f.ended stayed (WpFn 𝓤 H C Λ code.function) (f.clauses 𝓤 H A mem run)
+  redo-walks : (C : Calls 𝓤 H) (Λ : Loops 𝓤 H) → FmC 𝓤 H (W .laws) C → Triple 𝓤 (C #stepping_forth·redo) (Step 𝓤 H A mem run) → Walks 𝓤 H A f.ended stayed (WpFn 𝓤 H C Λ code.function) (f.clauses 𝓤 H A mem run)
   redo-walks C Λ fm known = walked 𝓤 H A f.ended stayed (f.clauses 𝓤 H A mem run) (WpFn 𝓤 H C Λ code.function)
       (λ κs. (uint-vals w64, (uint-vals w64, (ptr-vals, (slice-vals, (slice-vals, (slice-vals, (slice-vals, (ptr-vals, (slice-vals, tt)))))))))) (λ κs. (uint-tells w64, (uint-tells w64, (mut-tells (named 0) (κs .0) usize, (mut-slice-tells (named 1) (κs .1 .0) u8, (mut-slice-tells (named 2) (κs .1 .1 .0) f64, (mut-slice-tells (named 3) (κs .1 .1 .1 .0) i16, (shr-slice-tells (named 4) (κs .1 .1 .1 .1 .0) u8, (mut-tells (named 5) (κs .1 .1 .1 .1 .1 .0) Handle-T.the-row, (mut-slice-tells (named 6) (κs .1 .1 .1 .1 .1 .1 .0) u8, tt))))))))))
       (λ κs qs bounds a g are. via 𝓤 _ (fst∗ 𝓤 _ (emp 𝓤))
       (walk 𝓤 H A W mem run (κs .0) (κs .1 .0) (κs .1 .1 .0) (κs .1 .1 .1 .0) (κs .1 .1 .1 .1 .0) (κs .1 .1 .1 .1 .1 .0) (κs .1 .1 .1 .1 .1 .1 .0) (qs .0) (qs .1 .0) (qs .1 .1 .0) (qs .1 .1 .1 .0) (qs .1 .1 .1 .1 .0) (qs .1 .1 .1 .1 .1 .0) (qs .1 .1 .1 .1 .1 .1 .0) (a .0) (a .1 .0) (a .1 .1 .0 .ptr .0) (a .1 .1 .0 .ptr .1) (a .1 .1 .0 .name) (a .1 .1 .0 .now) (a .1 .1 .1 .0 .ptr .0) (a .1 .1 .1 .0 .ptr .1) (a .1 .1 .1 .0 .name) (a .1 .1 .1 .0 .now) (a .1 .1 .1 .1 .0 .ptr .0) (a .1 .1 .1 .1 .0 .ptr .1) (a .1 .1 .1 .1 .0 .name) (a .1 .1 .1 .1 .0 .now) (a .1 .1 .1 .1 .1 .0 .ptr .0) (a .1 .1 .1 .1 .1 .0 .ptr .1) (a .1 .1 .1 .1 .1 .0 .name) (a .1 .1 .1 .1 .1 .0 .now) (a .1 .1 .1 .1 .1 .1 .0 .ptr .0) (a .1 .1 .1 .1 .1 .1 .0 .ptr .1) (a .1 .1 .1 .1 .1 .1 .0 .name) (a .1 .1 .1 .1 .1 .1 .0 .now) (a .1 .1 .1 .1 .1 .1 .1 .0 .ptr .0) (a .1 .1 .1 .1 .1 .1 .1 .0 .ptr .1) (a .1 .1 .1 .1 .1 .1 .1 .0 .name) (a .1 .1 .1 .1 .1 .1 .1 .0 .now) (a .1 .1 .1 .1 .1 .1 .1 .1 .0 .ptr .0) (a .1 .1 .1 .1 .1 .1 .1 .1 .0 .ptr .1) (a .1 .1 .1 .1 .1 .1 .1 .1 .0 .name) (a .1 .1 .1 .1 .1 .1 .1 .1 .0 .now) (are .0 .1) (are .1 .0 .1) (are .1 .1 .1 .0 .0 .1) (are .1 .1 .1 .1 .0 .0 .1) (are .1 .1 .1 .1 .1 .0 .0 .1) (are .1 .1 .1 .1 .1 .1 .0 .0 .1) (are .1 .1 .1 .1 .1 .1 .1 .1 .0 .0 .1) C Λ fm known))
 
-redo-meets : {M : Type 1} (𝓤 : URA M) (H : Heap 𝓤) (A : Atoms 𝓤) → Given 𝓤 H A → (mem : Memory → SProp 𝓤) (run : Routine → Fun 𝓤) (𝓣 : Tables 𝓤 H) → Triple 𝓤 (𝓣 .C #stepping·redo) (Step 𝓤 H A mem run)
+redo-meets : {M : Type 1} (𝓤 : URA M) (H : Heap 𝓤) (A : Atoms 𝓤) → Given 𝓤 H A → (mem : Memory → SProp 𝓤) (run : Routine → Fun 𝓤) (𝓣 : Tables 𝓤 H) → Triple 𝓤 (𝓣 .C #stepping_forth·redo) (Step 𝓤 H A mem run)
     → Meets 𝓤 H A f.signature (WpFn 𝓤 H (𝓣 .C) (𝓣 .Λ) code.function) (f.spec 𝓤 H A mem run)
 redo-meets 𝓤 H A W mem run 𝓣 known =
     walk-meets 𝓤 H A f.ended stayed W (goes-none 𝓤 H A W 7 (λ _. usize) yes (λ κs x f. refl), (goes-none 𝓤 H A W 7 (λ _. usize) yes (λ κs x f. refl), (goes-ref 𝓤 H A W 7 0 tt (plain (λ _. usize)), (goes-gave-slice 𝓤 H A W 7 1 tt (plain (λ _. u8)), (goes-gave-slice 𝓤 H A W 7 2 tt (plain (λ _. f64)), (goes-gave-slice 𝓤 H A W 7 3 tt (plain (λ _. i16)), (goes-none-slice 𝓤 H A W 7 (4 ∷ []) tt (plain (λ _. u8)) yes, (goes-ref 𝓤 H A W 7 5 tt (plain (λ _. Handle-T.the-row)), (goes-gave-slice 𝓤 H A W 7 6 tt (plain (λ _. u8)), tt))))))))) (f.clauses 𝓤 H A mem run)
@@ -180,4 +180,4 @@ redo-spec 𝓤 H 𝓜 𝓖 𝓡 =
     entered 𝓤 H (tripleOf 𝓤 H (𝓖 .A) f.signature (f.spec 𝓤 H (𝓖 .A) (𝓜 .mem) (𝓡 .run)))
     (tables 𝓤 H 𝓜 𝓡 code.env .C) (tables 𝓤 H 𝓜 𝓡 code.env .Λ) #lent_history·redo code.function (code.unfolded 𝓤 H 𝓜 𝓡)
     (redo-meets 𝓤 H (𝓖 .A) (givenOf 𝓤 H 𝓜 𝓖) (𝓜 .mem) (𝓡 .run) (tablesOf 𝓤 H 𝓜 (tables 𝓤 H 𝓜 𝓡 code.env))
-    (cited 𝓤 H (Step 𝓤 H (𝓖 .A) (𝓜 .mem) (𝓡 .run)) 𝓜 𝓡 code.env #stepping·redo step-def.routine code.calls-stepping·redo (step-thm.met 𝓤 H 𝓜 𝓖 𝓡)))
+    (cited 𝓤 H (Step 𝓤 H (𝓖 .A) (𝓜 .mem) (𝓡 .run)) 𝓜 𝓡 code.env #stepping_forth·redo step-def.routine code.calls-stepping-forth·redo (step-thm.met 𝓤 H 𝓜 𝓖 𝓡)))

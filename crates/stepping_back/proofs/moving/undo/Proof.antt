@@ -1,10 +1,10 @@
 -- `undo`: 1 to 4, "still", then the record. Assumes nothing.
 use mathlib.Core.Path.{_∙_}
 use Rattle.editing.proofs.Answers.{leaves-refused, leaves-still}
-use Rattle.stepping.proofs.Steps.{undo-refused, undo-still, undo-over, offset-inside, not-first}
+use Rattle.stepping_back.proofs.Answers.{undo-refused, undo-still, undo-over, offset-inside, not-first}
 use borrow.Author.Needs.{needs}
-use Rattle.stepping.proofs.moving.undo.Statement.{statement}
-use Rattle.stepping.proofs.moving.undo.Tie as tie
+use Rattle.stepping_back.proofs.moving.undo.Statement.{statement}
+use Rattle.stepping_back.proofs.moving.undo.Tie as tie
 
 move-no-requires : tie.Need-move-no-requires
 move-no-requires c κs = search needs

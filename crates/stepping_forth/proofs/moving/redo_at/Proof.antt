@@ -3,11 +3,11 @@ use mathlib.Core.Path.{sym, _∙_}
 use borrow.Author.Tests.{not-true, not-false}
 use Rattle.redoing.proofs.RedoneAt.{may-redo}
 use Rattle.editing.proofs.Answers.{leaves-refused}
-use Rattle.stepping.proofs.Forth.{forth-inside, forth-lies, forth-unsound, forth-not, forth-done}
+use Rattle.stepping_forth.proofs.Forth.{forth-inside, forth-lies, forth-unsound, forth-not, forth-done}
 use native.Mathlib.Omega.{arith}
 use borrow.Author.Needs.{needs}
-use Rattle.stepping.proofs.moving.redo_at.Statement.{statement}
-use Rattle.stepping.proofs.moving.redo_at.Tie as tie
+use Rattle.stepping_forth.proofs.moving.redo_at.Statement.{statement}
+use Rattle.stepping_forth.proofs.moving.redo_at.Tie as tie
 
 stepped-forth-requires : tie.Need-stepped-forth-requires
 stepped-forth-requires c κs = (forth-inside _ _ _ _ _ (c .before .before .before .before .pre .0) (c .before .before .before .before .pre .1 .1), c .before .before .before .before .pre .1 .0 .0)

@@ -27,7 +27,7 @@ use Rattle.ledger.specs.Journal.{State, over}
 use Rattle.ledger.proofs.Soundness.{sound-facts}
 use Rattle.editing.specs.Editing.{taken, undoneBy, editing}
 use Rattle.editing.specs.Calls.{stateOf, Standing}
-use Rattle.stepping.proofs.Steps.{over-none, over-not, over-unsound, over-done}
+use Rattle.editing.proofs.Steps.{over-none, over-not, over-unsound, over-done}
 
 module _ (st : State editing) (kind start n count : ℕ) (stands : Standing st) where
   abbrev journal : List ℕ

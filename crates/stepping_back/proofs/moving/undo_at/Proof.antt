@@ -2,10 +2,10 @@
 use mathlib.Core.Path.{sym, _∙_}
 use borrow.Author.Tests.{not-true, not-false}
 use Rattle.editing.proofs.Answers.{leaves-refused}
-use Rattle.stepping.proofs.Back.{back-inside, back-lies, back-unsound, kept-fits, kept-undoable, back-not, back-done}
+use Rattle.stepping_back.proofs.Back.{back-inside, back-lies, back-unsound, kept-fits, kept-undoable, back-not, back-done}
 use borrow.Author.Needs.{needs}
-use Rattle.stepping.proofs.moving.undo_at.Statement.{statement}
-use Rattle.stepping.proofs.moving.undo_at.Tie as tie
+use Rattle.stepping_back.proofs.moving.undo_at.Statement.{statement}
+use Rattle.stepping_back.proofs.moving.undo_at.Tie as tie
 
 stepped-back-requires : tie.Need-stepped-back-requires
 stepped-back-requires c κs = (back-inside _ _ _ _ _ (c .before .before .before .pre .0) (c .before .before .before .pre .1 .1), c .before .before .before .pre .1 .0)

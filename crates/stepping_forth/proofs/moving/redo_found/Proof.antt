@@ -1,10 +1,10 @@
 -- `redo_found`: the record that was found, or none. Assumes nothing.
 use mathlib.Core.Path.{sym, _∙_}
 use Rattle.editing.proofs.Answers.{leaves-refused}
-use Rattle.stepping.proofs.Forth.{forth-none}
+use Rattle.stepping_forth.proofs.Forth.{forth-none}
 use borrow.Author.Needs.{needs}
-use Rattle.stepping.proofs.moving.redo_found.Statement.{statement}
-use Rattle.stepping.proofs.moving.redo_found.Tie as tie
+use Rattle.stepping_forth.proofs.moving.redo_found.Statement.{statement}
+use Rattle.stepping_forth.proofs.moving.redo_found.Tie as tie
 
 enum-known-found : tie.Need-enum-known-found
 enum-known-found c = search needs

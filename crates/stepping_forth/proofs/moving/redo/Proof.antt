@@ -1,10 +1,10 @@
 -- `redo`: 1 to 4, "still", 16, then the record. Assumes nothing.
 use mathlib.Core.Path.{_∙_}
 use Rattle.editing.proofs.Answers.{leaves-refused, leaves-still}
-use Rattle.stepping.proofs.Steps.{redo-refused, redo-still, redo-scratch, redo-over, used-inside, not-last}
+use Rattle.stepping_forth.proofs.Answers.{redo-refused, redo-still, redo-scratch, redo-over, used-inside, not-last}
 use borrow.Author.Needs.{needs}
-use Rattle.stepping.proofs.moving.redo.Statement.{statement}
-use Rattle.stepping.proofs.moving.redo.Tie as tie
+use Rattle.stepping_forth.proofs.moving.redo.Statement.{statement}
+use Rattle.stepping_forth.proofs.moving.redo.Tie as tie
 
 move-no-requires : tie.Need-move-no-requires
 move-no-requires c κs = search needs
