@@ -1,4 +1,3 @@
 pub mod Sound
 pub mod Lies
-pub mod OldClaims
 pub mod LabRead

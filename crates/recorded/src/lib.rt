@@ -3,7 +3,6 @@
 mod kind;
 mod lab;
 mod list;
-mod olds;
 mod rgb;
 
 pub use kind::ADD;
@@ -12,10 +11,9 @@ pub use kind::SET;
 pub use kind::entry_at;
 pub use lab::lab_in;
 pub use lab::unfit_lab_in;
+pub use list::any_outside_in;
+pub use list::change_at;
 pub use list::paint_news_in;
 pub use list::pixels_no_in;
 pub use list::removal_no_in;
-pub use olds::any_outside_in;
-pub use olds::olds_stray;
-pub use olds::paint_olds_in;
 pub use rgb::get_rgb;

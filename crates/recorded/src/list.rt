@@ -1,6 +1,8 @@
 // A list of changes as it lies in the journal, 8 bytes a change from `at` on: the checks of its changes, and
 // its news painted. Each loop reads one change a turn.
 use limits::STILL_USED;
+use lists::either;
+use pixels::is_outside;
 use pixels::paint_new;
 use pixels::pixel_no;
 use pixels::place_of;
@@ -16,18 +18,32 @@ ghost use lib.ListN.{length};
 ghost use Rattle.limits.specs.Numbers.{stillUsed};
 ghost use Rattle.limits.specs.Checks.{_when_, firstOf};
 ghost use Rattle.lists.specs.Lists.{some};
-ghost use Rattle.edits.specs.Change.{painted, newOf};
+ghost use Rattle.edits.specs.Change.{outside, painted, newOf};
 ghost use Rattle.edits.specs.Checks.{pixelChecks, remapChecks, leftFrom};
 ghost use Rattle.pixels.specs.Inside.{bare, past, Marks};
 ghost use Rattle.records.specs.Bytes.{leAt};
 ghost use Rattle.records.specs.Record.{changesIn};
 
 // Change i of the list.
-pub(crate) fn change_at(journal: &[u8], at: usize, i: usize) -> u64
+pub fn change_at(journal: &[u8], at: usize, i: usize) -> u64
     requires { ⌜ at + 8 * i + 8 ≤ length (now journal) ⌝ }
     ensures { λ r. ⌜ r ≡ leAt 8 (now (journal .entry)) (at + 8 * i) ⌝ }
 {
     get_u64(journal, at + 8 * i)
+}
+
+// Whether some change is off a sheet of w by h.
+pub fn any_outside_in(w: usize, h: usize, journal: &[u8], at: usize, n: usize) -> bool
+    requires { ⌜ at + 8 * n ≤ length (now journal) ⌝ }
+    ensures { λ r. ⌜ r ≡ some (outside w h) (changesIn (now (journal .entry)) at n) ⌝ }
+{
+    let mut bad = false;
+    let mut i: usize = 0;
+    while i < n {
+        bad = either(bad, is_outside(w, h, change_at(journal, at, i)));
+        i += 1;
+    }
+    bad
 }
 
 // The number of the first of 5 and 6 that applies to a list of n changes, or 0.

@@ -27,8 +27,8 @@ use Rattle.edits.proofs.Storage.{opened-shows}
 use Rattle.edits.proofs.Entries.{palette-store, lab-store, set-length, set-shows, reinsert-length}
 use Rattle.edits.proofs.Fits.{more-in-range}
 use Rattle.recorded.specs.Sound.{undoable}
+use Rattle.olds.proofs.Fresh.{painted-alike}
 use Rattle.undoing.specs.UndoTests.{pixelsBack, setBack, removeBack}
-use Rattle.recorded.proofs.OldFresh.{painted-alike}
 
 -- ---- the sheet that is left, by 1 to 3
 sound : (t : Sheet) → Limits t → (a b : Bool) → some (stray (t .k)) (t .indices) ≡ a → some unfit (take (3 * t .k) (t .lab)) ≡ b

@@ -1,9 +1,9 @@
 -- `claim_place`: what is read there is claimed, and its claim tested. Assumes nothing.
 use borrow.Author.Needs.{needs}
-use Rattle.recorded.specs.OldClaims.{claimOf}
-use Rattle.recorded.proofs.OldSigned.{stored-at, judged-at}
-use Rattle.recorded.proofs.olds.claim_place.Statement.{statement}
-use Rattle.recorded.proofs.olds.claim_place.Tie as tie
+use Rattle.olds.specs.Claims.{claimOf}
+use Rattle.olds.proofs.Signed.{stored-at, judged-at}
+use Rattle.olds.proofs.olds.claim_place.Statement.{statement}
+use Rattle.olds.proofs.olds.claim_place.Tie as tie
 
 place-of-requires : tie.Need-place-of-requires
 place-of-requires c κs = search needs

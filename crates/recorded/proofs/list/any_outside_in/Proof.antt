@@ -5,8 +5,8 @@ use Prim.Native.Nat.{_-_}
 use Rattle.lists.proofs.Scan.{Flagged}
 use Rattle.edits.specs.Change.{unpacked, outside}
 use Rattle.recorded.proofs.Numbers.{numbersIn, flag-next-in, flag-all-in}
-use Rattle.recorded.proofs.olds.any_outside_in.Statement.{statement}
-use Rattle.recorded.proofs.olds.any_outside_in.Tie as tie
+use Rattle.recorded.proofs.list.any_outside_in.Statement.{statement}
+use Rattle.recorded.proofs.list.any_outside_in.Tie as tie
 
 abbrev Inv-loop : tie.InvT-loop
 Inv-loop w h journal at n bad₀ i₀ bad i = Flagged (λ v. outside w h (unpacked v)) (numbersIn journal at n) i bad

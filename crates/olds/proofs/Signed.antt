@@ -14,7 +14,7 @@ use mir.Val.{toZ, ofZ, hbits, SFits}
 use mir.Facts.{toZ-ofZ}
 use Rattle.ints.proofs.Back.{back, by-value, by-result, never}
 use Rattle.sheet.specs.Sheet.{stray}
-use Rattle.recorded.specs.OldClaims.{claimed, claimOf, releaseOf}
+use Rattle.olds.specs.Claims.{claimed, claimOf, releaseOf}
 
 -- the difference of two naturals
 mag-by : (a b : ℕ) (t : Bool) → ltb a b ≡ t → a < 32768 → b ≤ 32768 → mag (cond t (negsuc (b - suc a)) (pos (a - b))) < 32768

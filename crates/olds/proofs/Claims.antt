@@ -18,8 +18,8 @@ use Rattle.sheet.specs.Sheet.{stray}
 use Rattle.sheet.proofs.Strays.{stray-more}
 use Rattle.edits.specs.Change.{Change, unpacked, place, painted, oldOf}
 use Rattle.edits.specs.Checks.{named}
-use Rattle.recorded.specs.OldClaims.{claimed, claimOf, releaseOf, Claims}
-use Rattle.recorded.proofs.OldFresh.{painted-fresh}
+use Rattle.olds.specs.Claims.{claimed, claimOf, releaseOf, Claims}
+use Rattle.olds.proofs.Fresh.{painted-fresh}
 
 -- ---- one index of a picture
 free : (z : ℤ) → stray 256 z ≡ false → claimed z ≡ false

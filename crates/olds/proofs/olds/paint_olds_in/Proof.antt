@@ -4,9 +4,9 @@ use borrow.Author.Needs.{needs}
 use lib.ListN.{length}
 use Rattle.edits.specs.Change.{oldOf}
 use Rattle.pixels.proofs.Painting.{Painting, painting-none}
 use Rattle.recorded.proofs.Numbers.{numbersIn, inside-in, painting-next-in, painting-all-in}
-use Rattle.recorded.proofs.olds.paint_olds_in.Statement.{statement}
-use Rattle.recorded.proofs.olds.paint_olds_in.Tie as tie
+use Rattle.olds.proofs.olds.paint_olds_in.Statement.{statement}
+use Rattle.olds.proofs.olds.paint_olds_in.Tie as tie
 
 abbrev Inv-loop : tie.InvT-loop
 Inv-loop indices₀ w journal at n i₀ indices i = Painting oldOf w (numbersIn journal at n) indices₀ i indices

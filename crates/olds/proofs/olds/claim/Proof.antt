@@ -1,7 +1,7 @@
 -- `claim`: by the test. Assumes nothing.
-use Rattle.recorded.proofs.OldSigned.{add-fits, claim-is, claim-kept}
-use Rattle.recorded.proofs.olds.claim.Statement.{statement}
-use Rattle.recorded.proofs.olds.claim.Tie as tie
+use Rattle.olds.proofs.Signed.{add-fits, claim-is, claim-kept}
+use Rattle.olds.proofs.olds.claim.Statement.{statement}
+use Rattle.olds.proofs.olds.claim.Tie as tie
 
 add-result : tie.Need-add-result
 add-result c = add-fits (c .before .fits .z) (c .if1 .left)

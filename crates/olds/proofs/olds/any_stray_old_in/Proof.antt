@@ -7,9 +7,9 @@ use Rattle.ints.proofs.Back.{by-result}
 use Rattle.lists.proofs.Scan.{Flagged}
 use Rattle.sheet.specs.Sheet.{stray}
 use Rattle.edits.specs.Change.{unpacked, oldOf}
 use Rattle.recorded.proofs.Numbers.{numbersIn, flag-next-in, flag-all-in}
-use Rattle.recorded.proofs.olds.any_stray_old_in.Statement.{statement}
-use Rattle.recorded.proofs.olds.any_stray_old_in.Tie as tie
+use Rattle.olds.proofs.olds.any_stray_old_in.Statement.{statement}
+use Rattle.olds.proofs.olds.any_stray_old_in.Tie as tie
 
 abbrev Inv-loop : tie.InvT-loop
 Inv-loop k journal at n bad₀ i₀ bad i = Flagged (λ v. stray k (oldOf (unpacked v))) (numbersIn journal at n) i bad

@@ -5,8 +5,8 @@ use borrow.Author.Tests.{not-true}
 use Rattle.edits.specs.Change.{oldOf}
 use Rattle.sheet.specs.Sheet.{stray}
 use Rattle.edits.proofs.Painting.{painted-nowhere}
-use Rattle.recorded.proofs.olds.olds_stray.Statement.{statement}
-use Rattle.recorded.proofs.olds.olds_stray.Tie as tie
+use Rattle.olds.proofs.olds.olds_stray.Statement.{statement}
+use Rattle.olds.proofs.olds.olds_stray.Tie as tie
 
 any-stray-old-in-requires : tie.Need-any-stray-old-in-requires
 any-stray-old-in-requires c κs = search needs

@@ -1,9 +1,9 @@
 -- `release_place`: what is read there is released. Assumes nothing.
 use borrow.Author.Needs.{needs}
-use Rattle.recorded.specs.OldClaims.{releaseOf}
-use Rattle.recorded.proofs.OldSigned.{stored-at}
-use Rattle.recorded.proofs.olds.release_place.Statement.{statement}
-use Rattle.recorded.proofs.olds.release_place.Tie as tie
+use Rattle.olds.specs.Claims.{releaseOf}
+use Rattle.olds.proofs.Signed.{stored-at}
+use Rattle.olds.proofs.olds.release_place.Statement.{statement}
+use Rattle.olds.proofs.olds.release_place.Tie as tie
 
 place-of-requires : tie.Need-place-of-requires
 place-of-requires c κs = search needs

@@ -4,10 +4,11 @@ use Prim.Native.Nat.{_-_, _<_, _≤_}
 use native.Mathlib.Omega.{arith}
 use lib.ListN.{length}
 use Rattle.edits.specs.Change.{unpacked, place}
-use Rattle.recorded.proofs.Numbers.{numbersIn, length-numbers, inside-in, claiming-next-in, claiming-all-in}
-use Rattle.recorded.proofs.OldClaims.{Claiming, claiming-none}
-use Rattle.recorded.proofs.olds.claim_places.Statement.{statement}
-use Rattle.recorded.proofs.olds.claim_places.Tie as tie
+use Rattle.recorded.proofs.Numbers.{numbersIn, length-numbers, inside-in}
+use Rattle.olds.proofs.Places.{claiming-next-in, claiming-all-in}
+use Rattle.olds.proofs.Claims.{Claiming, claiming-none}
+use Rattle.olds.proofs.olds.claim_places.Statement.{statement}
+use Rattle.olds.proofs.olds.claim_places.Tie as tie
 
 abbrev Inv-loop : tie.InvT-loop
 Inv-loop indices₀ w k journal at n bad₀ i₀ indices bad i = Claiming w k (numbersIn journal at n) indices₀ i indices bad

@@ -1,7 +1,7 @@
 -- `release`: by the test. Assumes nothing.
-use Rattle.recorded.proofs.OldSigned.{sub-fits, release-is, release-kept}
-use Rattle.recorded.proofs.olds.release.Statement.{statement}
-use Rattle.recorded.proofs.olds.release.Tie as tie
+use Rattle.olds.proofs.Signed.{sub-fits, release-is, release-kept}
+use Rattle.olds.proofs.olds.release.Statement.{statement}
+use Rattle.olds.proofs.olds.release.Tie as tie
 
 sub-result : tie.Need-sub-result
 sub-result c = sub-fits (c .before .fits .z) (c .if1 .taken)

@@ -1,7 +1,7 @@
 -- `is_claimed`: the test is the definition. Assumes nothing.
-use Rattle.recorded.proofs.OldSigned.{claimed-read}
-use Rattle.recorded.proofs.olds.is_claimed.Statement.{statement}
-use Rattle.recorded.proofs.olds.is_claimed.Tie as tie
+use Rattle.olds.proofs.Signed.{claimed-read}
+use Rattle.olds.proofs.olds.is_claimed.Statement.{statement}
+use Rattle.olds.proofs.olds.is_claimed.Tie as tie
 
 returns : tie.Need-returns
 returns c = claimed-read (c .fits .z)

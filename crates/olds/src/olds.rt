@@ -1,13 +1,11 @@
-// The changes of a record, read from its bytes: those that are off the sheet, and their olds, judged and
-// painted.
-use crate::list::change_at;
+// The olds of a record's changes, read from its bytes, judged and painted.
 use lists::either;
 use pixels::both;
-use pixels::is_outside;
 use pixels::is_stray;
 use pixels::old_of;
 use pixels::paint_old;
 use pixels::place_of;
+use recorded::change_at;
 ghost use mathlib.Core.Path.{_≡_};
 ghost use mathlib.Core.Bool.{false, not, _&&_};
 ghost use mathlib.Core.List.{List};
@@ -16,24 +14,10 @@ ghost use lib.IntN.{ℤ, pos};
 ghost use lib.ListN.{length, getD, set};
 ghost use Rattle.lists.specs.Lists.{some};
 ghost use Rattle.sheet.specs.Sheet.{stray};
-ghost use Rattle.edits.specs.Change.{unpacked, place, outside, painted, oldOf};
+ghost use Rattle.edits.specs.Change.{unpacked, place, painted, oldOf};
 ghost use Rattle.pixels.specs.Inside.{past};
 ghost use Rattle.records.specs.Record.{changesIn};
-ghost use Rattle.recorded.specs.OldClaims.{claimed, claimOf, releaseOf, Claims};
-
-// Whether some change is off a sheet of w by h.
-pub fn any_outside_in(w: usize, h: usize, journal: &[u8], at: usize, n: usize) -> bool
-    requires { ⌜ at + 8 * n ≤ length (now journal) ⌝ }
-    ensures { λ r. ⌜ r ≡ some (outside w h) (changesIn (now (journal .entry)) at n) ⌝ }
-{
-    let mut bad = false;
-    let mut i: usize = 0;
-    while i < n {
-        bad = either(bad, is_outside(w, h, change_at(journal, at, i)));
-        i += 1;
-    }
-    bad
-}
+ghost use Rattle.olds.specs.Claims.{claimed, claimOf, releaseOf, Claims};
 
 // Whether some old lies outside -1..k-1.
 fn any_stray_old_in(k: usize, journal: &[u8], at: usize, n: usize) -> bool

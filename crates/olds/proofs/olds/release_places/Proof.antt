@@ -3,10 +3,11 @@ use borrow.Author.Needs.{needs}
 use Prim.Native.Nat.{_-_, _<_}
 use lib.ListN.{length}
 use Rattle.edits.specs.Change.{unpacked, place}
-use Rattle.recorded.proofs.Numbers.{numbersIn, inside-in, releasing-next-in, releasing-all-in}
-use Rattle.recorded.proofs.OldClaims.{Releasing, releasing-none}
-use Rattle.recorded.proofs.olds.release_places.Statement.{statement}
-use Rattle.recorded.proofs.olds.release_places.Tie as tie
+use Rattle.recorded.proofs.Numbers.{numbersIn, inside-in}
+use Rattle.olds.proofs.Places.{releasing-next-in, releasing-all-in}
+use Rattle.olds.proofs.Claims.{Releasing, releasing-none}
+use Rattle.olds.proofs.olds.release_places.Statement.{statement}
+use Rattle.olds.proofs.olds.release_places.Tie as tie
 
 abbrev Inv-loop : tie.InvT-loop
 Inv-loop indices₀ w journal at n i₀ indices i = Releasing w (numbersIn journal at n) indices₀ i indices

@@ -1,0 +1,5 @@
+pub mod Fresh
+pub mod Examples
+pub mod Claims
+pub mod Signed
+pub mod Places
