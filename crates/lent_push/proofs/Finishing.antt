@@ -12,7 +12,7 @@ use Rattle.sheet.specs.Sheet.{Sheet, sheetOf}
 use Rattle.edits.specs.declared.Edit.{Edit}
 use Rattle.edits.specs.Apply.{filledEdit, redone}
 use Rattle.records.specs.Record.{recordLength}
-use Rattle.writing.specs.Frame.{around, Framed}
+use Rattle.framing.specs.Frame.{around, Framed}
 use Rattle.ledger.specs.declared.Handle.{Handle}
 use Rattle.ledger.specs.Handle.{afterPush}
 use Rattle.ledger.specs.Journal.{State}

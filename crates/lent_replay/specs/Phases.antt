@@ -21,7 +21,7 @@ use Rattle.edits.specs.Apply.{noPixels, filledEdit, redone}
 use Rattle.apart.specs.Apart.{headChecks, ClearFor, Finishable}
 use Rattle.apply.specs.Redoable.{EntryIn}
 use Rattle.records.specs.Record.{recordLength}
-use Rattle.writing.specs.Frame.{around, Framed}
+use Rattle.framing.specs.Frame.{around, Framed}
 use Rattle.ledger.specs.declared.Handle.{Handle}
 use Rattle.ledger.specs.Handle.{afterPush}
 use Rattle.ledger.specs.Calls.{Outcome, done, still, refused}

@@ -5,4 +5,3 @@ pub mod Filled
 pub mod OnTheSheet
 pub mod Putting
 pub mod Written
-pub mod Framing

@@ -1,11 +1,12 @@
 // An edit's record written into the part of the journal that starts at the standing offset.
 //
 // specs/Fit.antt says what a record can hold; proofs/ReadAgain that what was written is read, from both ends.
-mod around;
 mod write;
 
-pub use around::write_around;
 pub use write::put_change;
+pub use write::put_kind;
+pub use write::put_lab;
+pub use write::put_rgb;
 pub use write::write_add;
 pub use write::write_pixels;
 pub use write::write_record;

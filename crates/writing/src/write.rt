@@ -22,7 +22,7 @@ ghost use Rattle.records.specs.Record.{changeBytes, labBytes, recordLength, rec
 ghost use Rattle.writing.specs.Fit.{Numbers, Writable, rowsOf};
 
 // Writes two bytes at the front: the kind, and the tool or the index.
-pub(crate) fn put_kind(part: &mut [u8], kind: u8, second: u8)
+pub fn put_kind(part: &mut [u8], kind: u8, second: u8)
     requires { ⌜ 2 ≤ length (now part) ⌝ }
     ensures { λ _. ⌜ now (part .exit) ≡ over (kind ∷ second ∷ []) (now (part .entry)) ⌝ }
 {
@@ -30,7 +30,8 @@ pub(crate) fn put_kind(part: &mut [u8], kind: u8, second: u8)
     part[1] = second;
 }
 
-pub(crate) fn put_rgb(part: &mut [u8], at: usize, c: Rgb)
+// Writes the three bytes of a colour from `at` on.
+pub fn put_rgb(part: &mut [u8], at: usize, c: Rgb)
     requires { ⌜ at + 3 ≤ length (now part) ⌝ }
     ensures { λ _. ⌜ now (part .exit) ≡ splice (now (part .entry)) at (bytesOf c) ⌝ }
 {
@@ -39,7 +40,8 @@ pub(crate) fn put_rgb(part: &mut [u8], at: usize, c: Rgb)
     part[at + 2] = c.b;
 }
 
-pub(crate) fn put_lab(part: &mut [u8], at: usize, x: Lab)
+// Writes the three doubles of a LAB from `at` on.
+pub fn put_lab(part: &mut [u8], at: usize, x: Lab)
     requires { ⌜ at + 24 ≤ length (now part) ⌝ }
     requires { ⌜ Numbers x ⌝ }
     ensures { λ _. ⌜ now (part .exit) ≡ splice (now (part .entry)) at (labBytes x) ⌝ }

@@ -1,21 +1,21 @@
 // A record around its changes, whose bytes stand in it already: kind, count and whole length, written to the
 // front of a part of the journal.
-use crate::write::put_kind;
-use crate::write::put_lab;
-use crate::write::put_rgb;
-use crate::write::write_add;
-use crate::write::write_set;
 use edits::Edit;
 use limits::Lab;
 use limits::Rgb;
 use records::put_u32;
+use writing::put_kind;
+use writing::put_lab;
+use writing::put_rgb;
+use writing::write_add;
+use writing::write_set;
 ghost use mathlib.Core.Path.{_≡_};
 ghost use Prim.Native.Nat.{_+_, _*_, _≤_, _<_};
 ghost use lib.ListN.{length};
 ghost use Rattle.edits.specs.declared.Edit.the-variants.{Pixels, PaletteRemove};
 ghost use Rattle.records.specs.Record.{recordLength};
 ghost use Rattle.writing.specs.Fit.{Numbers};
-ghost use Rattle.writing.specs.Frame.{around, Framed};
+ghost use Rattle.framing.specs.Frame.{around, Framed};
 
 // "1 pixels: tool 1, count 4", the changes left out.
 fn around_pixels(part: &mut [u8], tool: u8, n: usize)

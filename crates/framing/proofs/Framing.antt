@@ -14,10 +14,10 @@ use Rattle.edits.specs.Change.{Change}
 use Rattle.edits.specs.Storage.{bytesOf}
 use Rattle.records.specs.Bytes.{le, splice}
 use Rattle.records.specs.Record.{changeBytes, labBytes, listBytes, bodyOf, recordLength, recordOf}
-use Rattle.writing.specs.Frame.{within, around}
+use Rattle.framing.specs.Frame.{within, around}
 use Rattle.records.proofs.LittleEndian.{length-le}
 use Rattle.writing.proofs.Changes.{length-changes}
 use Rattle.writing.proofs.Lengths.{length-lab}
 use Rattle.records.proofs.Splice.{over-then}
 
 module _ {A : Type 0} where

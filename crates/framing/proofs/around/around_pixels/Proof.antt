@@ -1,8 +1,8 @@
 -- `around_pixels`: kind and tool, count and length. Assumes nothing.
-use Rattle.writing.proofs.Framing.{pixels-around}
+use Rattle.framing.proofs.Framing.{pixels-around}
 use borrow.Author.Needs.{needs}
-use Rattle.writing.proofs.around.around_pixels.Statement.{statement}
-use Rattle.writing.proofs.around.around_pixels.Tie as tie
+use Rattle.framing.proofs.around.around_pixels.Statement.{statement}
+use Rattle.framing.proofs.around.around_pixels.Tie as tie
 
 put-kind-requires : tie.Need-put-kind-requires
 put-kind-requires c κs = search needs

@@ -1,9 +1,9 @@
 -- `write_around`: by kinds. Assumes nothing.
 use Rattle.records.specs.Record.{recordLength}
-use Rattle.writing.specs.Frame.{around, Framed}
+use Rattle.framing.specs.Frame.{around, Framed}
 use borrow.Author.Needs.{needs}
-use Rattle.writing.proofs.around.write_around.Statement.{statement}
-use Rattle.writing.proofs.around.write_around.Tie as tie
+use Rattle.framing.proofs.around.write_around.Statement.{statement}
+use Rattle.framing.proofs.around.write_around.Tie as tie
 
 enum-known-edit : tie.Need-enum-known-edit
 enum-known-edit c = search needs

@@ -1,8 +1,8 @@
 -- `around_remove`: kind and index, colour, LAB, count and length. Assumes nothing.
-use Rattle.writing.proofs.Framing.{remove-around}
+use Rattle.framing.proofs.Framing.{remove-around}
 use borrow.Author.Needs.{needs}
-use Rattle.writing.proofs.around.around_remove.Statement.{statement}
-use Rattle.writing.proofs.around.around_remove.Tie as tie
+use Rattle.framing.proofs.around.around_remove.Statement.{statement}
+use Rattle.framing.proofs.around.around_remove.Tie as tie
 
 cast-put-kind : tie.Need-cast-put-kind
 cast-put-kind c = search needs
