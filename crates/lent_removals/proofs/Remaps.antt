@@ -20,7 +20,7 @@ use Rattle.pixels.proofs.Places.{places-few}
 use Rattle.removals.specs.declared.Removal.{Removal}
 use Rattle.removals.specs.declared.Removal.the-variants as removal
 use Rattle.entries.specs.Unfilled.{noLab}
-use Rattle.removals.specs.Nearest.{otherChecks, nearestOther}
+use Rattle.others.specs.Nearest.{otherChecks, nearestOther}
 use Rattle.removals.specs.Removal.{remapOf, Remapped, remapped, removeTo, removeEntryOf, mergeChecks, mergeEntriesOf}
 use Rattle.removals.proofs.Answers.{remap-length, remove-refused, remove-past, remove-short, remove-done}
 use Rattle.lent_removals.specs.Scratch.{removalCount, noRemoval, needingRemap}

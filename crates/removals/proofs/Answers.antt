@@ -10,7 +10,7 @@ use lib.ListN.{length, length-map}
 use Rattle.limits.specs.Checks.{Check, firstOf, refusedOr}
 use Rattle.limits.specs.declared.Rgb.{Rgb}
 use Rattle.limits.specs.declared.Lab.{Lab}
-use Rattle.limits.proofs.First.{no-zero, first-past, first-here, refused-first, result-first}
+use Rattle.limits.proofs.First.{first-past, first-here, refused-first, result-first}
 use Rattle.lists.specs.Lists.{over}
 use Rattle.color.specs.declared.Found.the-variants as found
 use Rattle.sheet.specs.Sheet.{Sheet}
@@ -21,29 +21,13 @@ use Rattle.edits.specs.declared.Edit.the-variants.{PaletteRemove}
 use Rattle.edits.specs.Change.{packed}
 use Rattle.pixels.specs.Listing.{placesFrom}
 use Rattle.entries.specs.Unfilled.{noLab}
+use Rattle.others.specs.Nearest.{otherChecks, Removable, Nearest}
 use Rattle.removals.specs.declared.Removal.the-variants as removal
-use Rattle.removals.specs.Nearest.{otherChecks, Removable, Nearest, nearestOtherOf, NearestOther}
+use Rattle.removals.specs.Nearest.{nearestOtherOf, NearestOther}
 use Rattle.removals.specs.Removal.{moved, remapOf, remapped, removeTo, mergeChecks}
 
--- ---- 7 and 9
+-- ---- `nearest_other`
 module _ (s : Sheet) (i : ℕ) where
-  pub other-refused : (n : ℕ) → Judged s n → (n ≡ 0 → ⊥) → Removable s i n
-  unfolding otherChecks
-  other-refused n j h = record { value = first-here (sheetChecks [] s) _ n (j .value) h; fine = λ e. absurd (h e) }
-
-  pub other-none : WellFormed s → s .k ≤ i → Removable s i 7
-  unfolding otherChecks firstOf
-  other-none f h = record { value = rw (past-sheet s f, le-leb _ _ h); fine = λ e. absurd (no-zero (omega arith) e) }
-
-  pub other-last : WellFormed s → i < s .k → s .k < 2 → Removable s i 9
-  unfolding otherChecks firstOf
-  other-last f h l = record { value = rw (past-sheet s f, lt-leb _ _ h, lt-ltb _ _ l); fine = λ e. absurd (no-zero (omega arith) e) }
-
-  pub other-fine : WellFormed s → i < s .k → 2 ≤ s .k → Removable s i 0
-  unfolding otherChecks firstOf
-  other-fine f h l = record { value = rw (past-sheet s f, lt-leb _ _ h, le-ltb _ _ l); fine = λ _. record { formed = f; entry = h; more = l } }
-
-  -- ---- `nearest_other`
   never : {n j : ℕ} → found.Refused n ≡ found.Entry j → ⊥
   never h = let z : _≡_ {A = ℕ} 0 1 = cc in omega arith
 

@@ -15,9 +15,9 @@ use Rattle.edits.specs.declared.Edit.the-variants.{PaletteRemove}
 use Rattle.edits.specs.Change.{Change, packed}
 use Rattle.pixels.specs.Listing.{placesFrom}
 use Rattle.entries.specs.Unfilled.{noLab}
+use Rattle.others.specs.Nearest.{otherChecks, nearestOther}
 use Rattle.removals.specs.declared.Removal.{Removal}
 use Rattle.removals.specs.declared.Removal.the-variants as removal
-use Rattle.removals.specs.Nearest.{otherChecks, nearestOther}
 
 -- ---- "`remove_to` lists the entry's pixels in row order"
 -- the change of the pixel at a place, on a sheet of width w

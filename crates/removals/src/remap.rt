@@ -1,12 +1,12 @@
 // Entries that leave the palette, with the changes that move their pixels: `remove_entry` and
 // `merge_entries`. The changes are counted before the first is written.
 use crate::Removal;
-use crate::nearest::nearest_but;
-use crate::nearest::other_no;
 use edits::Edit;
 use entries::no_lab;
 use limits::BAD_MERGE;
 use limits::NO_SPACE;
+use others::nearest_but;
+use others::other_no;
 use pixels::change_of;
 use pixels::count_on;
 use pixels::list_row;

@@ -5,9 +5,9 @@ use Prim.Native.Nat.{_*_}
 use native.Mathlib.Omega.{arith}
 use borrow.Author.Needs.{needs}
 use lib.Seq.{length-take-le}
-use Rattle.removals.proofs.Others.{near, near-is, sum-within, is-within, nearest-from, nearest-before}
-use Rattle.removals.proofs.nearest.nearest_but.Statement.{statement}
-use Rattle.removals.proofs.nearest.nearest_but.Tie as tie
+use Rattle.others.proofs.Others.{near, near-is, sum-within, is-within, nearest-from, nearest-before}
+use Rattle.others.proofs.nearest.nearest_but.Statement.{statement}
+use Rattle.others.proofs.nearest.nearest_but.Tie as tie
 
 lab-at-requires : tie.Need-lab-at-requires
 lab-at-requires c κs = search needs

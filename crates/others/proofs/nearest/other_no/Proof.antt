@@ -2,9 +2,9 @@
 use borrow.Author.Needs.{needs}
 use Rattle.sheet.specs.Sheet.{sheetOf}
 use Rattle.sheet.specs.Checks.{WellFormed}
-use Rattle.removals.proofs.Answers.{other-refused, other-none, other-last, other-fine}
-use Rattle.removals.proofs.nearest.other_no.Statement.{statement}
-use Rattle.removals.proofs.nearest.other_no.Tie as tie
+use Rattle.others.proofs.Answers.{other-refused, other-none, other-last, other-fine}
+use Rattle.others.proofs.nearest.other_no.Statement.{statement}
+use Rattle.others.proofs.nearest.other_no.Tie as tie
 
 check-requires : tie.Need-check-requires
 check-requires c κs = search needs

@@ -22,7 +22,7 @@ use Rattle.distances.proofs.FirstNearest.{first-nearest}
 use Rattle.distances.proofs.Parts.{parts, nearest-within}
 use Rattle.edits.specs.Storage.{cut}
 use Rattle.edits.proofs.Storage.{cut-length, cut-nowhere}
-use Rattle.removals.specs.Nearest.{nearestOther, FirstOther, Nearest}
+use Rattle.others.specs.Nearest.{nearestOther, FirstOther, Nearest}
 
 -- ---- a list without the three numbers at `at`
 module _ {A : Type 0} (at : ℕ) (l : List A) (d : A) (h : at ≤ length l) where
