@@ -4,7 +4,6 @@ use borrow.Author.Tests.{not-true, not-false}
 use Rattle.redoing.proofs.RedoneAt.{may-redo}
 use Rattle.editing.proofs.Answers.{leaves-refused}
 use Rattle.stepping_forth.proofs.Forth.{forth-inside, forth-lies, forth-unsound, forth-not, forth-done}
-use native.Mathlib.Omega.{arith}
 use borrow.Author.Needs.{needs}
 use Rattle.stepping_forth.proofs.moving.redo_at.Statement.{statement}
 use Rattle.stepping_forth.proofs.moving.redo_at.Tie as tie
