@@ -1,6 +1,6 @@
 -- Document 01's "Program `panel`": what a line does, and what it prints. Definitions only. Assumes nothing.
 --
--- A state after the opening is one of demand 3 (history/specs/Demand3.antt), and a frame asks for a call of demand 3: `step editing` (ledger/specs/Journal.antt)
+-- A state after the opening is one of demand 3 (editing/specs/Demand3.antt), and a frame asks for a call of demand 3: `step editing` (ledger/specs/Journal.antt)
 -- answers it.
 use Prim.Native.Nat.{ℕ}
 use mathlib.Core.Bool.{false, cond}

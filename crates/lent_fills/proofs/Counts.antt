@@ -16,6 +16,7 @@ use Rattle.limits.specs.declared.Counted.{Counted}
 use Rattle.limits.specs.declared.Counted.the-variants as counted
 use Rattle.limits.proofs.First.{first-past, first-here, refused-first, past-both}
 use Rattle.lists.specs.Lists.{over, kept}
+use Rattle.lists.proofs.Kept.{kept-few}
 use Rattle.ints.specs.Ints.{eqZ, far}
 use Rattle.selection.specs.declared.Selection.{Selection}
 use Rattle.selection.specs.declared.Area.{Area}
@@ -97,15 +98,6 @@ module _ (checks : List Check) (cs : List Change) {call : List ℕ → Filled �
       (λ out after j p. rw (le-ltb room pixels h, is) p)
 
 -- ---- no more changes than pixels
-kept-few : {A : Type 0} (p : A → Bool) (l : List A) → length (kept p l) ≤ length l
-unfolding kept
-kept-few p [] = omega arith
-kept-few p (x ∷ l) = go (p x) (kept-few p l)
-  where
-    go : (b : Bool) → length (kept p l) ≤ length l → length (cond b (x ∷ kept p l) (kept p l)) ≤ length (x ∷ l)
-    go true k = omega arith
-    go false k = omega arith
-
 replaced-few : (w : ℕ) (l : List ℤ) (region : Selection) (from to : ℤ) → length (replaced w l region from to) ≤ region .w * region .h
 unfolding replaced
 replaced-few w l region from to = go (eqZ from to)

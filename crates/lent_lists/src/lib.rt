@@ -2,7 +2,7 @@
 // and to fill. Each call is thin over the call of the same name in `tools`, and its contract is that call's own
 // definition at the numbers that the structs stand for.
 //
-// Two buffers of numbers are lent as scratch; what they hold after a call is free.
+// Two buffers of numbers are lent as scratch, three to `extend`; what they hold after a call is free.
 mod op;
 
 pub use lent_strokes::extend;

@@ -1,4 +1,4 @@
--- The calls that the lines of a session ask for, so that demand 3 (history/specs/Demand3.antt) speaks of the program's states. Proved: proofs/Played.antt,
+-- The calls that the lines of a session ask for, so that demand 3 (editing/specs/Demand3.antt) speaks of the program's states. Proved: proofs/Played.antt,
 -- `session-played`. Definitions only. Assumes nothing.
 use Prim.Native.Nat.{ℕ}
 use mathlib.Core.List.{List, [], _∷_, _++_, map}

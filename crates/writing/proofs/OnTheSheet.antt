@@ -1,5 +1,5 @@
 -- What a caller with a whole sheet needs of the writers: what they fill in is `filledChanges` of the sheet. (That changes which number 5 does not refuse
--- lie among the indices is `none-past` of apply.) Assumes nothing.
+-- lie among the indices is `none-past` of pixels.) Assumes nothing.
 use mathlib.Core.Path.{_≡_, refl}
 use mathlib.Core.List.{List}
 use Rattle.sheet.specs.Sheet.{Sheet}

@@ -8,7 +8,5 @@ pub use write::put_kind;
 pub use write::put_lab;
 pub use write::put_rgb;
 pub use write::write_add;
-pub use write::write_pixels;
 pub use write::write_record;
-pub use write::write_remove;
 pub use write::write_set;

@@ -85,7 +85,7 @@ fn put_filled(part: &mut [u8], at: usize, list: &[u64], indices: &[i16], w: usiz
 }
 
 // "1 pixels: tool 1, count 4, changes of 8": the olds are the sheet's indices before anything is painted.
-pub fn write_pixels(part: &mut [u8], tool: u8, list: &[u64], indices: &[i16], w: usize)
+fn write_pixels(part: &mut [u8], tool: u8, list: &[u64], indices: &[i16], w: usize)
     requires { ⌜ 10 + 8 * length (now list) ≤ length (now part) ⌝ }
     requires { ⌜ 10 + 8 * length (now list) < 4294967296 ⌝ }
     requires { ⌜ some (past w (length (now indices))) (map unpacked (now list)) ≡ false ⌝ }
@@ -123,7 +123,7 @@ pub fn write_add(part: &mut [u8], c: Rgb)
 }
 
 // "4 remove: index 1, colour 3, LAB 24, count 4, changes".
-pub fn write_remove(part: &mut [u8], index: usize, c: Rgb, lab: Lab, list: &[u64])
+fn write_remove(part: &mut [u8], index: usize, c: Rgb, lab: Lab, list: &[u64])
     requires { ⌜ 37 + 8 * length (now list) ≤ length (now part) ⌝ }
     requires { ⌜ 37 + 8 * length (now list) < 4294967296 ⌝ }
     requires { ⌜ index < 256 ⌝ }
