@@ -1,4 +1,4 @@
 // `push` as makers hold it: the handle and the palette count are lent, and a list of changes is a slice of structs, read where it lies.
-mod pushing;
+mod recording;
 
-pub use pushing::push;
+pub use recording::push;

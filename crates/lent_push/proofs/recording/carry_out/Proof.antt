@@ -72,14 +72,14 @@ use Rattle.change_lists.proofs.paint_list as Painting-f
 use Rattle.change_lists.proofs.paint_list.Symbol as Painting-def
 use Rattle.change_lists.proofs.paint_list.Symbol.{name as #change_lists·paint-list}
 use Rattle.change_lists.proofs.paint_list.Met as Painting-thm
-use Rattle.lent_push.proofs.pushing.finish as Finishing-f
-use Rattle.lent_push.proofs.pushing.finish.Symbol as Finishing-def
-use Rattle.lent_push.proofs.pushing.finish.Symbol.{name as #lent_push·pushing·finish}
-use Rattle.lent_push.proofs.pushing.finish.Met as Finishing-thm
-use Rattle.lent_push.proofs.pushing.carry_out.Key.{name as #lent_push·pushing·carry-out}
-use Rattle.lent_push.proofs.pushing.carry_out as f
-use Rattle.lent_push.proofs.pushing.carry_out.Statement as stated
-use Rattle.lent_push.proofs.pushing.carry_out.Code as code
+use Rattle.lent_push.proofs.recording.finish as Finishing-f
+use Rattle.lent_push.proofs.recording.finish.Symbol as Finishing-def
+use Rattle.lent_push.proofs.recording.finish.Symbol.{name as #lent_push·recording·finish}
+use Rattle.lent_push.proofs.recording.finish.Met as Finishing-thm
+use Rattle.lent_push.proofs.recording.carry_out.Key.{name as #lent_push·recording·carry-out}
+use Rattle.lent_push.proofs.recording.carry_out as f
+use Rattle.lent_push.proofs.recording.carry_out.Statement as stated
+use Rattle.lent_push.proofs.recording.carry_out.Code as code
 
 abbrev stayed : Stays (f.ended .signature .params) (f.ended .kept)
 stayed = (stay-none (λ _. u8) yes, (stay-none (λ _. usize) yes, (stay-none (λ _. usize) yes, (stay-none (λ _. usize) yes, (gave-slice (0 ∷ []) tt (plain (λ _. u8)), (gave-slice (1 ∷ []) tt (plain (λ _. f64)), (gave-slice (2 ∷ []) tt (plain (λ _. i16)), (stay-none (λ _. Edit-T.the-row) yes, (stay-none-slice (3 ∷ []) tt (plain (λ _. Change-T.the-row)) yes, (gave-slice (4 ∷ []) tt (plain (λ _. u8)), (stay-none (λ _. Handle-T.the-row) yes, tt)))))))))))
@@ -164,7 +164,7 @@ module _ {M : Type 1} (𝓤 : URA M) (H : Heap 𝓤) (A : Atoms 𝓤) (W : Given
       suffices ! _ (ends-at 𝓤 H A f.ended stayed (f.clauses 𝓤 H A at-mem run) W ((((κ₀, (κ₁, (κ₂, (κ₃, (κ₄, tt))))), (q₀, (q₁, (q₂, (q₃, (q₄, tt))))), tt, a, vals), tt)) (LL.val Moved-T.the-type Moved-T′.the-laws r) r (tt, (tt, (tt, (tt, (palette′, (lab′, (indices′, (tt, (tt, (journal′, (tt, tt))))))))))) (tt, (tt, (tt, (tt, (palette-len, (lab-len, (indices-len, (tt, (tt, (journal-len, (tt, tt)))))))))))) $ says ! said $
       nothing ! $ move ! (10 ∷ 0 ∷ []) $ join ! $ move ! (8 ∷ 0 ∷ []) $ join ! $ move ! (6 ∷ 0 ∷ []) $ join ! $ move ! (4 ∷ 0 ∷ []) $ join ! $ move ! (2 ∷ 0 ∷ []) $ join ! $ frame ! $ nothing ! $ owned ! Handle-T.the-row (Is Handle-T.the-row) (LL.makes Handle-T.the-type Handle-T′.the-plain 𝓤 H A) handle _ handle-is $ fjoin ! $ move ! (5 ∷ 0 ∷ []) $ fjoin ! $ move ! (4 ∷ 0 ∷ []) $ fjoin ! $ owned ! Edit-T.the-row (Is Edit-T.the-row) (EL.makes Edit-T.the-type Edit-T′.the-plain 𝓤 H A) edit _ edit-is $ fjoin ! $ move ! (3 ∷ 0 ∷ []) $ fjoin ! $ move ! (2 ∷ 0 ∷ []) $ fjoin ! $ move ! (1 ∷ 0 ∷ []) $ fjoin ! $ owned ! usize (Is usize) (uint-makes 𝓤 H A W w64) k _ (refl, k-fits) $ fjoin ! $ owned ! usize (Is usize) (uint-makes 𝓤 H A W w64) h _ (refl, h-fits) $ fjoin ! $ owned ! usize (Is usize) (uint-makes 𝓤 H A W w64) w _ (refl, w-fits) $ fjoin ! $ owned ! u8 (Is u8) (uint-makes 𝓤 H A W w8) no _ (refl, no-fits) $ fjoin ! $ frame ! $ owned ! Moved-T.the-row (Is Moved-T.the-row) (LL.makes Moved-T.the-type Moved-T′.the-plain 𝓤 H A) r _ is $ done !
 
-  module _ (C : Calls 𝓤 H) (Λ : Loops 𝓤 H) (fm : FmC 𝓤 H (W .laws) C) (known-Writing : Triple 𝓤 (C #change_lists·put-list) (Writing 𝓤 H A at-mem run)) (known-Painting : Triple 𝓤 (C #change_lists·paint-list) (Painting 𝓤 H A at-mem run)) (known-Finishing : Triple 𝓤 (C #lent_push·pushing·finish) (Finishing 𝓤 H A at-mem run)) where
+  module _ (C : Calls 𝓤 H) (Λ : Loops 𝓤 H) (fm : FmC 𝓤 H (W .laws) C) (known-Writing : Triple 𝓤 (C #change_lists·put-list) (Writing 𝓤 H A at-mem run)) (known-Painting : Triple 𝓤 (C #change_lists·paint-list) (Painting 𝓤 H A at-mem run)) (known-Finishing : Triple 𝓤 (C #lent_push·recording·finish) (Finishing 𝓤 H A at-mem run)) where
     walk : ent 𝓤 (onEntry 𝓤 H A f.signature (κ₀, (κ₁, (κ₂, (κ₃, (κ₄, tt))))) (q₀, (q₁, (q₂, (q₃, (q₄, tt))))) a vals) (WpFn 𝓤 H C Λ code.function (vint w8 no ∷ vint w64 w ∷ vint w64 h ∷ vint w64 k ∷ sliceVal (palette-b, palette-o) (length palette) ∷ sliceVal (lab-b, lab-o) (length lab) ∷ sliceVal (indices-b, indices-o) (length indices) ∷ EL.val Edit-T.the-type Edit-T′.the-laws edit ∷ sliceVal (list-b, list-o) (length list) ∷ sliceVal (journal-b, journal-o) (length journal) ∷ LL.val Handle-T.the-type Handle-T′.the-laws handle ∷ []) Post)
     walk =
         qed W ((‵ (flft κ₀ q₀) ⊛ ‵ (flft κ₁ q₁) ⊛ ‵ (flft κ₂ q₂) ⊛ ‵ (flft κ₃ q₃) ⊛ ‵ (flft κ₄ q₄) ⊛ ‵ ftrue) ∷ ‵ (owns (u8 ∷ usize ∷ usize ∷ usize ∷ MutSlice (named 0) κ₀ u8 ∷ MutSlice (named 1) κ₁ f64 ∷ MutSlice (named 2) κ₂ i16 ∷ Edit-T.the-row ∷ ShrSlice (named 3) κ₃ Change-T.the-row ∷ MutSlice (named 4) κ₄ u8 ∷ Handle-T.the-row ∷ []) a vals) ∷ []) ∵ enter ! C Λ code.function (vint w8 no ∷ vint w64 w ∷ vint w64 h ∷ vint w64 k ∷ sliceVal (palette-b, palette-o) (length palette) ∷ sliceVal (lab-b, lab-o) (length lab) ∷ sliceVal (indices-b, indices-o) (length indices) ∷ EL.val Edit-T.the-type Edit-T′.the-laws edit ∷ sliceVal (list-b, list-o) (length list) ∷ sliceVal (journal-b, journal-o) (length journal) ∷ LL.val Handle-T.the-type Handle-T′.the-laws handle ∷ []) _ $
@@ -245,13 +245,13 @@ module _ {M : Type 1} (𝓤 : URA M) (H : Heap 𝓤) (A : Atoms 𝓤) (W : Given
         keep ! (9 ∷ 4 ∷ 8 ∷ 3 ∷ 7 ∷ 2 ∷ 13 ∷ 10 ∷ 6 ∷ 0 ∷ []) $ by ! (exits (r₃) (z₃ .1 .1 .0) (z₃ .1 .1 .1 .0) (z₃ .1 .1 .1 .1 .0) (z₃ .1 .1 .1 .1 .1 .1 .1 .0) (λ (limited : Bool) (permitted : List ℕ). e₃ w h ∙ carried w h k palette lab indices journal handle edit list limited permitted no (z₂ .1 .1 .0) (z₁ .1 .1 .0) e₂ e₁ (fit .1)) (l₃-palette) (l₃-lab) (l₃-indices ∙ l₂-indices) (l₃-journal ∙ l₁-journal) (subst (λ (u : List Val). Is Moved-T.the-row r₃ u) (LL.tells Moved-T.the-type Moved-T′.the-laws r₃ _ is₃) is₃))))))))))))))))))))))))))))))))))))))))))))))))))))))))))
 
 module _ {M : Type 1} (𝓤 : URA M) (H : Heap 𝓤) (A : Atoms 𝓤) (W : Given 𝓤 H A) (mem : Memory → SProp 𝓤) (run : Routine → Fun 𝓤) where
-  carry-out-walks : (C : Calls 𝓤 H) (Λ : Loops 𝓤 H) → FmC 𝓤 H (W .laws) C → Triple 𝓤 (C #change_lists·put-list) (Writing 𝓤 H A mem run) → Triple 𝓤 (C #change_lists·paint-list) (Painting 𝓤 H A mem run) → Triple 𝓤 (C #lent_push·pushing·finish) (Finishing 𝓤 H A mem run) → Walks 𝓤 H A f.ended stayed (WpFn 𝓤 H C Λ code.function) (f.clauses 𝓤 H A mem run)
+  carry-out-walks : (C : Calls 𝓤 H) (Λ : Loops 𝓤 H) → FmC 𝓤 H (W .laws) C → Triple 𝓤 (C #change_lists·put-list) (Writing 𝓤 H A mem run) → Triple 𝓤 (C #change_lists·paint-list) (Painting 𝓤 H A mem run) → Triple 𝓤 (C #lent_push·recording·finish) (Finishing 𝓤 H A mem run) → Walks 𝓤 H A f.ended stayed (WpFn 𝓤 H C Λ code.function) (f.clauses 𝓤 H A mem run)
   carry-out-walks C Λ fm known-Writing known-Painting known-Finishing = walked 𝓤 H A f.ended stayed (f.clauses 𝓤 H A mem run) (WpFn 𝓤 H C Λ code.function)
       (λ κs. (uint-vals w8, (uint-vals w64, (uint-vals w64, (uint-vals w64, (slice-vals, (slice-vals, (slice-vals, (EL.vals Edit-T.the-type Edit-T′.the-laws, (slice-vals, (slice-vals, (LL.vals Handle-T.the-type Handle-T′.the-laws, tt)))))))))))) (λ κs. (uint-tells w8, (uint-tells w64, (uint-tells w64, (uint-tells w64, (mut-slice-tells (named 0) (κs .0) u8, (mut-slice-tells (named 1) (κs .1 .0) f64, (mut-slice-tells (named 2) (κs .1 .1 .0) i16, (EL.tells Edit-T.the-type Edit-T′.the-laws, (shr-slice-tells (named 3) (κs .1 .1 .1 .0) Change-T.the-row, (mut-slice-tells (named 4) (κs .1 .1 .1 .1 .0) u8, (LL.tells Handle-T.the-type Handle-T′.the-laws, tt))))))))))))
       (λ κs qs bounds a g are. needs 𝓤 _ _ (λ fit.
       (walk 𝓤 H A W mem run (κs .0) (κs .1 .0) (κs .1 .1 .0) (κs .1 .1 .1 .0) (κs .1 .1 .1 .1 .0) (qs .0) (qs .1 .0) (qs .1 .1 .0) (qs .1 .1 .1 .0) (qs .1 .1 .1 .1 .0) (a .0) (a .1 .0) (a .1 .1 .0) (a .1 .1 .1 .0) (a .1 .1 .1 .1 .0 .ptr .0) (a .1 .1 .1 .1 .0 .ptr .1) (a .1 .1 .1 .1 .0 .name) (a .1 .1 .1 .1 .0 .now) (a .1 .1 .1 .1 .1 .0 .ptr .0) (a .1 .1 .1 .1 .1 .0 .ptr .1) (a .1 .1 .1 .1 .1 .0 .name) (a .1 .1 .1 .1 .1 .0 .now) (a .1 .1 .1 .1 .1 .1 .0 .ptr .0) (a .1 .1 .1 .1 .1 .1 .0 .ptr .1) (a .1 .1 .1 .1 .1 .1 .0 .name) (a .1 .1 .1 .1 .1 .1 .0 .now) (a .1 .1 .1 .1 .1 .1 .1 .0) (a .1 .1 .1 .1 .1 .1 .1 .1 .0 .ptr .0) (a .1 .1 .1 .1 .1 .1 .1 .1 .0 .ptr .1) (a .1 .1 .1 .1 .1 .1 .1 .1 .0 .name) (a .1 .1 .1 .1 .1 .1 .1 .1 .0 .now) (a .1 .1 .1 .1 .1 .1 .1 .1 .1 .0 .ptr .0) (a .1 .1 .1 .1 .1 .1 .1 .1 .1 .0 .ptr .1) (a .1 .1 .1 .1 .1 .1 .1 .1 .1 .0 .name) (a .1 .1 .1 .1 .1 .1 .1 .1 .1 .0 .now) (a .1 .1 .1 .1 .1 .1 .1 .1 .1 .1 .0) (are .0 .1) (are .1 .0 .1) (are .1 .1 .0 .1) (are .1 .1 .1 .0 .1) (are .1 .1 .1 .1 .0 .0 .1) (are .1 .1 .1 .1 .1 .0 .0 .1) (are .1 .1 .1 .1 .1 .1 .0 .0 .1) (are .1 .1 .1 .1 .1 .1 .1 .0) (are .1 .1 .1 .1 .1 .1 .1 .1 .0 .0 .1) (are .1 .1 .1 .1 .1 .1 .1 .1 .1 .0 .0 .1) (are .1 .1 .1 .1 .1 .1 .1 .1 .1 .1 .0) fit C Λ fm known-Writing known-Painting known-Finishing)))
 
-carry-out-meets : {M : Type 1} (𝓤 : URA M) (H : Heap 𝓤) (A : Atoms 𝓤) → Given 𝓤 H A → (mem : Memory → SProp 𝓤) (run : Routine → Fun 𝓤) (𝓣 : Tables 𝓤 H) → Triple 𝓤 (𝓣 .C #change_lists·put-list) (Writing 𝓤 H A mem run) → Triple 𝓤 (𝓣 .C #change_lists·paint-list) (Painting 𝓤 H A mem run) → Triple 𝓤 (𝓣 .C #lent_push·pushing·finish) (Finishing 𝓤 H A mem run)
+carry-out-meets : {M : Type 1} (𝓤 : URA M) (H : Heap 𝓤) (A : Atoms 𝓤) → Given 𝓤 H A → (mem : Memory → SProp 𝓤) (run : Routine → Fun 𝓤) (𝓣 : Tables 𝓤 H) → Triple 𝓤 (𝓣 .C #change_lists·put-list) (Writing 𝓤 H A mem run) → Triple 𝓤 (𝓣 .C #change_lists·paint-list) (Painting 𝓤 H A mem run) → Triple 𝓤 (𝓣 .C #lent_push·recording·finish) (Finishing 𝓤 H A mem run)
     → Meets 𝓤 H A f.signature (WpFn 𝓤 H (𝓣 .C) (𝓣 .Λ) code.function) (f.spec 𝓤 H A mem run)
 carry-out-meets 𝓤 H A W mem run 𝓣 known-Writing known-Painting known-Finishing =
     walk-meets 𝓤 H A f.ended stayed W (goes-none 𝓤 H A W 5 (λ _. u8) yes (λ κs x f. refl), (goes-none 𝓤 H A W 5 (λ _. usize) yes (λ κs x f. refl), (goes-none 𝓤 H A W 5 (λ _. usize) yes (λ κs x f. refl), (goes-none 𝓤 H A W 5 (λ _. usize) yes (λ κs x f. refl), (goes-gave-slice 𝓤 H A W 5 0 tt (plain (λ _. u8)), (goes-gave-slice 𝓤 H A W 5 1 tt (plain (λ _. f64)), (goes-gave-slice 𝓤 H A W 5 2 tt (plain (λ _. i16)), (goes-none 𝓤 H A W 5 (λ _. Edit-T.the-row) yes (λ κs x f. refl), (goes-none-slice 𝓤 H A W 5 (3 ∷ []) tt (plain (λ _. Change-T.the-row)) yes, (goes-gave-slice 𝓤 H A W 5 4 tt (plain (λ _. u8)), (goes-none 𝓤 H A W 5 (λ _. Handle-T.the-row) yes (λ κs x f. refl), tt))))))))))) (f.clauses 𝓤 H A mem run)
@@ -261,8 +261,8 @@ pub carry-out-spec : {M : Type 1} → stated.statement M
 unfolding code.routine tablesOf
 carry-out-spec 𝓤 H 𝓜 𝓖 𝓡 =
     entered 𝓤 H (tripleOf 𝓤 H (𝓖 .A) f.signature (f.spec 𝓤 H (𝓖 .A) (𝓜 .mem) (𝓡 .run)))
-    (tables 𝓤 H 𝓜 𝓡 code.env .C) (tables 𝓤 H 𝓜 𝓡 code.env .Λ) #lent_push·pushing·carry-out code.function (code.unfolded 𝓤 H 𝓜 𝓡)
+    (tables 𝓤 H 𝓜 𝓡 code.env .C) (tables 𝓤 H 𝓜 𝓡 code.env .Λ) #lent_push·recording·carry-out code.function (code.unfolded 𝓤 H 𝓜 𝓡)
     (carry-out-meets 𝓤 H (𝓖 .A) (given-of 𝓤 H 𝓜 𝓖) (𝓜 .mem) (𝓡 .run) (tablesOf 𝓤 H 𝓜 (tables 𝓤 H 𝓜 𝓡 code.env))
     (cited 𝓤 H (Writing 𝓤 H (𝓖 .A) (𝓜 .mem) (𝓡 .run)) 𝓜 𝓡 code.env #change_lists·put-list Writing-def.routine code.calls-change-lists·put-list (Writing-thm.met 𝓤 H 𝓜 𝓖 𝓡))
     (cited 𝓤 H (Painting 𝓤 H (𝓖 .A) (𝓜 .mem) (𝓡 .run)) 𝓜 𝓡 code.env #change_lists·paint-list Painting-def.routine code.calls-change-lists·paint-list (Painting-thm.met 𝓤 H 𝓜 𝓖 𝓡))
-    (cited 𝓤 H (Finishing 𝓤 H (𝓖 .A) (𝓜 .mem) (𝓡 .run)) 𝓜 𝓡 code.env #lent_push·pushing·finish Finishing-def.routine code.calls-lent-push·pushing·finish (Finishing-thm.met 𝓤 H 𝓜 𝓖 𝓡)))
+    (cited 𝓤 H (Finishing 𝓤 H (𝓖 .A) (𝓜 .mem) (𝓡 .run)) 𝓜 𝓡 code.env #lent_push·recording·finish Finishing-def.routine code.calls-lent-push·recording·finish (Finishing-thm.met 𝓤 H 𝓜 𝓖 𝓡)))

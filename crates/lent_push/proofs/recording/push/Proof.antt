@@ -73,14 +73,14 @@ use Rattle.push_checks.proofs.push_no as Numbering-f
 use Rattle.push_checks.proofs.push_no.Symbol as Numbering-def
 use Rattle.push_checks.proofs.push_no.Symbol.{name as #push_checks·push-no}
 use Rattle.push_checks.proofs.push_no.Met as Numbering-thm
-use Rattle.lent_push.proofs.pushing.carry_out as Carrying-f
-use Rattle.lent_push.proofs.pushing.carry_out.Symbol as Carrying-def
-use Rattle.lent_push.proofs.pushing.carry_out.Symbol.{name as #lent_push·pushing·carry-out}
-use Rattle.lent_push.proofs.pushing.carry_out.Met as Carrying-thm
-use Rattle.lent_push.proofs.pushing.push.Key.{name as #lent_push·pushing·push}
-use Rattle.lent_push.proofs.pushing.push as f
-use Rattle.lent_push.proofs.pushing.push.Statement as stated
-use Rattle.lent_push.proofs.pushing.push.Code as code
+use Rattle.lent_push.proofs.recording.carry_out as Carrying-f
+use Rattle.lent_push.proofs.recording.carry_out.Symbol as Carrying-def
+use Rattle.lent_push.proofs.recording.carry_out.Symbol.{name as #lent_push·recording·carry-out}
+use Rattle.lent_push.proofs.recording.carry_out.Met as Carrying-thm
+use Rattle.lent_push.proofs.recording.push.Key.{name as #lent_push·recording·push}
+use Rattle.lent_push.proofs.recording.push as f
+use Rattle.lent_push.proofs.recording.push.Statement as stated
+use Rattle.lent_push.proofs.recording.push.Code as code
 
 abbrev stayed : Stays (f.ended .signature .params) (f.ended .kept)
 stayed = (stay-none (λ _. usize) yes, (stay-none (λ _. usize) yes, (stay-ref (0 ∷ []) tt (plain (λ _. usize)), (gave-slice (1 ∷ []) tt (plain (λ _. u8)), (gave-slice (2 ∷ []) tt (plain (λ _. f64)), (gave-slice (3 ∷ []) tt (plain (λ _. i16)), (stay-none (λ _. bool) yes, (stay-none-slice (4 ∷ []) tt (plain (λ _. u8)) yes, (stay-none (λ _. Edit-T.the-row) yes, (stay-none-slice (5 ∷ []) tt (plain (λ _. Change-T.the-row)) yes, (gave-slice (6 ∷ []) tt (plain (λ _. u8)), (stay-ref (7 ∷ []) tt (plain (λ _. Handle-T.the-row)), (stay-slice (8 ∷ []) tt (plain (λ _. u8)), tt)))))))))))))
@@ -142,7 +142,7 @@ module _ {M : Type 1} (𝓤 : URA M) (H : Heap 𝓤) (A : Atoms 𝓤) (W : Given
       suffices ! _ (ends-at 𝓤 H A f.ended stayed (f.clauses 𝓤 H A at-mem run) W ((((κ₀, (κ₁, (κ₂, (κ₃, (κ₄, (κ₅, (κ₆, (κ₇, (κ₈, tt))))))))), (q₀, (q₁, (q₂, (q₃, (q₄, (q₅, (q₆, (q₇, (q₈, tt))))))))), tt, a, vals), tt)) (EL.val Answer-T.the-type Answer-T′.the-laws r) r (tt, (tt, (k′, (palette′, (lab′, (indices′, (tt, (tt, (tt, (tt, (journal′, (handle′, (scratch′, tt))))))))))))) (tt, (tt, (tt, (palette-len, (lab-len, (indices-len, (tt, (tt, (tt, (tt, (journal-len, (tt, (scratch-len, tt)))))))))))))) $ says ! said $
       nothing ! $ move ! (20 ∷ 0 ∷ []) $ join ! $ move ! (18 ∷ 0 ∷ []) $ join ! $ move ! (15 ∷ 0 ∷ []) $ join ! $ move ! (13 ∷ 0 ∷ []) $ join ! $ move ! (11 ∷ 0 ∷ []) $ join ! $ move ! (9 ∷ 0 ∷ []) $ join ! $ move ! (7 ∷ 0 ∷ []) $ join ! $ move ! (5 ∷ 0 ∷ []) $ join ! $ move ! (3 ∷ 0 ∷ []) $ join ! $ frame ! $ nothing ! $ move ! (11 ∷ 0 ∷ []) $ fjoin ! $ move ! (9 ∷ 10 ∷ []) $ feqI ! (List Val) (vptr handle-b handle-o ∷ []) (vptr handle-b handle-o ∷ []) refl $ fjoin3 ! $ fjoin ! $ move ! (8 ∷ 0 ∷ []) $ fjoin ! $ move ! (7 ∷ 0 ∷ []) $ fjoin ! $ owned ! Edit-T.the-row (Is Edit-T.the-row) (EL.makes Edit-T.the-type Edit-T′.the-plain 𝓤 H A) edit _ edit-is $ fjoin ! $ move ! (6 ∷ 0 ∷ []) $ fjoin ! $ owned ! bool (Is bool) (bool-makes 𝓤 H A W) limited _ refl $ fjoin ! $ move ! (5 ∷ 0 ∷ []) $ fjoin ! $ move ! (4 ∷ 0 ∷ []) $ fjoin ! $ move ! (3 ∷ 0 ∷ []) $ fjoin ! $ move ! (1 ∷ 2 ∷ []) $ feqI ! (List Val) (vptr k-b k-o ∷ []) (vptr k-b k-o ∷ []) refl $ fjoin3 ! $ fjoin ! $ owned ! usize (Is usize) (uint-makes 𝓤 H A W w64) h _ (refl, h-fits) $ fjoin ! $ owned ! usize (Is usize) (uint-makes 𝓤 H A W w64) w _ (refl, w-fits) $ fjoin ! $ frame ! $ owned ! Answer-T.the-row (Is Answer-T.the-row) (EL.makes Answer-T.the-type Answer-T′.the-plain 𝓤 H A) r _ is $ done !
 
-  module _ (C : Calls 𝓤 H) (Λ : Loops 𝓤 H) (fm : FmC 𝓤 H (W .laws) C) (known-Numbering : Triple 𝓤 (C #push_checks·push-no) (Numbering 𝓤 H A at-mem run)) (known-Carrying : Triple 𝓤 (C #lent_push·pushing·carry-out) (Carrying 𝓤 H A at-mem run)) where
+  module _ (C : Calls 𝓤 H) (Λ : Loops 𝓤 H) (fm : FmC 𝓤 H (W .laws) C) (known-Numbering : Triple 𝓤 (C #push_checks·push-no) (Numbering 𝓤 H A at-mem run)) (known-Carrying : Triple 𝓤 (C #lent_push·recording·carry-out) (Carrying 𝓤 H A at-mem run)) where
     walk : ent 𝓤 (onEntry 𝓤 H A f.signature (κ₀, (κ₁, (κ₂, (κ₃, (κ₄, (κ₅, (κ₆, (κ₇, (κ₈, tt))))))))) (q₀, (q₁, (q₂, (q₃, (q₄, (q₅, (q₆, (q₇, (q₈, tt))))))))) a vals) (WpFn 𝓤 H C Λ code.function (vint w64 w ∷ vint w64 h ∷ vptr k-b k-o ∷ sliceVal (palette-b, palette-o) (length palette) ∷ sliceVal (lab-b, lab-o) (length lab) ∷ sliceVal (indices-b, indices-o) (length indices) ∷ vbool limited ∷ sliceVal (permitted-b, permitted-o) (length permitted) ∷ EL.val Edit-T.the-type Edit-T′.the-laws edit ∷ sliceVal (list-b, list-o) (length list) ∷ sliceVal (journal-b, journal-o) (length journal) ∷ vptr handle-b handle-o ∷ sliceVal (scratch-b, scratch-o) (length scratch) ∷ []) Post)
     walk =
         qed W ((‵ (flft κ₀ q₀) ⊛ ‵ (flft κ₁ q₁) ⊛ ‵ (flft κ₂ q₂) ⊛ ‵ (flft κ₃ q₃) ⊛ ‵ (flft κ₄ q₄) ⊛ ‵ (flft κ₅ q₅) ⊛ ‵ (flft κ₆ q₆) ⊛ ‵ (flft κ₇ q₇) ⊛ ‵ (flft κ₈ q₈) ⊛ ‵ ftrue) ∷ ‵ (owns (usize ∷ usize ∷ MutRef (named 0) κ₀ usize ∷ MutSlice (named 1) κ₁ u8 ∷ MutSlice (named 2) κ₂ f64 ∷ MutSlice (named 3) κ₃ i16 ∷ bool ∷ ShrSlice (named 4) κ₄ u8 ∷ Edit-T.the-row ∷ ShrSlice (named 5) κ₅ Change-T.the-row ∷ MutSlice (named 6) κ₆ u8 ∷ MutRef (named 7) κ₇ Handle-T.the-row ∷ MutSlice (named 8) κ₈ u8 ∷ []) a vals) ∷ []) ∵ enter ! C Λ code.function (vint w64 w ∷ vint w64 h ∷ vptr k-b k-o ∷ sliceVal (palette-b, palette-o) (length palette) ∷ sliceVal (lab-b, lab-o) (length lab) ∷ sliceVal (indices-b, indices-o) (length indices) ∷ vbool limited ∷ sliceVal (permitted-b, permitted-o) (length permitted) ∷ EL.val Edit-T.the-type Edit-T′.the-laws edit ∷ sliceVal (list-b, list-o) (length list) ∷ sliceVal (journal-b, journal-o) (length journal) ∷ vptr handle-b handle-o ∷ sliceVal (scratch-b, scratch-o) (length scratch) ∷ []) _ $
@@ -237,13 +237,13 @@ module _ {M : Type 1} (𝓤 : URA M) (H : Heap 𝓤) (A : Atoms 𝓤) (W : Given
         keep ! (3 ∷ 4 ∷ 5 ∷ 16 ∷ 11 ∷ 15 ∷ 10 ∷ 14 ∷ 9 ∷ 23 ∷ 21 ∷ 17 ∷ 8 ∷ 13 ∷ 6 ∷ 0 ∷ 1 ∷ 2 ∷ 18 ∷ 19 ∷ []) $ by ! (exits (r₂ .answer) (r₂ .k) (z₂ .1 .1 .1 .1 .0) (z₂ .1 .1 .1 .1 .1 .0) (z₂ .1 .1 .1 .1 .1 .1 .0) (z₂ .1 .1 .1 .1 .1 .1 .1 .1 .1 .0) (r₂ .handle) (z₁ .1 .1 .1 .1 .1 .1 .1 .1 .1 .1 .1 .1 .0) ((e₂ limited permitted ∙ push-is (length scratch) (stateOf (sheetOf w h k palette lab indices) journal handle) (givenOf limited permitted edit (packedAll list)) r₁ (e₁ .value), l₁-scratch)) (l₂-palette) (l₂-lab) (l₂-indices) (l₂-journal) (l₁-scratch) (LL.owed Moved-T.the-type Moved-T′.the-laws r₂ _ is₂ .0)))))))))))))))))))))))))))))))))))))))))))))))))))))))))))))))))))
 
 module _ {M : Type 1} (𝓤 : URA M) (H : Heap 𝓤) (A : Atoms 𝓤) (W : Given 𝓤 H A) (mem : Memory → SProp 𝓤) (run : Routine → Fun 𝓤) where
-  push-walks : (C : Calls 𝓤 H) (Λ : Loops 𝓤 H) → FmC 𝓤 H (W .laws) C → Triple 𝓤 (C #push_checks·push-no) (Numbering 𝓤 H A mem run) → Triple 𝓤 (C #lent_push·pushing·carry-out) (Carrying 𝓤 H A mem run) → Walks 𝓤 H A f.ended stayed (WpFn 𝓤 H C Λ code.function) (f.clauses 𝓤 H A mem run)
+  push-walks : (C : Calls 𝓤 H) (Λ : Loops 𝓤 H) → FmC 𝓤 H (W .laws) C → Triple 𝓤 (C #push_checks·push-no) (Numbering 𝓤 H A mem run) → Triple 𝓤 (C #lent_push·recording·carry-out) (Carrying 𝓤 H A mem run) → Walks 𝓤 H A f.ended stayed (WpFn 𝓤 H C Λ code.function) (f.clauses 𝓤 H A mem run)
   push-walks C Λ fm known-Numbering known-Carrying = walked 𝓤 H A f.ended stayed (f.clauses 𝓤 H A mem run) (WpFn 𝓤 H C Λ code.function)
       (λ κs. (uint-vals w64, (uint-vals w64, (ptr-vals, (slice-vals, (slice-vals, (slice-vals, (bool-vals, (slice-vals, (EL.vals Edit-T.the-type Edit-T′.the-laws, (slice-vals, (slice-vals, (ptr-vals, (slice-vals, tt)))))))))))))) (λ κs. (uint-tells w64, (uint-tells w64, (mut-tells (named 0) (κs .0) usize, (mut-slice-tells (named 1) (κs .1 .0) u8, (mut-slice-tells (named 2) (κs .1 .1 .0) f64, (mut-slice-tells (named 3) (κs .1 .1 .1 .0) i16, (bool-tells, (shr-slice-tells (named 4) (κs .1 .1 .1 .1 .0) u8, (EL.tells Edit-T.the-type Edit-T′.the-laws, (shr-slice-tells (named 5) (κs .1 .1 .1 .1 .1 .0) Change-T.the-row, (mut-slice-tells (named 6) (κs .1 .1 .1 .1 .1 .1 .0) u8, (mut-tells (named 7) (κs .1 .1 .1 .1 .1 .1 .1 .0) Handle-T.the-row, (mut-slice-tells (named 8) (κs .1 .1 .1 .1 .1 .1 .1 .1 .0) u8, tt))))))))))))))
       (λ κs qs bounds a g are. via 𝓤 _ (fst∗ 𝓤 _ (emp 𝓤))
       (walk 𝓤 H A W mem run (κs .0) (κs .1 .0) (κs .1 .1 .0) (κs .1 .1 .1 .0) (κs .1 .1 .1 .1 .0) (κs .1 .1 .1 .1 .1 .0) (κs .1 .1 .1 .1 .1 .1 .0) (κs .1 .1 .1 .1 .1 .1 .1 .0) (κs .1 .1 .1 .1 .1 .1 .1 .1 .0) (qs .0) (qs .1 .0) (qs .1 .1 .0) (qs .1 .1 .1 .0) (qs .1 .1 .1 .1 .0) (qs .1 .1 .1 .1 .1 .0) (qs .1 .1 .1 .1 .1 .1 .0) (qs .1 .1 .1 .1 .1 .1 .1 .0) (qs .1 .1 .1 .1 .1 .1 .1 .1 .0) (a .0) (a .1 .0) (a .1 .1 .0 .ptr .0) (a .1 .1 .0 .ptr .1) (a .1 .1 .0 .name) (a .1 .1 .0 .now) (a .1 .1 .1 .0 .ptr .0) (a .1 .1 .1 .0 .ptr .1) (a .1 .1 .1 .0 .name) (a .1 .1 .1 .0 .now) (a .1 .1 .1 .1 .0 .ptr .0) (a .1 .1 .1 .1 .0 .ptr .1) (a .1 .1 .1 .1 .0 .name) (a .1 .1 .1 .1 .0 .now) (a .1 .1 .1 .1 .1 .0 .ptr .0) (a .1 .1 .1 .1 .1 .0 .ptr .1) (a .1 .1 .1 .1 .1 .0 .name) (a .1 .1 .1 .1 .1 .0 .now) (a .1 .1 .1 .1 .1 .1 .0) (a .1 .1 .1 .1 .1 .1 .1 .0 .ptr .0) (a .1 .1 .1 .1 .1 .1 .1 .0 .ptr .1) (a .1 .1 .1 .1 .1 .1 .1 .0 .name) (a .1 .1 .1 .1 .1 .1 .1 .0 .now) (a .1 .1 .1 .1 .1 .1 .1 .1 .0) (a .1 .1 .1 .1 .1 .1 .1 .1 .1 .0 .ptr .0) (a .1 .1 .1 .1 .1 .1 .1 .1 .1 .0 .ptr .1) (a .1 .1 .1 .1 .1 .1 .1 .1 .1 .0 .name) (a .1 .1 .1 .1 .1 .1 .1 .1 .1 .0 .now) (a .1 .1 .1 .1 .1 .1 .1 .1 .1 .1 .0 .ptr .0) (a .1 .1 .1 .1 .1 .1 .1 .1 .1 .1 .0 .ptr .1) (a .1 .1 .1 .1 .1 .1 .1 .1 .1 .1 .0 .name) (a .1 .1 .1 .1 .1 .1 .1 .1 .1 .1 .0 .now) (a .1 .1 .1 .1 .1 .1 .1 .1 .1 .1 .1 .0 .ptr .0) (a .1 .1 .1 .1 .1 .1 .1 .1 .1 .1 .1 .0 .ptr .1) (a .1 .1 .1 .1 .1 .1 .1 .1 .1 .1 .1 .0 .name) (a .1 .1 .1 .1 .1 .1 .1 .1 .1 .1 .1 .0 .now) (a .1 .1 .1 .1 .1 .1 .1 .1 .1 .1 .1 .1 .0 .ptr .0) (a .1 .1 .1 .1 .1 .1 .1 .1 .1 .1 .1 .1 .0 .ptr .1) (a .1 .1 .1 .1 .1 .1 .1 .1 .1 .1 .1 .1 .0 .name) (a .1 .1 .1 .1 .1 .1 .1 .1 .1 .1 .1 .1 .0 .now) (are .0 .1) (are .1 .0 .1) (are .1 .1 .1 .0 .0 .1) (are .1 .1 .1 .1 .0 .0 .1) (are .1 .1 .1 .1 .1 .0 .0 .1) (are .1 .1 .1 .1 .1 .1 .1 .0 .0 .1) (are .1 .1 .1 .1 .1 .1 .1 .1 .0) (are .1 .1 .1 .1 .1 .1 .1 .1 .1 .0 .0 .1) (are .1 .1 .1 .1 .1 .1 .1 .1 .1 .1 .0 .0 .1) (are .1 .1 .1 .1 .1 .1 .1 .1 .1 .1 .1 .1 .0 .0 .1) C Λ fm known-Numbering known-Carrying))
 
-push-meets : {M : Type 1} (𝓤 : URA M) (H : Heap 𝓤) (A : Atoms 𝓤) → Given 𝓤 H A → (mem : Memory → SProp 𝓤) (run : Routine → Fun 𝓤) (𝓣 : Tables 𝓤 H) → Triple 𝓤 (𝓣 .C #push_checks·push-no) (Numbering 𝓤 H A mem run) → Triple 𝓤 (𝓣 .C #lent_push·pushing·carry-out) (Carrying 𝓤 H A mem run)
+push-meets : {M : Type 1} (𝓤 : URA M) (H : Heap 𝓤) (A : Atoms 𝓤) → Given 𝓤 H A → (mem : Memory → SProp 𝓤) (run : Routine → Fun 𝓤) (𝓣 : Tables 𝓤 H) → Triple 𝓤 (𝓣 .C #push_checks·push-no) (Numbering 𝓤 H A mem run) → Triple 𝓤 (𝓣 .C #lent_push·recording·carry-out) (Carrying 𝓤 H A mem run)
     → Meets 𝓤 H A f.signature (WpFn 𝓤 H (𝓣 .C) (𝓣 .Λ) code.function) (f.spec 𝓤 H A mem run)
 push-meets 𝓤 H A W mem run 𝓣 known-Numbering known-Carrying =
     walk-meets 𝓤 H A f.ended stayed W (goes-none 𝓤 H A W 9 (λ _. usize) yes (λ κs x f. refl), (goes-none 𝓤 H A W 9 (λ _. usize) yes (λ κs x f. refl), (goes-ref 𝓤 H A W 9 0 tt (plain (λ _. usize)), (goes-gave-slice 𝓤 H A W 9 1 tt (plain (λ _. u8)), (goes-gave-slice 𝓤 H A W 9 2 tt (plain (λ _. f64)), (goes-gave-slice 𝓤 H A W 9 3 tt (plain (λ _. i16)), (goes-none 𝓤 H A W 9 (λ _. bool) yes (λ κs x f. refl), (goes-none-slice 𝓤 H A W 9 (4 ∷ []) tt (plain (λ _. u8)) yes, (goes-none 𝓤 H A W 9 (λ _. Edit-T.the-row) yes (λ κs x f. refl), (goes-none-slice 𝓤 H A W 9 (5 ∷ []) tt (plain (λ _. Change-T.the-row)) yes, (goes-gave-slice 𝓤 H A W 9 6 tt (plain (λ _. u8)), (goes-ref 𝓤 H A W 9 7 tt (plain (λ _. Handle-T.the-row)), (goes-slice 𝓤 H A W 9 8 tt (plain (λ _. u8)), tt))))))))))))) (f.clauses 𝓤 H A mem run)
@@ -253,7 +253,7 @@ pub push-spec : {M : Type 1} → stated.statement M
 unfolding code.routine tablesOf
 push-spec 𝓤 H 𝓜 𝓖 𝓡 =
     entered 𝓤 H (tripleOf 𝓤 H (𝓖 .A) f.signature (f.spec 𝓤 H (𝓖 .A) (𝓜 .mem) (𝓡 .run)))
-    (tables 𝓤 H 𝓜 𝓡 code.env .C) (tables 𝓤 H 𝓜 𝓡 code.env .Λ) #lent_push·pushing·push code.function (code.unfolded 𝓤 H 𝓜 𝓡)
+    (tables 𝓤 H 𝓜 𝓡 code.env .C) (tables 𝓤 H 𝓜 𝓡 code.env .Λ) #lent_push·recording·push code.function (code.unfolded 𝓤 H 𝓜 𝓡)
     (push-meets 𝓤 H (𝓖 .A) (given-of 𝓤 H 𝓜 𝓖) (𝓜 .mem) (𝓡 .run) (tablesOf 𝓤 H 𝓜 (tables 𝓤 H 𝓜 𝓡 code.env))
     (cited 𝓤 H (Numbering 𝓤 H (𝓖 .A) (𝓜 .mem) (𝓡 .run)) 𝓜 𝓡 code.env #push_checks·push-no Numbering-def.routine code.calls-push-checks·push-no (Numbering-thm.met 𝓤 H 𝓜 𝓖 𝓡))
-    (cited 𝓤 H (Carrying 𝓤 H (𝓖 .A) (𝓜 .mem) (𝓡 .run)) 𝓜 𝓡 code.env #lent_push·pushing·carry-out Carrying-def.routine code.calls-lent-push·pushing·carry-out (Carrying-thm.met 𝓤 H 𝓜 𝓖 𝓡)))
+    (cited 𝓤 H (Carrying 𝓤 H (𝓖 .A) (𝓜 .mem) (𝓡 .run)) 𝓜 𝓡 code.env #lent_push·recording·carry-out Carrying-def.routine code.calls-lent-push·recording·carry-out (Carrying-thm.met 𝓤 H 𝓜 𝓖 𝓡)))

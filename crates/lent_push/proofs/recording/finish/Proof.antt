@@ -8,8 +8,8 @@ use Rattle.push_checks.proofs.PushSteps.{empty-is}
 use Rattle.lent_push.proofs.Pushed.{refused-push, still-push, done-push}
 use Rattle.lent_push.proofs.Finishing.{around-asks, offset-inside, finished-is}
 use borrow.Author.Needs.{needs}
-use Rattle.lent_push.proofs.pushing.finish.Statement.{statement}
-use Rattle.lent_push.proofs.pushing.finish.Tie as tie
+use Rattle.lent_push.proofs.recording.finish.Statement.{statement}
+use Rattle.lent_push.proofs.recording.finish.Tie as tie
 
 refused-requires : tie.Need-refused-requires
 refused-requires c κs = search needs
