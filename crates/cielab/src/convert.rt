@@ -29,22 +29,22 @@ fn row(v: LinearRgb, m0: f64, m1: f64, m2: f64) -> f64
     v.r * m0 + v.g * m1 + v.b * m2
 }
 
-// The steps after the curve, for any three linear values from 0 to 1.
+// The steps after the curve, for any three linear values from 0 to 1, in the order of CIE 15:2004: the
+// three ratios, their f values, then L*, a*, b*, each beside the text's own formula.
 pub fn lab_of_linear(v: LinearRgb) -> Lab
     requires { ⌜ LinearValues v ⌝ }
     ensures { λ r. ⌜ Converted r (labOfLinear v) ⌝ }
 {
-    let x = row(v, 0.412453, 0.357580, 0.180423);
-    let y = row(v, 0.212671, 0.715160, 0.072169);
-    let z = row(v, 0.019334, 0.119193, 0.950227);
-    let fx = lab_f(x / 0.95047);
-    let fy = lab_f(y / 1.0);
-    let fz = lab_f(z / 1.08883);
-    Lab {
-        l: 116.0 * fy - 16.0,
-        a: 500.0 * (fx - fy),
-        b: 200.0 * (fy - fz),
-    }
+    let x = row(v, 0.412453, 0.357580, 0.180423) / 0.95047; // X/Xn
+    let y = row(v, 0.212671, 0.715160, 0.072169) / 1.0; // Y/Yn
+    let z = row(v, 0.019334, 0.119193, 0.950227) / 1.08883; // Z/Zn
+    let fx = lab_f(x); // f(X/Xn)
+    let fy = lab_f(y); // f(Y/Yn)
+    let fz = lab_f(z); // f(Z/Zn)
+    let l = 116.0 * fy - 16.0; // L* = 116 f(Y/Yn) - 16
+    let a = 500.0 * (fx - fy); // a* = 500 [f(X/Xn) - f(Y/Yn)]
+    let b = 200.0 * (fy - fz); // b* = 200 [f(Y/Yn) - f(Z/Zn)]
+    Lab { l, a, b }
 }
 
 // The LAB of a colour, with the curve's table lent.
