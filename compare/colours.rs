@@ -35,11 +35,13 @@ fn differing(red: u8) -> usize {
 }
 
 fn main() {
-    let halves = [0..=127, 128..=255].map(|reds| {
-        thread::spawn(move || reds.map(differing).sum::<usize>())
-    });
+    let halves =
+        [0..=127, 128..=255].map(|reds| thread::spawn(move || reds.map(differing).sum::<usize>()));
     let found: usize = halves.into_iter().map(|half| half.join().unwrap()).sum();
-    println!("`rgb8_to_lab`: {} colours, {found} with other bits than the Rust's.", 1 << 24);
+    println!(
+        "`rgb8_to_lab`: {} colours, {found} with other bits than the Rust's.",
+        1 << 24
+    );
     if found != 0 {
         std::process::exit(1);
     }

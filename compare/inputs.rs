@@ -71,14 +71,24 @@ fn parts(t: &mut Table) {
     }
 }
 
+/// Every colour with a ratio above 0.008856 and at most 216/24389, red first: E7's new threshold decides them.
+#[rustfmt::skip]
+const BETWEEN: [u32; 27] = [
+    0x010b54, 0x013810, 0x064f01, 0x08152d, 0x081b26, 0x0d1045, 0x11092f, 0x121c17, 0x130b4b,
+    0x160256, 0x17152a, 0x173710, 0x1c0519, 0x1c3f0c, 0x1e0a1b, 0x1f1516, 0x1f420a, 0x231124,
+    0x24083d, 0x240903, 0x241026, 0x2e062b, 0x564304, 0x650d14, 0x810211, 0x970d0b, 0xa71b03,
+];
+
+/// The colours between the two thresholds, those whose bytes are at most 4, a grid of all, and random ones.
 fn colours(t: &mut Table) {
     let mut draw = Draw::new(2);
-    for i in 0..60_000 {
-        let rgb = if i < 4096 {
-            [i >> 8, i >> 4 & 15, i & 15].map(|c| c as u8 * 17)
-        } else {
-            draw.rgb()
-        };
+    let between = BETWEEN.map(|c| [c >> 16, c >> 8 & 255, c & 255]);
+    let dark = (0..125).map(|i| [i / 25, i / 5 % 5, i % 5]);
+    let grid = (0..4096).map(|i| [i >> 8, i >> 4 & 15, i & 15].map(|c| 17 * c));
+    let fixed = between.into_iter().chain(dark).chain(grid);
+    let mut all: Vec<[u8; 3]> = fixed.map(|rgb| rgb.map(|c| c as u8)).collect();
+    all.resize_with(60_000, || draw.rgb());
+    for rgb in all {
         tell!(t, "rgb8_to_lab", sheets::rgb8_to_lab(rgb), "{rgb:?}");
     }
     let edges = [

@@ -9,7 +9,7 @@ use lib.Dec.{T, lit≤}
 use lib.Ieee.{Float, binary64, toBits, lt, fits}
 use lib.Ieee.Fits.{sub-fits, mul-fits}
 use Rattle.limits.specs.declared.Rgb.{Rgb}
-use Rattle.doubles.specs.Arithmetic.{decimal}
+use Rattle.doubles.specs.Arithmetic.{decimal, fraction}
 use Rattle.doubles.specs.NearestDouble.{unitsOf, aboveMiddle, nearestDouble}
 use Rattle.roots.specs.CubeRoot.{inRootRange, rootOf, rootPattern}
 use Rattle.cielab.specs.Curve.{linearRgb}
@@ -42,9 +42,9 @@ root-small t h = pattern-small _ (root-at-most (toBits binary64 t) (range-bits t
 -- ---- so each f value is at most 32
 f-small : (t : Float) → AtMost 2 t → AtMost 32 (labF t)
 unfolding labF
-f-small t h = go (lt (decimal 8856 6) t) refl
+f-small t h = go (lt (fraction 216 24389) t) refl
   where
-    go : (b : Bool) → lt (decimal 8856 6) t ≡ b → AtMost 32 (labF t)
+    go : (b : Bool) → lt (fraction 216 24389) t ≡ b → AtMost 32 (labF t)
     go true e = rw e (root-small t (in-range t h (subst T (sym e) tt)))
     go false e = rw e (line-small t h)
 

@@ -10,7 +10,7 @@ use lib.Ieee.{Float, nan, inf, fin, binary64, up, down, round, add, sub, mul, di
 use lib.Ieee.Fits.{and-i, and-l, and-r, down-pos}
 use lib.Ieee.Order.{le-of-values}
 use Rattle.cielab.specs.declared.LinearRgb.{LinearRgb}
-use Rattle.doubles.specs.Arithmetic.{decimal}
+use Rattle.doubles.specs.Arithmetic.{decimal, fraction}
 use Rattle.roots.specs.CubeRoot.{inRootRange}
 use Rattle.doubles.specs.Range.{AtMost}
 use Rattle.cielab.specs.Convert.{rowOf, xOf, yOf, zOf, labFrom, isLinear, LinearValues, FiniteLab}
@@ -78,8 +78,8 @@ module _ (v : LinearRgb) (h : LinearValues v) where
   z-small = ratio _ _ _ _ 1 1 8 tt tt tt (refl, refl) (refl, refl) (refl, refl) (refl, refl) (refl, refl) (lit≤ tt) tt
 
 -- ---- so the root is asked within its range
--- 0.008856 is 2552568211199559 / 2 ^ 58, above 1/128
-pub in-range : (t : Float) → AtMost 2 t → T (lt (decimal 8856 6) t) → T (inRootRange t)
+-- the double nearest to 216/24389 is 2552698398817899 / 2 ^ 58, above 1/128
+pub in-range : (t : Float) → AtMost 2 t → T (lt (fraction 216 24389) t) → T (inRootRange t)
 unfolding inRootRange decimal round lt
 in-range nan g h = absurd g
 in-range (inf s) g h = absurd g
@@ -88,19 +88,19 @@ in-range (fin false m e) g h =
     let U = m * up e in
     let D = down e in
     and-i (le least (fin false m e)) (le (fin false m e) most)
-    (le-of-values least (fin false m e) 1 128 U D (lit< tt) (down-pos e) (refl, refl) (refl, refl) (lower U D (ltb→lt (2552568211199559 * D) (U * 2 ^ 58) h)))
+    (le-of-values least (fin false m e) 1 128 U D (lit< tt) (down-pos e) (refl, refl) (refl, refl) (lower U D (ltb→lt (2552698398817899 * D) (U * 2 ^ 58) h)))
     (le-of-values (fin false m e) most U D 2 1 (down-pos e) (lit< tt) (refl, refl) (refl, refl) (leb→le (U * 1) (2 * D) g))
   where
-    lower : (U D : ℕ) → 2552568211199559 * D < U * 2 ^ 58 → 1 * D ≤ U * 128
+    lower : (U D : ℕ) → 2552698398817899 * D < U * 2 ^ 58 → 1 * D ≤ U * 128
     lower U D h = omega arith
 
 -- ---- each f value is at most 32
 pub line-small : (t : Float) → AtMost 2 t
-    → AtMost 32 (add binary64 (mul binary64 (decimal 7787 3) t) (div binary64 (decimal 16 0) (decimal 116 0)))
+    → AtMost 32 (add binary64 (mul binary64 (fraction 841 108) t) (div binary64 (decimal 16 0) (decimal 116 0)))
 unfolding decimal round
 line-small t h =
     add-mag 16 1 1 1 32 1 _ _ (refl, refl) (lit< tt) (lit< tt) (lit≤ tt)
-    (mul-mag 8 1 2 1 16 1 (decimal 7787 3) t (refl, refl) (lit< tt) (lit< tt) (lit≤ tt) tt h)
+    (mul-mag 8 1 2 1 16 1 (fraction 841 108) t (refl, refl) (lit< tt) (lit< tt) (lit≤ tt) tt h)
     (div-mag 16 1 1 16 1 1 (decimal 16 0) (decimal 116 0) (refl, refl) (lit< tt) (lit< tt) (lit≤ tt) tt tt)
 
 -- ---- and the results are finite

@@ -7,16 +7,16 @@ use lib.Ieee.Scale.{finite}
 use Rattle.limits.specs.declared.Lab.{Lab}
 use Rattle.limits.specs.declared.Rgb.{Rgb}
 use Rattle.cielab.specs.declared.LinearRgb.{LinearRgb}
-use Rattle.doubles.specs.Arithmetic.{decimal, _⊕_, _⊖_, _⊗_, _⊘_}
+use Rattle.doubles.specs.Arithmetic.{decimal, fraction, _⊕_, _⊖_, _⊗_, _⊘_}
 use Rattle.roots.specs.CubeRoot.{rootOf}
 use Rattle.cielab.specs.Curve.{linearRgb}
 
--- `lab_f`
+-- `lab_f`, by document 02, E7: "The threshold becomes the double nearest 216/24389 and the slope the double nearest 841/108"
 unfoldable pub labF : Float → Float
 labF t =
-    cond (lt (decimal 8856 6) t)
+    cond (lt (fraction 216 24389) t)
     (rootOf t)
-    (decimal 7787 3 ⊗ t ⊕ decimal 16 0 ⊘ decimal 116 0)
+    (fraction 841 108 ⊗ t ⊕ decimal 16 0 ⊘ decimal 116 0)
 
 -- `mat_vec`, one row of it: summed left to right
 unfoldable pub rowOf : LinearRgb → Float → Float → Float → Float

@@ -9,16 +9,16 @@ ghost use Rattle.cielab.specs.Curve.{linearTable};
 ghost use Rattle.cielab.specs.Convert.{labF, rowOf, labOfLinear, labOf, LinearValues, Converted};
 ghost use Rattle.doubles.specs.Range.{AtMost, Bounded};
 
-// The root where t is above 0.008856, and the line below it. For a ratio of at most 2 the root is never
-// asked outside its range.
+// CIE's f: the cube root of t where t > 216/24389, that is (6/29)^3, else (841/108) t + 16/116. For a ratio of at
+// most 2 the root is never asked outside its range.
 fn lab_f(t: f64) -> f64
     requires { ⌜ AtMost 2 t ⌝ }
     ensures { λ r. ⌜ Bounded 32 r (labF t) ⌝ }
 {
-    if t > 0.008856 {
+    if t > 216.0 / 24389.0 {
         root(t)
     } else {
-        7.787 * t + 16.0 / 116.0
+        841.0 / 108.0 * t + 16.0 / 116.0
     }
 }
 

@@ -3,9 +3,13 @@ use Prim.Native.Nat.{ℕ, _^_}
 use mathlib.Core.Bool.{false}
 use lib.Ieee.{Float, binary64, round, add, sub, mul, div}
 
+-- the double nearest to n / d
+abbrev pub fraction : ℕ → ℕ → Float
+fraction n d = round binary64 false n d
+
 -- a literal of so many decimals, the double nearest to it: 0.412453 is `decimal 412453 6`
 unfoldable pub decimal : ℕ → ℕ → Float
-decimal n places = round binary64 false n (10 ^ places)
+decimal n places = fraction n (10 ^ places)
 
 infixl 65 _⊕_ _⊖_
 infixl 75 _⊗_ _⊘_

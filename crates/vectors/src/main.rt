@@ -8,6 +8,10 @@
 // file of each. Only octave-image uses the matrix of color.rs. The others use one with other digits, so
 // their values differ from ours, mostly in the third decimal. color-convert prints 0 or 1 decimals, too
 // few to be within 0.01.
+//
+// The fractions of document 02, E7, in place of 0.008856 and 7.787 move no count. Two colours of the tables have a
+// ratio at or below 216/24389: black, whose ratios are 0 and its f values 16/116 under either slope, and 127, 0, 0 of the
+// Rust crate lab, whose b goes from 37.753817 to 37.753789, beside the printed 37.752514.
 mod compare;
 mod sources;
 
