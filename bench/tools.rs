@@ -2,11 +2,14 @@
 //!
 //! Ours is crates/exports, as `rt staticlib` compiles it, with its buffers lent and warm. The Rust is built as it stands;
 //! it answers in a new Vec. Ours makes checks 1 to 3 in every call: the Rust has two figures, the call with `with_lab`'s
-//! scan before it, and the call alone. The changes are compared, too.
+//! scan before it, and the call alone. The changes are compared, too; along lines with those of E4's rule.
 
 #[path = "../compare/calls.rs"]
 #[allow(dead_code)]
 mod calls;
+#[path = "../compare/lines.rs"]
+#[allow(dead_code)]
+mod lines;
 
 use pixelforge::config::Config;
 use pixelforge::editor::document::{Document, Origin};
@@ -117,13 +120,16 @@ fn same(name: &str, out: &[u64], count: usize, rust: &[PixelChange]) {
     assert!(out[..count] == rust[..], "{name}: the changes differ");
 }
 
+type Ours<'a> = &'a mut dyn FnMut(&mut [u64], &mut [u64], &mut [usize; 5]) -> u8;
+type Rust<'a> = &'a dyn Fn(&Document) -> Vec<PixelChange>;
+
 /// A tool that returns changes.
-fn tool(
-    name: &str,
-    sheet: &Sheet,
-    ours: &mut dyn FnMut(&mut [u64], &mut [u64], &mut [usize; 5]) -> u8,
-    rust: &dyn Fn(&Document) -> Vec<PixelChange>,
-) {
+fn tool(name: &str, sheet: &Sheet, ours: Ours, rust: Rust) {
+    tool_by(name, sheet, ours, rust, rust);
+}
+
+/// A tool beside the Rust's, whose changes are those of `expected`.
+fn tool_by(name: &str, sheet: &Sheet, ours: Ours, rust: Rust, expected: Rust) {
     let document = sheet.document();
     let places = sheet.side * sheet.side;
     let (mut scratch, mut out, mut r) = (vec![0u64; places], vec![0u64; places], [0usize; 5]);
@@ -140,7 +146,7 @@ fn tool(
             },
         ],
     );
-    same(name, &out, r[0], &rust(&document));
+    same(name, &out, r[0], &expected(&document));
 }
 
 const WHOLE: [u16; 4] = [0; 4];
@@ -199,13 +205,14 @@ fn strokes() {
         .collect();
     let pairs: Vec<(i64, i64)> = points.chunks_exact(2).map(|p| (p[0].into(), p[1].into())).collect();
     for size in [1, 8] {
-        tool(
+        tool_by(
             &format!("pencil of size {size}, 1,000 points, 1,024 × 1,024"),
             s,
             &mut |scratch, out, r| {
                 calls::call_pencil(s.side, s.side, s.k, &s.palette, &s.lab, &s.indices, true, &WHOLE, &points, size, 5, scratch, out, r)
             },
             &|d| tools::pencil(d, None, &pairs, size, 5),
+            &|d| lines::pencil(d, None, &pairs, size, 5),
         );
     }
     tool(

@@ -1,10 +1,11 @@
 //! The drawing tools. Each function answers what is expected of a call and what ours answers and leaves: document 01's
-//! checks in its order, then the Rust's own result, then number 16. Sheet and lists are lent to be read; that they keep
-//! every bit is compared, too.
+//! checks in its order, then the Rust's own result (along lines, lines.rs's), then number 16. Sheet and lists are lent to be
+//! read; that they keep every bit is compared, too.
 
 use crate::calls::*;
+use crate::lines;
 use crate::sheet::*;
-use pixelforge::editor::tools::{self, Clip};
+use pixelforge::editor::tools::{self, Clip, Stroke};
 use pixelforge::editor::{PixelChange, Selection};
 
 /// What is expected, and what ours gives, in words.
@@ -93,7 +94,7 @@ pub fn pencil(
         out,
         scratch < s.w * s.h,
         || {
-            tools::pencil(
+            lines::pencil(
                 c.doc(),
                 a.chosen().as_ref(),
                 &pairs(points),
@@ -124,7 +125,7 @@ pub fn eraser(c: &Case, a: Area, points: &[i32], size: usize, scratch: usize, ou
         points_number(c, points, a),
         out,
         scratch < s.w * s.h,
-        || tools::eraser(c.doc(), a.chosen().as_ref(), &pairs(points), size),
+        || lines::eraser(c.doc(), a.chosen().as_ref(), &pairs(points), size),
     );
     let (mut room, mut list, mut r) = (vec![WORD; scratch], vec![WORD; out], R);
     let no = sheet!(
@@ -139,6 +140,46 @@ pub fn eraser(c: &Case, a: Area, points: &[i32], size: usize, scratch: usize, ou
         &mut r
     );
     [expected, listed(no, &r, &list)]
+}
+
+/// A drag with the pencil on a good sheet: the list of each event, all of the same sheet, joined to a stroke.
+pub fn drag(c: &Case, a: Area, events: &[Vec<i32>], size: usize, index: i16) -> Pair {
+    let s = &c.sheet;
+    let places = s.w * s.h;
+    let mut expected = Stroke::new("");
+    let (mut stroke, mut count) = (vec![WORD; places], 0);
+    let (mut list, mut room, mut r) = (stroke.clone(), vec![WORD; 2 * places], R);
+    for points in events {
+        let sel = a.chosen();
+        expected.extend(lines::pencil(
+            c.doc(),
+            sel.as_ref(),
+            &pairs(points),
+            size,
+            index.into(),
+        ));
+        let no = sheet!(
+            call_pencil,
+            s,
+            a.whole,
+            &a.s,
+            points,
+            size,
+            index,
+            &mut room,
+            &mut list,
+            &mut r
+        );
+        assert_eq!(no, 0, "pencil on a good sheet");
+        let no = call_extend(&mut stroke, count, &list[..r[0]], &mut room, &mut r);
+        assert_eq!(no, 0, "extend with room for every place");
+        count = r[0];
+    }
+    let expected = list_of(expected.changes());
+    [
+        listed(0, &[expected.len()], &expected),
+        listed(0, &[count], &stroke[..count]),
+    ]
 }
 
 fn point(x: i32, y: i32) -> (i64, i64) {
@@ -157,7 +198,7 @@ pub fn line(
     let s = &c.sheet;
     let [ax, ay, bx, by] = at;
     let expected = with_list(placed_number(c, &at, a), out, scratch < s.w * s.h, || {
-        tools::line(
+        lines::line(
             c.doc(),
             a.chosen().as_ref(),
             point(ax, ay),

@@ -11,6 +11,7 @@ mod drawn;
 mod histories;
 mod inputs;
 mod journal;
+mod lines;
 mod panel;
 mod sample;
 mod sheet;
@@ -18,6 +19,7 @@ mod sheets;
 mod table;
 mod tiled;
 
+use std::sync::atomic::Ordering::Relaxed;
 use std::time::Instant;
 
 fn main() {
@@ -31,6 +33,12 @@ fn main() {
     histories::run(&mut t);
     panel::run(&mut t);
     let same = t.print();
+    println!();
+    println!(
+        "Of the results along lines {} were judged by the Rust's own answer, {} by E4's rule.",
+        lines::BY_RUST.load(Relaxed),
+        lines::BY_RULE.load(Relaxed)
+    );
     println!();
     let sound = damage::run();
     println!();

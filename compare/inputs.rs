@@ -310,6 +310,7 @@ fn lists(t: &mut Table) {
         for out in [2 * points, 2 * points - 1, 2 * points + 3] {
             tell!(t, "bresenham", sheets::bresenham(at, out), "{at:?} {out}");
         }
+        tell!(t, "bresenham, both ways", sheets::both_ways(at), "{at:?}");
     }
     for i in 0..14_000 {
         let side = if i % 20 == 0 { 1024 } else { 40 };
@@ -676,6 +677,17 @@ fn with_area(t: &mut Table, c: &Case, a: Area, draw: &mut Draw) {
         "{} {a:?} {points:?} {size} {index} {scratch} {out}",
         about(s)
     );
+    if c.no == 0 && !a.is_off(s.w, s.h) {
+        let mut point = || [draw.within(-1, 6) as i32, draw.within(-1, 6) as i32];
+        let events: Vec<Vec<i32>> = (0..3).map(|_| [point(), point()].concat()).collect();
+        let about = (about(s), a, &events, size, index);
+        tell!(
+            t,
+            "Stroke of `pencil`",
+            drawn::drag(c, a, &events, size, index),
+            "{about:?}"
+        );
+    }
     let pair = drawn::eraser(c, a, &points, size, n, n);
     let out = room(draw, &pair);
     tell!(t, "eraser", pair, "{} {a:?} {points:?} {size}", about(s));

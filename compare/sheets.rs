@@ -3,12 +3,13 @@
 
 use crate::calls::*;
 use crate::drawn::{looked, marked, sheet, with_bytes, Pair};
+use crate::lines;
 use crate::sheet::*;
 use pixelforge::color;
 use pixelforge::editor::op::normalize as rust_normalize;
 use pixelforge::editor::palette as rust_palette;
 use pixelforge::editor::selection::region as rust_region;
-use pixelforge::editor::tools::{self, Stroke};
+use pixelforge::editor::tools::Stroke;
 use pixelforge::editor::{Document, EditError, Op, Selection};
 
 pub fn check(c: &Case) -> Pair {
@@ -360,7 +361,7 @@ pub fn bresenham(at: [i32; 4], out: usize) -> Pair {
     let [ax, ay, bx, by] = at.map(i64::from);
     let no = first(&[(15, at.iter().any(|&z| far(z)))]);
     let expected = with_points(no, out, || {
-        tools::bresenham((ax, ay), (bx, by))
+        lines::bresenham((ax, ay), (bx, by))
             .iter()
             .flat_map(|&(x, y)| [x as i32, y as i32])
             .collect()
@@ -368,6 +369,17 @@ pub fn bresenham(at: [i32; 4], out: usize) -> Pair {
     let (mut list, mut r) = (vec![HALF; out], R);
     let no = call_bresenham(at[0], at[1], at[2], at[3], &mut list, &mut r);
     [expected, pointed(no, &r, &list)]
+}
+
+/// E4: ours from a to b, beside ours from b to a, reversed.
+pub fn both_ways([ax, ay, bx, by]: [i32; 4]) -> Pair {
+    let count = 1 + (ax - bx).abs().max((ay - by).abs()) as usize;
+    let (mut there, mut back) = (vec![HALF; 2 * count], vec![HALF; 2 * count]);
+    let (mut r, mut s) = (R, R);
+    let no = call_bresenham(ax, ay, bx, by, &mut there, &mut r);
+    let no_back = call_bresenham(bx, by, ax, ay, &mut back, &mut s);
+    let turned: Vec<i32> = back.chunks(2).rev().flatten().copied().collect();
+    [pointed(no_back, &s, &turned), pointed(no, &r, &there)]
 }
 
 fn listed(no: u8, r: &[usize], out: &[u64]) -> Vec<u64> {

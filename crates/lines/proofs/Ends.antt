@@ -28,13 +28,13 @@ point-first a b = by (ltb w v)
     v = side (a .y) (b .y)
 
     by : (t : Bool)
-        → cond t (point (toward (a .x) (b .x) (offset v w 0)) (toward (a .y) (b .y) 0)) (point (toward (a .x) (b .x) 0) (toward (a .y) (b .y) (offset w v 0)))
+        → cond t (point (toward (a .x) (b .x) (offset (a .x) (b .x) v 0)) (toward (a .y) (b .y) 0)) (point (toward (a .x) (b .x) 0) (toward (a .y) (b .y) (offset (a .y) (b .y) w 0)))
         ≡ a
-    by true = rw (offset-first v w, toward-none (a .x) (b .x), toward-none (a .y) (b .y))
-    by false = rw (offset-first w v, toward-none (a .x) (b .x), toward-none (a .y) (b .y))
+    by true = rw (offset-first (a .x) (b .x) v, toward-none (a .x) (b .x), toward-none (a .y) (b .y))
+    by false = rw (offset-first (a .y) (b .y) w, toward-none (a .x) (b .x), toward-none (a .y) (b .y))
 
 -- ---- the last
-toward-side : (a b : ℤ) → toward a b (side a b) ≡ b
+pub toward-side : (a b : ℤ) → toward a b (side a b) ≡ b
 unfolding toward side
 toward-side a b = by (ltZ b a) refl
   where
@@ -59,14 +59,14 @@ point-last a b = by (ltb w v) refl
     v = side (a .y) (b .y)
 
     by : (t : Bool) → ltb w v ≡ t
-        → cond t (point (toward (a .x) (b .x) (offset v w (max w v))) (toward (a .y) (b .y) (max w v))) (point (toward (a .x) (b .x) (max w v)) (toward (a .y) (b .y) (offset w v (max w v))))
+        → cond t (point (toward (a .x) (b .x) (offset (a .x) (b .x) v (max w v))) (toward (a .y) (b .y) (max w v))) (point (toward (a .x) (b .x) (max w v)) (toward (a .y) (b .y) (offset (a .y) (b .y) w (max w v))))
         ≡ b
     by true e =
         let m : max w v ≡ v = omega (arith, ltb-true w v e) in
-        rw (m, offset-last v w (omega (arith, ltb-true w v e)), toward-side (a .x) (b .x), toward-side (a .y) (b .y))
+        rw (m, offset-last (a .x) (b .x) v (omega (arith, ltb-true w v e)), toward-side (a .x) (b .x), toward-side (a .y) (b .y))
     by false e =
         let m : max w v ≡ w = omega (arith, ltb-false w v e) in
-        rw (m, offset-last w v (ltb-false w v e), toward-side (a .x) (b .x), toward-side (a .y) (b .y))
+        rw (m, offset-last (a .y) (b .y) w (ltb-false w v e), toward-side (a .x) (b .x), toward-side (a .y) (b .y))
 
 -- ---- a path, point by point
 pub line-after : (a b : Point) → drop 1 (lineOf a b) ≡ map (pointAt a b) (range 1 (longer a b))

@@ -5,7 +5,7 @@ use Prim.Native.Nat.{ℕ}
 use lib.IntN.{pos, negsuc}
 use lib.ListN.{length}
 use Rattle.lists.specs.Lists.{range}
-use Rattle.lines.specs.Line.{Point, point, side, toward, dividend, offset, longer, pointAt, lineOf}
+use Rattle.lines.specs.Line.{Point, point, side, toward, dividend, halfway, offset, longer, pointAt, lineOf}
 use Rattle.lines.specs.Brush.{clamped, covered, stampAt, onward, pathOf, stamped}
 
 abbrev pub at : ℕ → ℕ → Point
@@ -13,13 +13,13 @@ at x y = point (pos x) (pos y)
 
 -- "starred: proved together as a group"
 pub record Starred : Type 0 where
-  -- "(0,0)-(2,1): (0,0),(1,1),(2,1)"
-  pub forth : lineOf (at 0 0) (at 2 1) ≡ at 0 0 ∷ at 1 1 ∷ at 2 1 ∷ []
+  -- E4: "In 01 the first example becomes (0,0),(1,0),(2,1)"
+  pub forth : lineOf (at 0 0) (at 2 1) ≡ at 0 0 ∷ at 1 0 ∷ at 2 1 ∷ []
   -- "Back: (2,1),(1,0),(0,0)"
   pub back : lineOf (at 2 1) (at 0 0) ≡ at 2 1 ∷ at 1 0 ∷ at 0 0 ∷ []
 
 pub starred : Starred
-unfolding range side toward dividend offset longer pointAt lineOf
+unfolding range side toward dividend halfway offset longer pointAt lineOf
 starred = record { forth = refl; back = refl }
 
 record Examples : Type 0 where
@@ -39,7 +39,7 @@ record Examples : Type 0 where
   none : stamped 8 [] ≡ []
 
 examples : Examples
-unfolding range flatMap side toward dividend offset longer pointAt lineOf clamped covered stampAt onward pathOf stamped
+unfolding range flatMap side toward dividend halfway offset longer pointAt lineOf clamped covered stampAt onward pathOf stamped
 examples =
     record {
       one-point = refl;

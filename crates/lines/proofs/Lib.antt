@@ -3,4 +3,5 @@ pub mod Toward
 pub mod Walks
 pub mod Points
 pub mod Ends
+pub mod Alike
 pub mod Examples

@@ -26,7 +26,7 @@ unfolding farPoint
 near {p} e = record { across = or-left (far (p .x)) (far (p .y)) e; down = or-right (far (p .x)) (far (p .y)) e }
 
 -- ---- a walk's place is the closed form's
-point-by-axes : (a b : Point) (j : ℕ) → j ≤ longer a b → standing (walkAt a b j) ≡ pointAt a b j
+pub point-by-axes : (a b : Point) (j : ℕ) → j ≤ longer a b → standing (walkAt a b j) ≡ pointAt a b j
 unfolding walkAt axisAt pointAt longer
 point-by-axes a b j h = by (ltb w v) refl
   where
@@ -37,14 +37,14 @@ point-by-axes a b j h = by (ltb w v) refl
     v = side (a .y) (b .y)
 
     by : (t : Bool) → ltb w v ≡ t
-        → point (toward (a .x) (b .x) (offset (max w v) w j)) (toward (a .y) (b .y) (offset (max w v) v j))
-        ≡ cond t (point (toward (a .x) (b .x) (offset v w j)) (toward (a .y) (b .y) j)) (point (toward (a .x) (b .x) j) (toward (a .y) (b .y) (offset w v j)))
+        → point (toward (a .x) (b .x) (offset (a .x) (b .x) (max w v) j)) (toward (a .y) (b .y) (offset (a .y) (b .y) (max w v) j))
+        ≡ cond t (point (toward (a .x) (b .x) (offset (a .x) (b .x) v j)) (toward (a .y) (b .y) j)) (point (toward (a .x) (b .x) j) (toward (a .y) (b .y) (offset (a .y) (b .y) w j)))
     by true e =
         let m : max w v ≡ v = omega (arith, ltb-true w v e) in
-        rw (m, offset-longer v j (omega arith))
+        rw (m, offset-longer (a .y) (b .y) j (omega arith))
     by false e =
         let m : max w v ≡ w = omega (arith, ltb-false w v e) in
-        rw (m, offset-longer w j (omega arith))
+        rw (m, offset-longer (a .x) (b .x) j (omega arith))
 
 pub stands-point : {a b : Point} {j : ℕ} {w : Walk} → StandsAt a b j w → standing w ≡ pointAt a b j
 stands-point {a} {b} {j} s = ap (λ (v : Walk). standing v) (s .is) ∙ point-by-axes a b j (s .low)
@@ -61,8 +61,8 @@ stands-small {a} {b} {j} s =
     let h = s .low in
     let m = longer a b in
     rw (s .is) (record {
-      across = omega (arith, near-abs (a .x) (s .near-start .across), toward-abs (a .x) (b .x) (offset m (side (a .x) (b .x)) j), offset-few m (side (a .x) (b .x)) j (omega arith));
-      down = omega (arith, near-abs (a .y) (s .near-start .down), toward-abs (a .y) (b .y) (offset m (side (a .y) (b .y)) j), offset-few m (side (a .y) (b .y)) j (omega arith));
+      across = omega (arith, near-abs (a .x) (s .near-start .across), toward-abs (a .x) (b .x) (offset (a .x) (b .x) m j), offset-few (a .x) (b .x) m j (omega arith));
+      down = omega (arith, near-abs (a .y) (s .near-start .down), toward-abs (a .y) (b .y) (offset (a .y) (b .y) m j), offset-few (a .y) (b .y) m j (omega arith));
     })
 
 -- ---- the first n points

@@ -12,17 +12,17 @@ use Rattle.ints.proofs.Back.{near-abs}
 use Rattle.ints.proofs.Sums.{sum-fits}
 use Rattle.lines.specs.declared.Axis.{Axis}
 use Rattle.lines.specs.declared.Walk.{Walk}
-use Rattle.lines.specs.Line.{Point, Near, side, dividend, offset, longer}
-use Rattle.lines.specs.Walk.{direction, axisAt, walkAt, StandsAt, Walking, Fit}
+use Rattle.lines.specs.Line.{Point, Near, side, offset, longer}
+use Rattle.lines.specs.Walk.{direction, half, axisAt, walkAt, StandsAt, Walking, Fit}
 use Rattle.lines.proofs.Offsets.{offset-first, rest-first, offset-same, rest-more, offset-more, rest-less, offset-few}
 use Rattle.lines.proofs.Toward.{toward-none, toward-next, toward-abs, direction-abs, side-abs, small}
 
 abbrev made : ℤ → ℤ → ℕ → ℕ → Axis
 made at step side rest = record { at = at; step = step; side = side; rest = rest }
 
-pub axis-first : (a b : ℤ) (m : ℕ) → made a (direction a b) (side a b) m ≡ axisAt a b m 0
+pub axis-first : (a b : ℤ) (m : ℕ) → made a (direction a b) (side a b) (half a b m) ≡ axisAt a b m 0
 unfolding axisAt
-axis-first a b m = rw (offset-first m (side a b), toward-none a b, rest-first m (side a b))
+axis-first a b m = rw (offset-first a b m, toward-none a b, rest-first a b m)
 
 -- ---- the next place
 pub axis-stays : (m : ℕ) (c : Axis) → c .rest + 2 * c .side < 2 * m → (a b : ℤ) (j : ℕ) → c ≡ axisAt a b m j
@@ -30,7 +30,7 @@ pub axis-stays : (m : ℕ) (c : Axis) → c .rest + 2 * c .side < 2 * m → (a b
 unfolding axisAt
 axis-stays m c h a b j e =
     let k = rw e at h in
-    rw (e, offset-same m (side a b) j k, rest-more m (side a b) j k)
+    rw (e, offset-same a b m j k, rest-more a b m j k)
 
 pub axis-moves : (m : ℕ) (c : Axis) → 2 * m ≤ c .rest + 2 * c .side → Fit c m → (a b : ℤ) (j : ℕ) → c ≡ axisAt a b m j
     → made (c .at +ℤ c .step) (c .step) (c .side) (c .rest + 2 * c .side - 2 * m) ≡ axisAt a b m (j + 1)
@@ -38,8 +38,8 @@ unfolding axisAt
 axis-moves m c h f a b j e =
     let k = rw e at h in
     let s : side a b ≤ m = rw e at (f .side) in
-    let r : dividend m (side a b) j % (2 * m) < 2 * m = rw e at (f .rest) in
-    rw (e, offset-more m (side a b) j k s r, rest-less m (side a b) j k s r, toward-next a b (offset m (side a b) j))
+    let r : (2 * (j * side a b) + half a b m) % (2 * m) < 2 * m = rw e at (f .rest) in
+    rw (e, offset-more a b m j k s r, rest-less a b m j k s r, toward-next a b (offset a b m j))
 
 -- ---- what fits
 pub record Moves (c : Axis) : Type 0 where
@@ -58,10 +58,10 @@ unfolding axisAt
 axis-fits a b m j p q s l h =
     let k = near-abs a p in
     record {
-      at = omega (arith, toward-abs a b (offset m (side a b) j), offset-few m (side a b) j s);
+      at = omega (arith, toward-abs a b (offset a b m j), offset-few a b m j s);
       step = direction-abs a b;
       side = s;
-      rest = mod-lt (dividend m (side a b) j) (omega arith);
+      rest = mod-lt (2 * (j * side a b) + half a b m) (omega arith);
       steps = omega arith;
     }
 

@@ -1,25 +1,30 @@
 -- Where a walk along a line stands, and what its steps ask of their callers. Definitions only. Assumes nothing.
 use mathlib.Core.Path.{_≡_}
 use mathlib.Core.Bool.{cond}
-use Prim.Native.Nat.{ℕ, _*_, _%_, _^_, _<_, _≤_}
+use Prim.Native.Nat.{ℕ, _+_, _-_, _*_, _%_, _^_, _<_, _≤_}
 use lib.IntN.{ℤ, pos, negsuc, natAbs}
 use lib.Signed.{ltZ}
 use Rattle.lines.specs.declared.Axis.{Axis}
 use Rattle.lines.specs.declared.Walk.{Walk}
-use Rattle.lines.specs.Line.{Point, point, Near, side, toward, dividend, offset, longer}
+use Rattle.lines.specs.Line.{Point, point, Near, side, toward, offset, longer}
 
 -- one place from a toward b
 unfoldable pub direction : ℤ → ℤ → ℤ
 direction a b = cond (ltZ b a) (negsuc 0) (pos 1)
 
+-- what an axis of a line with longer side m begins with: half the divisor, so that the quotient is rounded, and one less toward greater coordinates, so that an
+-- exact half is rounded down there
+unfoldable pub half : ℤ → ℤ → ℕ → ℕ
+half a b m = cond (ltZ a b) (m - 1) m
+
 -- one axis of a line with longer side m after j steps: its offset, and what the division leaves
 unfoldable pub axisAt : ℤ → ℤ → ℕ → ℕ → Axis
 axisAt a b m j =
     record {
-      at = toward a b (offset m (side a b) j);
+      at = toward a b (offset a b m j);
       step = direction a b;
       side = side a b;
-      rest = dividend m (side a b) j % (2 * m);
+      rest = (2 * (j * side a b) + half a b m) % (2 * m);
     }
 
 -- both axes of the line from a to b after j steps

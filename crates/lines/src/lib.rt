@@ -2,13 +2,14 @@
 //
 // A line goes as many steps as its longer side is long. Each axis is walked by itself: at every step its
 // side is added to what the closed form's division left, and where that makes a whole place, it moves.
+use ints::saturating_sub;
 ghost use mathlib.Core.Path.{_≡_};
 ghost use mathlib.Core.Bool.{false};
 ghost use Prim.Native.Nat.{ℕ, _+_, _<_, max};
 ghost use lib.IntN.{ℤ};
 ghost use Rattle.ints.specs.Ints.{far};
 ghost use Rattle.lines.specs.Line.{Point, point, Near, side, longer};
-ghost use Rattle.lines.specs.Walk.{direction, axisAt, StandsAt, Walking, Fit};
+ghost use Rattle.lines.specs.Walk.{direction, half, axisAt, StandsAt, Walking, Fit};
 
 // One axis of a walk: where it is, one place toward the end, the line's side here, and the rest of the
 // division by twice the longer side.
@@ -85,8 +86,16 @@ fn begin_axis(a: i32, b: i32, m: usize) -> Axis
         at: a,
         step: direction(a, b),
         side: side(a, b),
-        rest: m,
+        rest: half(a, b, m),
     }
+}
+
+// The rest that an axis begins with: m, half of what a place is counted in, and one less toward greater
+// coordinates, where an exact half stays below.
+fn half(a: i32, b: i32, m: usize) -> usize
+    ensures { λ r. ⌜ r ≡ half a b m ⌝ }
+{
+    if a < b { saturating_sub(m, 1) } else { m }
 }
 
 // How far it is from a to b.

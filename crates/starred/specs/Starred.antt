@@ -25,8 +25,8 @@ abbrev pub firstTwo : Selection
 firstTwo = record { x = 0; y = 0; w = 2; h = 1 }
 
 pub record Starred : Type 0 where
-  -- "(0,0)-(2,1): (0,0),(1,1),(2,1)"
-  pub forth : lineOf (at 0 0) (at 2 1) ≡ at 0 0 ∷ at 1 1 ∷ at 2 1 ∷ []
+  -- "(0,0)-(2,1)", which E4 makes (0,0),(1,0),(2,1)
+  pub forth : lineOf (at 0 0) (at 2 1) ≡ at 0 0 ∷ at 1 0 ∷ at 2 1 ∷ []
   -- "Back: (2,1),(1,0),(0,0)"
   pub back : lineOf (at 2 1) (at 0 0) ≡ at 2 1 ∷ at 1 0 ∷ at 0 0 ∷ []
   -- "Normalise (1,0,0→2),(0,0,1→1),(1,0,2→5): (1,0,0→5)"
