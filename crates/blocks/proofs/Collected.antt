@@ -9,7 +9,7 @@ use Rattle.lists.proofs.Collect.{range-append, flatMap-append}
 use Rattle.spans.specs.Positions.{Position, position, row}
 use Rattle.selection.specs.declared.Selection.{Selection}
 use Rattle.selection.specs.Selection.{positions}
-use Rattle.lists.proofs.Each.{all-append}
+use Rattle.lists.proofs.Each.{all-of, all-flat, all-in-range}
 
 module _ {A : Type 0} (f : ℕ → List A) where
   pub none-collected : (start count : ℕ) → ((i : ℕ) → start ≤ i → i < start + count → f i ≡ []) → flatMap f (range start count) ≡ []
@@ -70,12 +70,7 @@ by-rows f s = twice f (row (s .x) (s .w)) (range (s .y) (s .h)) ∙ collected-al
 -- ---- what all of them have
 module _ {B : Type 0} (P : B → Type 0) where
   pub all-collected : {A : Type 0} (f : A → List B) → ((x : A) → All P (f x)) → (l : List A) → All P (flatMap f l)
-  unfolding flatMap All
-  all-collected f h [] = tt
-  all-collected f h (x ∷ l) = all-append P (f x) (flatMap f l) (h x) (all-collected f h l)
+  all-collected f h l = all-flat P f l (all-of h l)
 
   pub all-range : (f : ℕ → List B) (start count : ℕ) → ((i : ℕ) → start ≤ i → i < start + count → All P (f i)) → All P (flatMap f (range start count))
-  unfolding range flatMap All
-  all-range f start zero h = tt
-  all-range f start (suc count) h =
-      all-append P (f start) (flatMap f (range (suc start) count)) (h start (omega arith) (omega arith)) (all-range f (suc start) count (λ i a b. h i (omega arith) (omega arith)))
+  all-range f start count h = all-flat P f (range start count) (all-in-range (λ i. All P (f i)) start count h)

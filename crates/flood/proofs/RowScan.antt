@@ -99,7 +99,7 @@ module _ (w : ℕ) (z : 0 < w) (small : w ≤ 65536) (old new : ℤ) where
   unfolding keyOf changeAt
   key-at p = refl
 
-  key-less : (i p : ℕ) → i < p → keyOf (changeAt w old new i) < keyOf (changeAt w old new p)
+  pub key-less : (i p : ℕ) → i < p → keyOf (changeAt w old new i) < keyOf (changeAt w old new p)
   key-less i p h =
       let d : i / w ≤ p / w = le-div-iff-mul-le z .1 (omega (arith, div-add-mod' i w)) in
       let ri : i % w < w = mod-lt i z in

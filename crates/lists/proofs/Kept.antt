@@ -43,3 +43,12 @@ kept-few p (x ∷ l) = go (p x) (kept-few p l)
     go : (b : Bool) → length (kept p l) ≤ length l → length (cond b (x ∷ kept p l) (kept p l)) ≤ length (x ∷ l)
     go true k = omega arith
     go false k = omega arith
+
+pub all-kept : {A : Type 0} (P : A → Type 0) (p : A → Bool) (l : List A) → All P l → All P (kept p l)
+unfolding All kept
+all-kept P p [] h = tt
+all-kept P p (x ∷ l) h = go (p x) (all-kept P p l (h .1))
+  where
+    go : (b : Bool) → All P (kept p l) → All P (cond b (x ∷ kept p l) (kept p l))
+    go true k = (h .0, k)
+    go false k = k

@@ -12,11 +12,11 @@ use lib.IntN.{ℤ, pos}
 use lib.ListN.{length, getD}
 use borrow.Author.Tests.{eq-eqb, ne-eqb}
 use Rattle.lists.specs.Lists.{range, kept, All}
-use Rattle.lists.proofs.Kept.{kept-append}
+use Rattle.lists.proofs.Kept.{kept-append, all-kept}
 use Rattle.selection.specs.declared.Selection.{Selection}
 use Rattle.selection.specs.Selection.{contains}
 use Rattle.edits.specs.Change.{Change, place}
-use Rattle.lists.proofs.Each.{all-append}
+use Rattle.lists.proofs.Each.{all-flat, all-in-range}
 use Rattle.normal.specs.Normal.{keyOf}
 use Rattle.normal.specs.Laws.{On, atPlace}
 use Rattle.tiling.specs.Tile.{turned}
@@ -40,20 +40,6 @@ at-flat : {A : Type 0} (k : ℕ) (f : A → List Change) (xs : List A) → atPla
 unfolding flatMap atPlace kept
 at-flat k f [] = refl
 at-flat k f (x ∷ xs) = kept-append (λ e. eqb k (keyOf e)) (f x) (flatMap f xs) ∙ ap (kept (λ e. eqb k (keyOf e)) (f x) ++_) (at-flat k f xs)
-
-pub all-flat : {A B : Type 0} (Q : A → Type 0) (P : B → Type 0) (f : A → List B) (xs : List A) → All Q xs → ((x : A) → Q x → All P (f x)) → All P (flatMap f xs)
-unfolding All flatMap
-all-flat Q P f [] a g = tt
-all-flat Q P f (x ∷ xs) a g = all-append P (f x) (flatMap f xs) (g x (a .0)) (all-flat Q P f xs (a .1) g)
-
-all-below : (T : ℕ → Bool) (n i k : ℕ) → i + k ≤ n → All (λ o. o < n) (kept T (range i k))
-unfolding All kept range
-all-below T n i zero h = tt
-all-below T n i (suc k) h = pick (T i) (all-below T n (suc i) k (omega arith))
-  where
-    pick : (b : Bool) → All (λ o. o < n) (kept T (range (suc i) k)) → All (λ o. o < n) (cond b (i ∷ kept T (range (suc i) k)) (kept T (range (suc i) k)))
-    pick true a = (omega arith, a)
-    pick false a = a
 
 -- a list whose elements are none but at P
 module _ {A : Type 0} (T : ℕ → Bool) (g : ℕ → List A) (P N : ℕ) (others : (o : ℕ) → o < N → (o ≡ P → ⊥) → g o ≡ []) where
@@ -308,7 +294,7 @@ module _ (w h t : ℕ) (l : List ℤ) (d : Tiled w h t l) (wide : 0 < w / t) (re
 
     pub copies-on : All (On w h) (copiesOf w t l region e c)
     unfolding copiesOf instances
-    copies-on = rw entries-long (all-flat (λ o. o < N) (On w h) (copyIn w t l region e c) (kept T₀ (range 0 N)) (all-below T₀ N 0 N (omega arith)) copy-on)
+    copies-on = rw entries-long (all-flat (On w h) (copyIn w t l region e c) (kept T₀ (range 0 N)) (all-kept (λ o. All (On w h) (copyIn w t l region e c o)) T₀ (range 0 N) (all-in-range (λ o. All (On w h) (copyIn w t l region e c o)) 0 N (λ o a b. copy-on o (omega arith)))))
       where
         T₀ : ℕ → Bool
         T₀ o = eqb (entryIn e o .tile) (entryIn e cell .tile) && not (eqb o cell)

@@ -19,7 +19,7 @@ use Rattle.lists.proofs.Collect.{flatMap-append, flatMap-one}
 use Rattle.selection.specs.declared.Selection.{Selection}
 use Rattle.selection.specs.Selection.{contains}
 use Rattle.edits.specs.Change.{Change, packed, unpacked, place}
-use Rattle.lists.proofs.Each.{all-append}
+use Rattle.lists.proofs.Each.{all-append, all-map, all-flat}
 use Rattle.normal.specs.Normal.{keyOf, changing}
 use Rattle.normal.specs.Laws.{On, atPlace, firstLast}
 use Rattle.tiling.specs.Cells.{cellCount, codeOf, firstCells}
@@ -34,7 +34,7 @@ use Rattle.mirroring.proofs.Places.{flat-same, keyAt, key-place, key-sa
 use Rattle.mirroring.proofs.AtPlace.{copies, own, copyTo, all-waiting, waiting-landed}
 use Rattle.mirroring.proofs.Written.{emitted-is}
 use Rattle.mirroring.proofs.Coordinates.{place-cell, class-in}
-use Rattle.mirroring.proofs.Copies.{all-flat, copies-at, copies-on}
+use Rattle.mirroring.proofs.Copies.{copies-at, copies-on}
 
 pub map-flat : {A : Type 0} (f : Change → ℕ) (g : A → List Change) (l : List A) → map f (flatMap g l) ≡ flatMap (λ x. map f (g x)) l
 unfolding flatMap
@@ -129,7 +129,7 @@ module _ (w h t : ℕ) (l : List ℤ) (list : List ℕ) (region : Selection) (m 
   raw-on =
       let a : All (On w h) (map unpacked list) = rw upto-all at (all-on n (omega arith)) in
       all-append (On w h) (flatMap (copiesOf w t l region (extractOf w h t l)) (map unpacked list)) (map unpacked list)
-      (all-flat (On w h) (On w h) (copiesOf w t l region (extractOf w h t l)) (map unpacked list) a (λ c o. copies-on w h t l (m .tiled) columns region c o)) a
+      (all-flat (On w h) (copiesOf w t l region (extractOf w h t l)) (map unpacked list) (all-map (λ c o. copies-on w h t l (m .tiled) columns region c o) (map unpacked list) a)) a
 
   -- ---- at one place
   module _ (key : ℕ → ℕ) (key-is : (j : ℕ) → j < n → key j ≡ classOf w t l (placeAt w list j)) (p : ℕ) (b : p < N) where

@@ -10,9 +10,10 @@ use borrow.Author.Tests.{eq-eqb, ne-eqb}
 use Rattle.lists.specs.Lists.{range, kept, All}
 use Rattle.edits.specs.Change.{Change, place}
 use Rattle.lists.proofs.Each.{all-map}
+use Rattle.lists.proofs.Kept.{all-kept}
 use Rattle.normal.specs.Normal.{keyOf, entered, changing, normalizeOf}
 use Rattle.normal.specs.Laws.{On, Ordered, atPlace, firstLast}
-use Rattle.normal.proofs.Shortest.{all-kept, normal-ordered, inside, on-entered}
+use Rattle.normal.proofs.Shortest.{normal-ordered, inside, on-entered}
 use Rattle.normal.proofs.ByPlace.{normal-place}
 use Rattle.normal.proofs.Pictures.{all-later}
 

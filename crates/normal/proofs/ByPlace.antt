@@ -124,7 +124,12 @@ entered-ordered m [] o = sym (append-nil m)
 entered-ordered m (c ∷ cs) o =
     ap (λ (x : List Change). entered x cs) (enter-last c m (below m c cs o)) ∙ entered-ordered (m ++ (c ∷ [])) cs (rw (append-assoc m (c ∷ []) cs) o) ∙ append-assoc m (c ∷ []) cs
 
+-- a list in order, each of which changes something, is its own normal form
+pub normal-itself : (cs : List Change) → Ordered cs → All (λ c. changing c ≡ true) cs → normalizeOf cs ≡ cs
+unfolding normalizeOf
+normal-itself cs o a = ap (kept changing) (entered-ordered [] cs o) ∙ kept-all changing cs a
+
 -- normalised again, a normal form is the same
 pub normal-again : (cs : List Change) → normalizeOf (normalizeOf cs) ≡ normalizeOf cs
 unfolding normalizeOf
-normal-again cs = ap (kept changing) (entered-ordered [] (kept changing (entered [] cs)) (normal-ordered cs)) ∙ kept-all changing (kept changing (entered [] cs)) (all-changing (entered [] cs))
+normal-again cs = normal-itself (kept changing (entered [] cs)) (normal-ordered cs) (all-changing (entered [] cs))

@@ -22,6 +22,7 @@ use Rattle.ints.proofs.Back.{eqZ-same, same-index}
 use Rattle.edits.proofs.Painting.{painted-length}
 use Rattle.sorting.proofs.Order.{less, same, more, tri}
 use Rattle.lists.proofs.Each.{all-map}
+use Rattle.lists.proofs.Kept.{all-kept}
 use Rattle.normal.specs.Normal.{keyOf, joined, enter, entered, changing, normalizeOf}
 use Rattle.normal.specs.Laws.{On, FirstOlds, Ordered, differing}
 use Rattle.normal.proofs.Group.{enter-less, enter-same, enter-more, key-joined}
@@ -67,15 +68,6 @@ module _ (P : Change → Type 0) where
     | same q ↦ rw (enter-same c e m q) (joins e c (h .0), h .1)
     | more q ↦ rw (enter-more c e m q) (h .0, all-enter joins c m p (h .1))
   ]
-
-  pub all-kept : (t : Change → Bool) (m : List Change) → All P m → All P (kept t m)
-  unfolding All kept
-  all-kept t [] h = tt
-  all-kept t (e ∷ m) h = pick (t e) (all-kept t m (h .1))
-    where
-      pick : (b : Bool) → All P (kept t m) → All P (cond b (e ∷ kept t m) (kept t m))
-      pick true k = (h .0, k)
-      pick false k = k
 
 -- ---- in order
 
