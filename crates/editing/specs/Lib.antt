@@ -1,4 +1,5 @@
 pub mod Editing
+pub mod Handed
 pub mod Demand3
 pub mod Calls
 pub mod Replay

@@ -9,6 +9,7 @@ pub mod Checks
 pub mod Push
 pub mod Moves
 pub mod Struck
+pub mod Scratch
 pub mod Whole
 pub mod Full
 pub mod Need

@@ -10,10 +10,10 @@ use lib.Dec.{ltb}
 use borrow.Author.Tests.{ltb-true, ltb-false}
 use Rattle.limits.specs.Limits.{maxJournal}
 use Rattle.limits.specs.declared.Answer.{Answer}
-use Rattle.ledger.specs.Calls.{Call, play}
+use Rattle.ledger.specs.Calls.{Call, play, lend}
 use Rattle.ledger.specs.Algebra.{Algebra, WellFormed}
 use Rattle.ledger.specs.Laws.{Laws}
-use Rattle.ledger.specs.Journal.{opened, step}
+use Rattle.ledger.specs.Journal.{opened, stepLent}
 use Rattle.ledger.specs.Demand.{isFull, TypedCalls}
 use Rattle.ledger.proofs.Trace.{begin, begins}
 use Rattle.ledger.proofs.Tally.{Tally, tallyOf, wants, next, turn, turn-full, turn-fits}
@@ -52,15 +52,15 @@ module _ (A : Algebra) where
             rw (turn-fits A n t c fits, enter-unstruck A L (t .ledger) c) (later (omega arith))
 
   module _ (L : Laws A) where
-    pub journal-needed : (s : Sheet) → WellFormed A s → (journal : List ℕ) → length journal ≤ maxJournal → (room : ℕ) → places (view s) ≤ room
+    pub journal-needed : (s : Sheet) → WellFormed A s → (journal : List ℕ) → length journal ≤ maxJournal → (rooms : ℕ → ℕ) → ((i : ℕ) → places (view s) ≤ rooms i)
         → (calls : List (Call Edit)) → TypedCalls A calls
-        → let answers = play (step A room) (opened A s journal) calls .answers in
+        → let answers = play (stepLent A) (opened A s journal) (lend rooms calls) .answers in
         let least = need (tallyOf A (begin A s [])) calls in
         (least ≤ length journal → anyFull answers ≡ false) × (length journal < least → anyFull answers ≡ true)
-    journal-needed s w journal b room c calls ts =
+    journal-needed s w journal b rooms c calls ts =
         let n = length journal in
         let t = tallyOf A (begin A s journal) in
-        let one = runs A L room n b calls ts (begin A s journal) (begins A s journal room w c) in
+        let one = runs A L (places (view s)) n b rooms c calls ts (begin A s journal) (begins A s journal (places (view s)) w (omega arith)) in
         let code = ap (λ ran. anyFull (ran .answers)) (one .code) in
         let tally = ap (λ ran. anyFull (ran .answers)) (one .tally) in
         ((λ h. code ∙ sym tally ∙ enough L n calls t h), (λ h. code ∙ sym tally ∙ short L n calls t h))

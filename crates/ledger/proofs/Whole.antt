@@ -3,16 +3,16 @@
 use mathlib.Core.Path.{_≡_, refl, sym, ap, subst, _∙_}
 use mathlib.Core.Bool.{Bool, true, false, cond}
 use mathlib.Core.List.{List, [], _∷_}
-use Prim.Native.Nat.{ℕ, _≤_}
+use Prim.Native.Nat.{ℕ, suc, _≤_}
 use native.Mathlib.Omega.{arith}
 use lib.ListN.{length}
 use Rattle.limits.specs.Limits.{maxJournal}
 use Rattle.limits.specs.declared.Answer.{Answer}
-use Rattle.ledger.specs.Calls.{Call, play}
+use Rattle.ledger.specs.Calls.{Call, play, lend}
 use Rattle.ledger.specs.Calls.Call.{push, undo, redo, mark}
 use Rattle.ledger.specs.Algebra.{Algebra}
 use Rattle.ledger.specs.Laws.{Laws}
-use Rattle.ledger.specs.Journal.{opened, step}
+use Rattle.ledger.specs.Journal.{opened, stepLent}
 use Rattle.ledger.specs.Ledger.{begun, enter}
 use Rattle.ledger.specs.Demand.{isFull, unstruck, Matches, SameHistory, WholeHistory, TypedCall, TypedCalls}
 use Rattle.ledger.proofs.Struck.{Kept, kept}
@@ -23,16 +23,17 @@ use Rattle.ledger.proofs.Tally.{tallyOf, turn, Stepped}
 use Rattle.ledger.proofs.Checks.{push-checks}
 use Rattle.ledger.proofs.Push.{sim-push}
 use Rattle.ledger.proofs.Moves.{sim-undo, sim-redo, sim-mark}
+use Rattle.ledger.proofs.Scratch.{any-room}
 
 module _ (A : Algebra) (L : Laws A) where
-  open Algebra A using (Sheet, Edit, view)
+  open Algebra A using (Sheet, Edit, view, places)
 
-  -- ---- the journal and the tally
-  pub record Ran (room n : ℕ) (k : Trace A) (cs : List (Call Edit)) : Type 0 where
+  -- ---- the journal and the tally; `room` places of scratch are enough, and each call may have more
+  pub record Ran (room n : ℕ) (rooms : ℕ → ℕ) (k : Trace A) (cs : List (Call Edit)) : Type 0 where
     pub answers : List Answer
     pub to : Trace A
     pub holds : Holds A room n to
-    pub code : play (step A room) (stateOf A k) cs ≡ played answers (stateOf A to)
+    pub code : play (stepLent A) (stateOf A k) (lend rooms cs) ≡ played answers (stateOf A to)
     pub tally : play (turn A n) (tallyOf A k) cs ≡ played answers (tallyOf A to)
 
   module _ (room n : ℕ) (permitted : n ≤ maxJournal) where
@@ -42,17 +43,19 @@ module _ (A : Algebra) (L : Laws A) where
     sim k h redo t = sim-redo A L room n permitted k h
     sim k h mark t = sim-mark A L room n permitted k h
 
-    pub runs : (cs : List (Call Edit)) → TypedCalls A cs → (k : Trace A) → Holds A room n k → Ran room n k cs
-    unfolding play
-    runs [] ts k h = record { answers = []; to = k; holds = h; code = refl; tally = refl }
-    runs (c ∷ cs) ts k h =
+    pub runs : (rooms : ℕ → ℕ) → ((i : ℕ) → room ≤ rooms i) → (cs : List (Call Edit)) → TypedCalls A cs → (k : Trace A) → Holds A room n k → Ran room n rooms k cs
+    unfolding play lend
+    runs rooms b [] ts k h = record { answers = []; to = k; holds = h; code = refl; tally = refl }
+    runs rooms b (c ∷ cs) ts k h =
         let now = sim k h c (ts .0) in
-        let later = runs cs (ts .1) (now .to) (now .holds) in
+        let others : ℕ → ℕ = λ i. rooms (suc i) in
+        let later = runs others (λ i. b (suc i)) cs (ts .1) (now .to) (now .holds) in
+        let code = any-room A (rooms 0) room (stateOf A k) c (omega (arith, h .scratch, b 0)) (h .scratch) ∙ now .code in
         record {
           answers = now .answer ∷ later .answers;
           to = later .to;
           holds = later .holds;
-          code = play-cons (step A room) (stateOf A k) c cs (now .code) ∙ ap (onward (now .answer)) (later .code);
+          code = play-cons (stepLent A) (stateOf A k) (record { call = c; room = rooms 0 }) (lend others cs) code ∙ ap (onward (now .answer)) (later .code);
           tally = play-cons (turn A n) (tallyOf A k) c cs (now .tally) ∙ ap (onward (now .answer)) (later .tally);
         }
 
@@ -76,30 +79,33 @@ module _ (A : Algebra) (L : Laws A) where
       go false more = (ts .0, more)
 
   -- ---- two runs, the second of the calls that the first leaves, and the ledger
-  module _ (s : Sheet) (room n room′ n′ : ℕ) (shorter longer : List ℕ) (calls : List (Call Edit))
-      (one : Ran room n (begin A s shorter) calls) (two : Ran room′ n′ (begin A s longer) (unstruck calls (one .answers)))
+  module _ (s : Sheet) (room n n′ : ℕ) (rooms rooms′ : ℕ → ℕ) (shorter longer : List ℕ) (calls : List (Call Edit))
+      (one : Ran room n rooms (begin A s shorter) calls) (two : Ran room n′ rooms′ (begin A s longer) (unstruck calls (one .answers)))
       (both : Kept A L n′ (tallyOf A (begin A s shorter)) calls (played (one .answers) (tallyOf A (one .to)))) where
     same : played (two .answers) (tallyOf A (two .to)) ≡ played (unstruck (one .answers) (one .answers)) (tallyOf A (one .to))
     same = sym (two .tally) ∙ both .longer
 
     compared : n ≤ maxJournal → n′ ≤ maxJournal
-        → let first = play (step A room) (opened A s shorter) calls in
+        → let first = play (stepLent A) (opened A s shorter) (lend rooms calls) in
         let left = unstruck calls (first .answers) in
-        SameHistory A (unstruck (first .answers) (first .answers)) first (play (step A room′) (opened A s longer) left) (play (enter A) (begun A (view s)) left)
+        let second = play (stepLent A) (opened A s longer) (lend rooms′ left) in
+        SameHistory A (unstruck (first .answers) (first .answers)) first second (play (enter A) (begun A (view s)) left)
     compared b b′ =
         rw (one .code, two .code, both .booked)
         (record {
           second-answers = ap (λ ran. ran .answers) same;
           ledger-answers = refl;
           first-ends = matches room n (one .to) b (one .holds);
-          second-ends = subst (λ l. Matches A (stateOf A (two .to)) l) (ap (λ ran. ran .ends .ledger) same) (matches room′ n′ (two .to) b′ (two .holds));
+          second-ends = subst (λ l. Matches A (stateOf A (two .to)) l) (ap (λ ran. ran .ends .ledger) same) (matches room n′ (two .to) b′ (two .holds));
         })
 
   pub whole-history : WholeHistory A
-  whole-history s w shorter longer b b′ room room′ c c′ calls ts =
+  whole-history s w shorter longer b b′ rooms rooms′ c c′ calls ts =
+      let room = places (view s) in
       let n = length shorter in
       let n′ = length longer in
       let t = tallyOf A (begin A s shorter) in
-      let one = runs room n (omega arith) calls ts (begin A s shorter) (begins A s shorter room w c) in
-      let two = runs room′ n′ b′ (unstruck calls (one .answers)) (unstruck-typed calls (one .answers) ts) (begin A s longer) (begins A s longer room′ w c′) in
-      compared s room n room′ n′ shorter longer calls one two (subst (Kept A L n′ t calls) (one .tally) (kept A L n n′ b calls t)) (omega arith) b′
+      let one = runs room n (omega arith) rooms c calls ts (begin A s shorter) (begins A s shorter room w (omega arith)) in
+      let left = unstruck calls (one .answers) in
+      let two = runs room n′ b′ rooms′ c′ left (unstruck-typed calls (one .answers) ts) (begin A s longer) (begins A s longer room w (omega arith)) in
+      compared s room n n′ rooms rooms′ shorter longer calls one two (subst (Kept A L n′ t calls) (one .tally) (kept A L n n′ b calls t)) (omega arith) b′

@@ -1,7 +1,7 @@
 -- Calls, their answers, and a list of calls one after the other, over any state. Definitions only. Assumes nothing.
 use mathlib.Core.Bool.{true}
 use mathlib.Core.List.{List, [], _∷_}
-use Prim.Native.Nat.{ℕ}
+use Prim.Native.Nat.{ℕ, suc}
 use Rattle.limits.specs.Checks.{Check, _when_, checked}
 use Rattle.limits.specs.declared.Answer.{Answer}
 use Rattle.limits.specs.declared.Answer.the-variants.{Done, Still, Refused}
@@ -46,3 +46,13 @@ play step s (c ∷ cs) =
     let now = step s c in
     let later = play step (now .leaves) cs in
     record { answers = now .answer ∷ later .answers; ends = later .ends }
+
+-- a call, and the places of scratch that it is lent
+pub record Lent (C : Type 0) : Type 0 where
+  pub call : C
+  pub room : ℕ
+
+-- each call has its own: number i has `rooms i` places
+unfoldable pub lend : {C : Type 0} → (ℕ → ℕ) → List C → List (Lent C)
+lend rooms [] = []
+lend rooms (c ∷ cs) = record { call = c; room = rooms 0 } ∷ lend (λ i. rooms (suc i)) cs

@@ -12,10 +12,10 @@ use Rattle.limits.specs.Numbers.{journalFull}
 use Rattle.limits.specs.declared.Answer.{Answer}
 use Rattle.limits.specs.declared.Answer.the-variants.{Done, Still, Refused}
 use Rattle.ledger.specs.Handle.{savedPosition, sound}
-use Rattle.ledger.specs.Calls.{Call, Played, play}
+use Rattle.ledger.specs.Calls.{Call, Played, play, lend}
 use Rattle.ledger.specs.Calls.Call.{push, undo, redo, mark}
 use Rattle.ledger.specs.Algebra.{Algebra, WellFormed}
-use Rattle.ledger.specs.Journal.{State, opened, step}
+use Rattle.ledger.specs.Journal.{State, opened, step, stepLent}
 use Rattle.ledger.specs.Ledger.{Ledger, begun, standing, enter}
 
 -- a call with the answer "journal full" is struck
@@ -58,17 +58,18 @@ module _ (A : Algebra) where
     pub second-ends : Matches (second .ends) (ledger .ends)
 
   -- Demand 3, "a statement about the whole list at once": for every list of calls, from every well-formed sheet, in any two permitted journals of which the second is
-  -- not the shorter ("At the start journal and scratch have any contents"), with w × h places of scratch at least. "Both runs and the ledger start from the same
-  -- sheet; the second run and the ledger get only the calls not struck."
+  -- not the shorter ("At the start journal and scratch have any contents"). Each call of either run has scratch of its own, of w × h places at least: in the first
+  -- run call number i has `rooms i` places, in the second `rooms′ i`. "Both runs and the ledger start from the same sheet; the second run and the ledger get only
+  -- the calls not struck."
   abbrev pub WholeHistory : Type 0
   WholeHistory =
       (s : Sheet) → WellFormed A s
       → (shorter longer : List ℕ) → length shorter ≤ length longer → length longer ≤ maxJournal
-      → (room room′ : ℕ) → places (view s) ≤ room → places (view s) ≤ room′
+      → (rooms rooms′ : ℕ → ℕ) → ((i : ℕ) → places (view s) ≤ rooms i) → ((i : ℕ) → places (view s) ≤ rooms′ i)
       → (calls : List (Call Edit)) → TypedCalls calls
-      → let first = play (step A room) (opened A s shorter) calls in
+      → let first = play (stepLent A) (opened A s shorter) (lend rooms calls) in
       let left = unstruck calls (first .answers) in
-      let second = play (step A room′) (opened A s longer) left in
+      let second = play (stepLent A) (opened A s longer) (lend rooms′ left) in
       let ledger = play (enter A) (begun A (view s)) left in
       SameHistory (unstruck (first .answers) (first .answers)) first second ledger
 

@@ -10,7 +10,7 @@ use Rattle.limits.specs.Numbers.{badSheet, journalDamaged, journalFull, noSpace
 use Rattle.limits.specs.Checks.{Check, _when_}
 use Rattle.ledger.specs.declared.Handle.{Handle}
 use Rattle.ledger.specs.Handle.{fresh, sound, afterPush, steppedBack, steppedForth, marked}
-use Rattle.ledger.specs.Calls.{Call, Outcome, done, still, refused, guarded, group}
+use Rattle.ledger.specs.Calls.{Call, Outcome, Lent, done, still, refused, guarded, group}
 use Rattle.ledger.specs.Calls.Call.{push, undo, redo, mark}
 use Rattle.ledger.specs.Algebra.{Algebra, Reading}
 
@@ -113,3 +113,7 @@ module _ (A : Algebra) where
   step room st mark =
       let o = markOf (length (st .journal)) (st .handle) in
       record { answer = o .answer; leaves = record { sheet = st .sheet; journal = st .journal; handle = o .leaves } }
+
+  -- the same, with the places that it is lent
+  abbrev pub stepLent : State → Lent (Call Edit) → Outcome State
+  stepLent st c = step (c .room) st (c .call)

@@ -6,8 +6,9 @@ use mathlib.Core.List.{List, [], _∷_, _++_}
 use mathlib.Core.Option.{some}
 use Rattle.limits.specs.Checks.{firstOf, refusedOr}
 use Rattle.removals.specs.Removal.{mergeChecks}
-use Rattle.ledger.specs.Calls.{Outcome, play}
-use Rattle.ledger.specs.Journal.{State, step}
+use Rattle.ledger.specs.Calls.{Outcome, Played, play, lend}
+use Rattle.ledger.specs.Journal.{State, step, stepLent}
+use Rattle.ledger.proofs.Scratch.{one-room}
 use Rattle.editing.specs.Editing.{editing}
 use Rattle.frames.specs.Reading.{frameOf}
 use Rattle.frames.specs.declared.Frame.{Frame}
@@ -52,3 +53,7 @@ session-played (line ∷ lines) st =
     ap (λ p. after p lines) (state-played st line)
     ∙ session-played lines st′
     ∙ ap some (sym (play-append (step editing room) st (askedBy st line) (callsOf st′ lines)))
+
+-- as a run of demand 3, in which every call has the program's scratch
+pub session-run : (lines : List (List ℕ)) (st : State editing) → after (some st) lines ≡ some (play (stepLent editing) st (lend (λ i. room) (callsOf st lines)) .ends)
+session-run lines st = session-played lines st ∙ ap (λ (ran : Played (State editing)). some (ran .ends)) (sym (one-room editing room (callsOf st lines) st))
