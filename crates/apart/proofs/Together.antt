@@ -3,6 +3,7 @@
 use mathlib.Core.Path.{_≡_, refl, sym, ap, _∙_}
 use mathlib.Core.Bool.{Bool}
 use mathlib.Core.List.{List, [], _∷_, _++_, flatMap}
+use Prim.Native.Nat.{ℕ}
 use lib.IntN.{ℤ}
 use Rattle.limits.specs.Checks.{Check, orElse, firstOf}
 use Rattle.limits.proofs.First.{or-else-zero, first-append}
@@ -10,10 +11,10 @@ use Rattle.sheet.specs.Sheet.{Sheet}
 use Rattle.cielab.specs.Convert.{labOf}
 use Rattle.edits.specs.declared.Edit.{Edit}
 use Rattle.edits.specs.declared.Edit.the-variants.{Pixels, PaletteSet, PaletteAdd, PaletteRemove}
-use Rattle.edits.specs.Change.{Change, painted}
+use Rattle.edits.specs.Change.{Change, painted, newOf}
 use Rattle.edits.specs.Checks.{Permitted, ownChecks}
 use Rattle.edits.specs.Apply.{withIndices, redone}
-use Rattle.apart.specs.Apart.{headChecks, changeChecks, leftChecks, paintedBy}
+use Rattle.apart.specs.Apart.{headChecks, changeChecks, leftChecks}
 
 no-checks : {A : Type 0} (cs : List A) → firstOf (flatMap (λ (c : A). []) cs) ≡ 0
 unfolding flatMap firstOf
@@ -33,6 +34,13 @@ own-apart replay s p (PaletteRemove i c lab) cs =
     first-append (headChecks replay s p e) (flat ++ leftChecks s e cs) ∙ ap (orElse (firstOf (headChecks replay s p e))) (first-append flat (leftChecks s e cs))
 
 -- ---- the edit done
+-- a list painted for its edit: set and add paint none
+unfoldable pub paintedBy : Edit → ℕ → List Change → List ℤ → List ℤ
+paintedBy (Pixels tool) w cs indices = painted newOf w cs indices
+paintedBy (PaletteSet i old new lab) w cs indices = indices
+paintedBy (PaletteAdd c) w cs indices = indices
+paintedBy (PaletteRemove i c lab) w cs indices = painted newOf w cs indices
+
 pub done-apart : (s : Sheet) (e : Edit) (cs : List Change) (l : List ℤ) → l ≡ paintedBy e (s .w) cs (s .indices) → redone labOf (withIndices s l) e [] ≡ redone labOf s e cs
 unfolding redone paintedBy painted
 done-apart s (Pixels tool) cs l q = rw q

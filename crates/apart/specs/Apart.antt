@@ -5,7 +5,6 @@ use mathlib.Core.Bool.{Bool, not}
 use mathlib.Core.List.{List, [], _∷_}
 use Prim.Native.Nat.{ℕ, _+_, _*_, _<_, _≤_}
 use lib.Dec.{ltb, leb}
-use lib.IntN.{ℤ}
 use lib.ListN.{take, replicate}
 use Rattle.limits.specs.Limits.{maxEntries}
 use Rattle.limits.specs.Numbers.{noSuchEntry, paletteFull, lastEntry, colourNotPermitted, stillUsed}
@@ -14,7 +13,7 @@ use Rattle.sheet.specs.Sheet.{Sheet}
 use Rattle.triples.specs.Triples.{rgbAt}
 use Rattle.edits.specs.declared.Edit.{Edit}
 use Rattle.edits.specs.declared.Edit.the-variants.{Pixels, PaletteSet, PaletteAdd, PaletteRemove}
-use Rattle.edits.specs.Change.{Change, painted, newOf}
+use Rattle.edits.specs.Change.{Change}
 use Rattle.edits.specs.Checks.{Permitted, sameRgb, barred, staleWhen, pixelChecks, remapChecks, leftFrom}
 use Rattle.pixels.specs.Inside.{Marks}
 
@@ -66,13 +65,6 @@ MarksFor (Pixels tool) w n cs marks = Unit {0}
 MarksFor (PaletteSet i old new lab) w n cs marks = Unit {0}
 MarksFor (PaletteAdd c) w n cs marks = Unit {0}
 MarksFor (PaletteRemove i c lab) w n cs marks = Marks w cs (take n marks)
-
--- ---- a list painted for its edit: set and add paint none
-unfoldable pub paintedBy : Edit → ℕ → List Change → List ℤ → List ℤ
-paintedBy (Pixels tool) w cs indices = painted newOf w cs indices
-paintedBy (PaletteSet i old new lab) w cs indices = indices
-paintedBy (PaletteAdd c) w cs indices = indices
-paintedBy (PaletteRemove i c lab) w cs indices = painted newOf w cs indices
 
 -- ---- what is left to do asks: the entry lies in palette storage of n bytes and LAB storage of m numbers
 unfoldable pub Finishable : ℕ → ℕ → ℕ → Edit → Type 0

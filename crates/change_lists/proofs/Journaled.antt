@@ -20,10 +20,10 @@ use Rattle.edits.specs.Apply.{filledChanges}
 use Rattle.records.specs.Bytes.{splice}
 use Rattle.writing.specs.Fit.{rowsOf}
 use Rattle.records.specs.Record.{changeBytes, recordLength, recordOf}
-use Rattle.framing.specs.Frame.{within, around}
+use Rattle.framing.specs.Frame.{around}
 use Rattle.writing.proofs.Changes.{length-changes}
 use Rattle.records.proofs.Splice.{splice-none, splice-then}
-use Rattle.framing.proofs.Framing.{around-within}
+use Rattle.framing.proofs.Framing.{within, around-within}
 use Rattle.structs.specs.declared.Change.{Change}
 use Rattle.change_lists.specs.Walk.{told, toldAll, none, putOne, putUpto}
 use Rattle.change_lists.proofs.Told.{told-length, told-at}

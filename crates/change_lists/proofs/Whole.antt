@@ -19,7 +19,8 @@ use Rattle.edits.specs.declared.Edit.{Edit}
 use Rattle.edits.specs.declared.Edit.the-variants.{Pixels, PaletteSet, PaletteAdd, PaletteRemove}
 use Rattle.edits.specs.Change as flat
 use Rattle.edits.specs.Change.{unpacked, place, painted, newOf}
-use Rattle.apart.specs.Apart.{changeChecks, ClearFor, MarksFor, paintedBy}
+use Rattle.apart.specs.Apart.{changeChecks, ClearFor, MarksFor}
+use Rattle.apart.proofs.Together.{paintedBy}
 use Rattle.remapping.proofs.Marking.{Marking, marking-none, marking-next, marking-all}
 use Rattle.structs.specs.declared.Change.{Change}
 use Rattle.change_lists.specs.Walk.{told, packedAll, toldAll, none, checkUpto, markOne, markUpto, paintOne, paintUpto}

@@ -14,7 +14,7 @@ use Rattle.edits.specs.Change.{Change}
 use Rattle.edits.specs.Storage.{bytesOf}
 use Rattle.records.specs.Bytes.{le, splice}
 use Rattle.records.specs.Record.{changeBytes, labBytes, listBytes, bodyOf, recordLength, recordOf}
-use Rattle.framing.specs.Frame.{within, around}
+use Rattle.framing.specs.Frame.{around}
 use Rattle.records.proofs.LittleEndian.{length-le}
 use Rattle.writing.proofs.Changes.{length-changes}
 use Rattle.writing.proofs.Lengths.{length-lab}
@@ -36,6 +36,13 @@ module _ {A : Type 0} where
   framed f g t l n m e h k = over-then (f ++ g) t l (over f (splice l n g)) _ m (length-append f g ∙ rw (e, k)) (over-splice f g l n e h) refl
 
 -- ---- the whole record
+-- the changes of a record that starts this part: pixels' behind 6 bytes, a remap's behind 33; set and add have none
+unfoldable pub within : Edit → List Change → List ℕ → List ℕ
+within (Pixels tool) cs part = splice part 6 (flatMap changeBytes cs)
+within (PaletteSet i old new lab) cs part = part
+within (PaletteAdd c) cs part = part
+within (PaletteRemove i c lab) cs part = splice part 33 (flatMap changeBytes cs)
+
 pub around-within : (e : Edit) (cs : List Change) (n : ℕ) (part : List ℕ) → length cs ≡ n → recordLength e n ≤ length part → around e n (within e cs part) ≡ over (recordOf e cs) part
 unfolding around within recordOf bodyOf recordLength listBytes
 around-within (Pixels tool) cs n part q h =

@@ -1,21 +1,13 @@
--- A record and its changes apart: where the changes' bytes stand, and what is written around them. Definitions only. Assumes nothing.
+-- A record whose changes stand in the journal already: what is written around them. Definitions only. Assumes nothing.
 use Prim.Native.Nat.{ℕ, _+_, _*_, _<_}
-use mathlib.Core.List.{List, [], _∷_, _++_, flatMap}
+use mathlib.Core.List.{List, [], _∷_, _++_}
 use Rattle.lists.specs.Lists.{over}
 use Rattle.edits.specs.declared.Edit.{Edit}
 use Rattle.edits.specs.declared.Edit.the-variants.{Pixels, PaletteSet, PaletteAdd, PaletteRemove}
-use Rattle.edits.specs.Change.{Change}
 use Rattle.edits.specs.Storage.{bytesOf}
 use Rattle.records.specs.Bytes.{le, splice}
-use Rattle.records.specs.Record.{changeBytes, labBytes, recordOf}
+use Rattle.records.specs.Record.{labBytes, recordOf}
 use Rattle.writing.specs.Fit.{Numbers}
-
--- the changes of a record that starts this part: pixels' behind 6 bytes, a remap's behind 33; set and add have none
-unfoldable pub within : Edit → List Change → List ℕ → List ℕ
-within (Pixels tool) cs part = splice part 6 (flatMap changeBytes cs)
-within (PaletteSet i old new lab) cs part = part
-within (PaletteAdd c) cs part = part
-within (PaletteRemove i c lab) cs part = splice part 33 (flatMap changeBytes cs)
 
 -- the rest of a record with n changes: "kind first, whole length (4 bytes) last"
 unfoldable pub around : Edit → ℕ → List ℕ → List ℕ

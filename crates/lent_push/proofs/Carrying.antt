@@ -23,7 +23,8 @@ use Rattle.apply.proofs.Redoing.{pixels-fit, entry-in}
 use Rattle.apart.proofs.Together.{done-apart}
 use Rattle.writing.specs.Fit.{Writable}
 use Rattle.records.specs.Record.{recordLength, recordOf}
-use Rattle.framing.specs.Frame.{within, around, Framed}
+use Rattle.framing.specs.Frame.{around, Framed}
+use Rattle.framing.proofs.Framing.{within}
 use Rattle.writing.proofs.OnTheSheet.{rows-fill}
 use Rattle.structs.specs.declared.Change.{Change}
 use Rattle.change_lists.specs.Walk.{packedAll, toldAll, paintUpto, putUpto, AllPuttable, AllPaintable}

@@ -3,7 +3,7 @@
 // specs/ says the same to the contracts: Limits and Numbers name the numbers, Checks takes the first
 // check that applies, Answer gives document 01's number for each answer.
 ghost use mathlib.Core.Path.{_≡_};
-ghost use Rattle.limits.specs.Answer.{numberOf};
+ghost use Rattle.limits.specs.Answer.{numberOf, countedNumber};
 
 // The limits of document 01's "The sheet".
 
@@ -109,6 +109,18 @@ impl Answer {
             Answer::Done => 0,
             Answer::Still => 255,
             Answer::Refused(n) => n,
+        }
+    }
+}
+
+impl Counted {
+    // The same: 0 for a count, else the refusal's own.
+    pub fn number(self) -> u8
+        ensures { λ r. ⌜ r ≡ countedNumber self ⌝ }
+    {
+        match self {
+            Counted::Count(_) => 0,
+            Counted::Refused(n) => n,
         }
     }
 }

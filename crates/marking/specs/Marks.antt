@@ -8,13 +8,11 @@ use Prim.Native.Nat.{ℕ, zero, suc, _+_, _-_, _*_, _/_, _%_, _≤_, _<_, _^_}
 use mathlib.Core.Bool.{Bool, not, cond, _&&_, _||_}
 use mathlib.Core.List.{List}
 use lib.Dec.{leb, eqb}
-use lib.IntN.{ℤ}
 use lib.ListN.{length, getD}
 use Rattle.selection.specs.declared.Selection.{Selection}
 use Rattle.selection.specs.Selection.{contains}
 use Rattle.edits.specs.Change.{unpacked, place}
 use Rattle.tiling.specs.Tile.{turned, flipAt}
-use Rattle.tiling.specs.Cells.{codeOf}
 use Rattle.marking.specs.Cell.{cellAt, columnIn, rowIn}
 
 -- ---- classes
@@ -26,9 +24,6 @@ cellOfPlace w t p = cellAt w t (p % w) (p / w)
 unfoldable pub classBy : ℕ → ℕ → ℕ → ℕ → ℕ
 classBy w t code p =
     rowIn w t (code / 4) (turned (flipAt (code % 4) .v) t (p / w % t)) * w + columnIn w t (code / 4) (turned (flipAt (code % 4) .h) t (p % w % t))
-
-unfoldable pub classOf : ℕ → ℕ → List ℤ → ℕ → ℕ
-classOf w t l p = classBy w t (codeOf w t l (cellOfPlace w t p)) p
 
 -- ---- a pass over a list that changes one number an element
 unfoldable pub run : (ℕ → ℕ) → (ℕ → ℕ → ℕ) → ℕ → ℕ → ℕ → ℕ

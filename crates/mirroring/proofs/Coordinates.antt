@@ -13,7 +13,7 @@ use Rattle.tiling.proofs.Corners.{across, down}
 use Rattle.tiling.proofs.Firsts.{first-le, first-flip}
 use Rattle.tiling.proofs.Flipping.{turned-below, turned-twice, joint-self}
 use Rattle.marking.specs.Cell.{cellAt, columnIn, rowIn}
-use Rattle.marking.specs.Marks.{cellOfPlace, classBy, classOf}
+use Rattle.marking.specs.Marks.{cellOfPlace, classBy}
 
 plain : (t i : ℕ) → turned false t i ≡ i
 unfolding turned
@@ -22,6 +22,10 @@ plain t i = refl
 -- a flip back
 pub turned-back : (f : Bool) {t i : ℕ} → i < t → turned f t (turned f t i) ≡ i
 turned-back f {t} {i} h = turned-twice f f h ∙ rw (joint-self f) (plain t i)
+
+-- the class of the pixel at p: its place in the first cell
+unfoldable pub classOf : ℕ → ℕ → List ℤ → ℕ → ℕ
+classOf w t l p = classBy w t (codeOf w t l (cellOfPlace w t p)) p
 
 module _ (w h t : ℕ) (l : List ℤ) (d : Tiled w h t l) (wide : 0 < w / t) where
   -- ---- the pixel (i, j) of cell o

@@ -29,11 +29,11 @@ use Rattle.tiling.proofs.Flipping.{turned-below}
 use Rattle.tiling.proofs.Ranks.{id-same, same-id}
 use Rattle.tiling.proofs.Agreeing.{extract-is}
 use Rattle.marking.specs.Cell.{cellAt, columnIn, rowIn}
-use Rattle.marking.specs.Marks.{cellOfPlace, classOf}
+use Rattle.marking.specs.Marks.{cellOfPlace}
 use Rattle.mirroring.specs.Mirror.{entryIn, copyAt, copyIn, instances, copiesOf}
 use Rattle.mirroring.proofs.Places.{keyAt}
 use Rattle.mirroring.proofs.AtPlace.{copyTo}
-use Rattle.mirroring.proofs.Coordinates.{turned-back, column-mod, row-mod, column-on, row-on, cell-back, cell-below, column-of, row-of, flipOf, tileX, tileY, classIn, class-is, class-same}
+use Rattle.mirroring.proofs.Coordinates.{classOf, turned-back, column-mod, row-mod, column-on, row-on, cell-back, cell-below, column-of, row-of, flipOf, tileX, tileY, classIn, class-is, class-same}
 
 -- ---- lists
 at-flat : {A : Type 0} (k : ℕ) (f : A → List Change) (xs : List A) → atPlace k (flatMap f xs) ≡ flatMap (λ x. atPlace k (f x)) xs

@@ -24,10 +24,15 @@ use Rattle.sorting.proofs.Order.{less, same, more, tri}
 use Rattle.lists.proofs.Each.{all-map}
 use Rattle.lists.proofs.Kept.{all-kept}
 use Rattle.normal.specs.Normal.{keyOf, joined, enter, entered, changing, normalizeOf}
-use Rattle.normal.specs.Laws.{On, FirstOlds, Ordered, differing}
+use Rattle.normal.specs.Laws.{On, FirstOlds, Ordered}
 use Rattle.normal.proofs.Group.{enter-less, enter-same, enter-more, key-joined}
 
 -- ---- places at which pictures differ
+-- how many they are
+unfoldable pub differing : List ℤ → List ℤ → ℕ
+differing [] m = 0
+differing (x ∷ l) [] = 0
+differing (x ∷ l) (y ∷ m) = cond (eqZ x y) 0 1 + differing l m
 
 bit-le : (b : Bool) → cond b 0 1 ≤ 1
 bit-le true = omega arith

@@ -1,12 +1,10 @@
 -- What the laws of normal forms speak of: order, what a place holds, and change request E13. Definitions only. Assumes nothing.
-use Prim.Native.Nat.{ℕ, _+_, _<_}
+use Prim.Native.Nat.{ℕ, _<_}
 use mathlib.Core.Path.{_≡_}
-use mathlib.Core.Bool.{cond}
 use mathlib.Core.List.{List, [], _∷_}
 use lib.Dec.{eqb}
 use lib.IntN.{ℤ, pos}
 use lib.ListN.{getD}
-use Rattle.ints.specs.Ints.{eqZ}
 use Rattle.edits.specs.Change.{Change, place}
 use Rattle.lists.specs.Lists.{All, kept}
 use Rattle.normal.specs.Normal.{keyOf, joined}
@@ -41,9 +39,3 @@ SheetOlds w l cs = All (λ c. c .old ≡ getD l (place w c) (pos 0)) cs
 unfoldable pub FirstOlds : ℕ → List ℤ → List Change → List Change → Type 0
 FirstOlds w l m [] = Unit {0}
 FirstOlds w l m (c ∷ cs) = (All (λ e. keyOf c ≡ keyOf e → ⊥) m → c .old ≡ getD l (place w c) (pos 0)) × FirstOlds w l (c ∷ m) cs
-
--- at how many places two pictures differ
-unfoldable pub differing : List ℤ → List ℤ → ℕ
-differing [] m = 0
-differing (x ∷ l) [] = 0
-differing (x ∷ l) (y ∷ m) = cond (eqZ x y) 0 1 + differing l m

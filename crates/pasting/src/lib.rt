@@ -27,13 +27,28 @@ ghost use Rattle.edits.specs.Change.{packed};
 ghost use Rattle.changes.specs.Fronts.{Front};
 ghost use Rattle.changes.specs.Listed.{InScratch};
 ghost use Rattle.normal.specs.Normal.{normalizeOf};
-ghost use Rattle.pasting.specs.Pasting.{Pastable, placedOf, pasteChanges, pastedSelection, clipChecks, pasteChecks, pasteCall, left, shiftedCount, shiftedOf};
+ghost use Rattle.pasting.specs.Pasting.{Pastable, placedOf, pasteChanges, pastedSelection, clipChecks, pasteChecks, pasteCall, left, shiftedNumber, shiftedCount, shiftedOf};
 
 // What a call answers that puts a rectangle of indices somewhere: how many changes it makes, and the rectangle as
 // the new selection, a part or nothing.
 pub enum Shifted {
     Changes { count: usize, selection: Chosen },
     Refused(u8),
+}
+
+impl Shifted {
+    // The number as document 01 has it: a refusal's own, else 0.
+    pub fn number(self) -> u8
+        ensures { λ r. ⌜ r ≡ shiftedNumber self ⌝ }
+    {
+        match self {
+            Shifted::Changes {
+                count: _,
+                selection: _,
+            } => 0,
+            Shifted::Refused(n) => n,
+        }
+    }
 }
 
 // The number of the first check of a corner, a clip and the scratch that applies, or 0: 15, 17, 16. `room` is the

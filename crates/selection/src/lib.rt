@@ -22,7 +22,7 @@ ghost use mathlib.Core.Bool.{cond, _||_};
 ghost use Prim.Native.Nat.{_<_};
 ghost use lib.Dec.{eqb};
 ghost use Rattle.selection.specs.Selection.{inside, rectangle, contains};
-ghost use Rattle.selection.specs.Calls.{tooLarge, farAway, allOf, fromCornersOf, containsIOf, translatedOf, grownOf, positionsOf, regionOf};
+ghost use Rattle.selection.specs.Calls.{chosenNumber, heldNumber, tooLarge, farAway, allOf, fromCornersOf, containsIOf, translatedOf, grownOf, positionsOf, regionOf};
 ghost use Rattle.limits.specs.Answer.{filled};
 ghost use Rattle.selection.specs.Asked.{Narrow};
 
@@ -55,6 +55,31 @@ pub enum Held {
     Inside,
     Outside,
     Refused(u8),
+}
+
+impl Chosen {
+    // The number as document 01 has it: a refusal's own, else 0.
+    pub fn number(self) -> u8
+        ensures { λ r. ⌜ r ≡ chosenNumber self ⌝ }
+    {
+        match self {
+            Chosen::Part(_) => 0,
+            Chosen::Nothing => 0,
+            Chosen::Refused(n) => n,
+        }
+    }
+}
+
+impl Held {
+    pub fn number(self) -> u8
+        ensures { λ r. ⌜ r ≡ heldNumber self ⌝ }
+    {
+        match self {
+            Held::Inside => 0,
+            Held::Outside => 0,
+            Held::Refused(n) => n,
+        }
+    }
 }
 
 impl Selection {

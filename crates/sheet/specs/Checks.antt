@@ -5,7 +5,7 @@ use mathlib.Core.Bool.{Bool, false, not, _&&_, _||_}
 use mathlib.Core.List.{List, [], _∷_, _++_}
 use lib.Dec.{ltb, eqb}
 use lib.ListN.{length, take}
-use Rattle.limits.specs.Limits.{maxSide, maxEntries, storage, maxPermitted, maxJournal}
+use Rattle.limits.specs.Limits.{maxSide, maxEntries, storage, maxPermitted}
 use Rattle.limits.specs.Numbers.{badSheet, strayIndex, unfitLab}
 use Rattle.limits.specs.Checks.{Check, _when_, firstOf}
 use Rattle.lists.specs.Lists.{some}
@@ -28,10 +28,6 @@ unfoldable pub permittedChecks : Bool → List ℕ → List Check
 permittedChecks limited colours =
     badSheet when (limited && (not (eqb (length colours % 3) 0) || ltb (3 * maxPermitted) (length colours)))
     ∷ []
-
--- 1: "A journal has at most 2,147,483,647 bytes"
-unfoldable pub journalChecks : ℕ → List Check
-journalChecks bytes = badSheet when ltb maxJournal bytes ∷ []
 
 -- 2: "an index outside -1..k-1"
 unfoldable pub indexChecks : Sheet → List Check

@@ -3,7 +3,7 @@ use mathlib.Core.Path.{_≡_, sym, _∙_}
 use native.Mathlib.Nat.{mul-comm, mul-le-mul-right}
 use Prim.Native.Nat.{ℕ, _*_, _<_}
 use lib.ListN.{length, getD}
-use Rattle.marking.specs.Marks.{classOf}
+use Rattle.mirroring.proofs.Coordinates.{classOf}
 use Rattle.tiling.proofs.Corners.{count-small}
 use Rattle.mirroring.proofs.Mirrored.{wide, listed, class-by, coded, classes, marks, whole}
 use borrow.Author.Needs.{needs}
