@@ -97,10 +97,10 @@ pub fn check_list(
     ensures { λ r. ⌜ (r ≡ checkUpto no replay (bare w h k (now (indices .entry))) edit (now (list .entry)) (length (now (list .entry)))) × (now (marks .exit) ≡ markUpto no replay (bare w h k (now (indices .entry))) edit (now (list .entry)) (now (marks .entry)) (length (now (list .entry)))) ⌝ }
 {
     let mut code = no;
-    let mut i: usize = 0;
-    while i < list.len() {
-        code = check_one(code, edit, replay, w, h, k, indices, marks, list[i]);
-        i += 1;
+    let mut checked: usize = 0;
+    while checked < list.len() {
+        code = check_one(code, edit, replay, w, h, k, indices, marks, list[checked]);
+        checked += 1;
     }
     code
 }
@@ -203,9 +203,9 @@ pub fn paint_list(no: u8, edit: Edit, indices: &mut [i16], w: usize, list: &[Cha
     requires { ⌜ (no ≡ 0 → AllPaintable edit w (length (now indices)) (toldAll (now list))) ⌝ }
     ensures { λ _. ⌜ now (indices .exit) ≡ paintUpto no edit w (now (list .entry)) (now (indices .entry)) (length (now (list .entry))) ⌝ }
 {
-    let mut i: usize = 0;
-    while i < list.len() {
-        paint_one(no, edit, indices, w, list[i]);
-        i += 1;
+    let mut painted: usize = 0;
+    while painted < list.len() {
+        paint_one(no, edit, indices, w, list[painted]);
+        painted += 1;
     }
 }

@@ -77,8 +77,8 @@ pub fn eraser(
         scratch,
         out.len(),
     );
-    let n = count_of(r);
-    unpack(scratch, n, out);
+    let cleared = count_of(r);
+    unpack(scratch, cleared, out);
     r
 }
 

@@ -23,10 +23,10 @@ pub fn undo(
 ) -> Answer
     ensures { λ r. ⌜ left r w h (now (k .exit)) (now (palette .exit)) (now (lab .exit)) (now (indices .exit)) (now (journal .entry)) (now (handle .exit)) ≡ undoOf editing (stateOf (sheetOf w h (now (k .entry)) (now (palette .entry)) (now (lab .entry)) (now (indices .entry))) (now (journal .entry)) (now (handle .entry))) ⌝ }
 {
-    let s = history::undo(w, h, *k, palette, lab, indices, journal, *handle);
-    *k = s.k;
-    *handle = s.handle;
-    s.answer
+    let undone = history::undo(w, h, *k, palette, lab, indices, journal, *handle);
+    *k = undone.k;
+    *handle = undone.handle;
+    undone.answer
 }
 
 // `history::redo`, with palette count and handle lent.
@@ -43,17 +43,17 @@ pub fn redo(
 ) -> Answer
     ensures { λ r. ⌜ (left r w h (now (k .exit)) (now (palette .exit)) (now (lab .exit)) (now (indices .exit)) (now (journal .entry)) (now (handle .exit)) ≡ redoOf editing (length (now (scratch .entry))) (stateOf (sheetOf w h (now (k .entry)) (now (palette .entry)) (now (lab .entry)) (now (indices .entry))) (now (journal .entry)) (now (handle .entry)))) × (length (now (scratch .exit)) ≡ length (now (scratch .entry))) ⌝ }
 {
-    let s = history::redo(w, h, *k, palette, lab, indices, journal, *handle, scratch);
-    *k = s.k;
-    *handle = s.handle;
-    s.answer
+    let redone = history::redo(w, h, *k, palette, lab, indices, journal, *handle, scratch);
+    *k = redone.k;
+    *handle = redone.handle;
+    redone.answer
 }
 
 // `history::mark_saved`, with the handle lent.
 pub fn mark_saved(journal: &[u8], handle: &mut Handle) -> Answer
     ensures { λ r. ⌜ outcomeOf r (now (handle .exit)) ≡ markOf (length (now (journal .entry))) (now (handle .entry)) ⌝ }
 {
-    let s = history::mark_saved(journal, *handle);
-    *handle = s.handle;
-    s.answer
+    let marked = history::mark_saved(journal, *handle);
+    *handle = marked.handle;
+    marked.answer
 }

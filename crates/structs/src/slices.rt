@@ -38,11 +38,11 @@ pub fn unpack(flat: &[u64], n: usize, out: &mut [Change])
     requires { ⌜ (n ≤ length (now flat)) × (n ≤ length (now out)) ⌝ }
     ensures { λ _. ⌜ map packedOf (now (out .exit)) ≡ over (take n (now (flat .entry))) (map packedOf (now (out .entry))) ⌝ }
 {
-    let mut i: usize = 0;
-    while i < n {
-        let v = flat[i];
+    let mut filled: usize = 0;
+    while filled < n {
+        let v = flat[filled];
         let c = unpacked(v);
-        out[i] = c;
-        i += 1;
+        out[filled] = c;
+        filled += 1;
     }
 }
