@@ -103,6 +103,6 @@ ours! {
     call_can_redo(journal: [u8], state: &[usize; 6], r: R,) -> u8;
     call_next_undo(journal: [u8], state: &[usize; 6], bytes: &mut [u8; 8], doubles: &mut [f64; 3], r: R,) -> u8;
     call_next_redo(journal: [u8], state: &[usize; 6], bytes: &mut [u8; 8], doubles: &mut [f64; 3], r: R,) -> u8;
-    call_applied(journal: [u8], state: &[usize; 6], offset: usize, bytes: &mut [u8; 8], doubles: &mut [f64; 3], r: R,) -> u8;
+    call_applied(journal: [u8], state: &[usize; 6], number: usize, bytes: &mut [u8; 8], doubles: &mut [f64; 3], r: R,) -> u8;
     call_replay(w: usize, h: usize, palette: mut [u8], lab: mut [f64], indices: mut [i16], limited: bool, permitted: [u8], bytes: &[u8; 8], index: usize, doubles: &[f64; 3], list: [u64], scratch: mut [u8], state: State,) -> u8;
 }

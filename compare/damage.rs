@@ -1,9 +1,10 @@
 //! Damage: some histories, of which every byte of the journal, then every field of the handle, is given every other value,
-//! one at a time; then undo to the one end and redo to the other. Each answer and all that is left must be document 01's, as
-//! journal.rs reads it, and the sheet stays well-formed. On a refusal nothing is written, which the same comparison says.
+//! one at a time; an applied record is looked at, then undo to the one end and redo to the other. Each answer and all that is
+//! left must be document 01's, as journal.rs reads it, and the sheet stays well-formed. On a refusal nothing is written, which
+//! the same comparison says.
 
 use crate::draw::Draw;
-use crate::histories::{any_push, our_push, our_redo, our_undo};
+use crate::histories::{any_push, applied, our_push, our_redo, our_undo};
 use crate::journal::{self, Handle, State, NOWHERE};
 use crate::sheet::*;
 use crate::sheets::Permitted;
@@ -43,8 +44,14 @@ fn step(f: &mut Figures, st: &mut State, back: bool, what: &dyn Fn() -> String) 
     no == 0
 }
 
-/// Undo to the one end, then redo to the other.
+/// One of the applied records, or one past them; then undo to the one end, and redo to the other.
 fn both_ends(f: &mut Figures, st: &mut State, what: &dyn Fn() -> String) {
+    let number = f.changed as usize % (st.handle.position.min(20) + 2);
+    let [expected, ours] = applied(st, number);
+    if expected != ours {
+        f.differing += 1;
+        println!("damage, applied {number}, {}", what());
+    }
     f.changed += 1;
     while step(f, st, true, what) {}
     while step(f, st, false, what) {}

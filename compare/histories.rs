@@ -191,13 +191,27 @@ pub fn next_redo(st: &State) -> Pair {
     [expected, next(no, b, f, r)]
 }
 
-pub fn applied(st: &State, offset: usize) -> Pair {
+/// An applied record by its number: the oldest starts at 0, each next one where the one before ends, and the records that
+/// the position still counts have room before the standing offset, where the last one ends.
+pub fn applied(st: &State, number: usize) -> Pair {
     let h = st.handle;
-    let expected = shown_or(st, h.offset <= offset, || {
-        journal::read_forth(&st.journal, offset, h.offset)
+    let expected = shown_or(st, h.position <= number, || {
+        let mut at = 0;
+        for i in 0..=number {
+            let r = journal::read_forth(&st.journal, at, h.offset)?;
+            let (left, room) = (h.position - i - 1, h.offset - at - r.length);
+            if room < 8 * left || (room == 0) != (left == 0) {
+                return None;
+            }
+            if i == number {
+                return Some(r);
+            }
+            at += r.length;
+        }
+        None
     });
     let (mut b, mut f, mut r) = (BYTES, DOUBLES, R);
-    let no = call_applied(&st.journal, &st.numbers(), offset, &mut b, &mut f, &mut r);
+    let no = call_applied(&st.journal, &st.numbers(), number, &mut b, &mut f, &mut r);
     [expected, next(no, b, f, r)]
 }
 
@@ -621,8 +635,9 @@ fn questions(t: &mut Table, st: &State, history: &History, draw: &mut Draw) {
     }
     if draw.once_in(4) {
         let mut at = 0;
-        for op in history.applied() {
-            let [expected, ours] = applied(st, at);
+        for (number, op) in history.applied().iter().enumerate() {
+            let [expected, ours] = applied(st, number);
+            assert_eq!(expected[2], at as u64, "not where the record starts");
             let record = journal::record(op);
             assert!(
                 st.journal[at..at + record.len()] == record[..],
@@ -632,10 +647,10 @@ fn questions(t: &mut Table, st: &State, history: &History, draw: &mut Draw) {
             at += record.len();
         }
         assert_eq!(at, st.handle.offset);
-        let past = at + draw.below(9);
-        tell!(t, "applied", applied(st, past), "{} at {past}", about());
-        let within = draw.below(at + 1);
-        tell!(t, "applied", applied(st, within), "{} at {within}", about());
+        let past = history.applied().len() + draw.below(9);
+        tell!(t, "applied", applied(st, past), "{}, {past}", about());
+        let any = draw.below(history.applied().len() + 1);
+        tell!(t, "applied", applied(st, any), "{}, {any}", about());
     }
 }
 
@@ -828,8 +843,8 @@ fn wrong(t: &mut Table, draw: &mut Draw) {
     ] {
         t.tell(name, &expected, &ours, about);
     }
-    let at = draw.below(20);
-    tell!(t, "applied", applied(&st, at), "{} at {at}", about());
+    let number = draw.below(4);
+    tell!(t, "applied", applied(&st, number), "{}, {number}", about());
     let p = any_permitted(&st.sheet, draw);
     let e = any_edit(st.sheet.k, draw);
     let count = draw.below(3);

@@ -490,14 +490,7 @@ fn step(c: usize, d: &Deck, st: &mut State) -> Vec<u64> {
         51 => histories::can_redo(st),
         52 => histories::next_undo(st),
         53 => histories::next_redo(st),
-        54 => histories::applied(
-            st,
-            if once_in(d[20], 2) {
-                0
-            } else {
-                pick(d[21], 60)
-            },
-        ),
+        54 => histories::applied(st, pick(d[21], 4)),
         _ => {
             let list = dealt(d[25], 2, change);
             let (no, after) = histories::replayed(&st.sheet, &p, &flat(kind(d[23])), &list, 6);

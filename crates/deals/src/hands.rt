@@ -52,9 +52,9 @@ pub struct Sides {
     pub margin: usize,
 }
 
-// A place in a journal, where a byte may be changed, and the seeds of lists.
+// The number of an applied record, where a byte of the journal may be changed, and the seeds of lists.
 pub struct Seeds {
-    pub at: usize,
+    pub number: usize,
     pub hit: bool,
     pub place: usize,
     pub first: u64,
@@ -113,15 +113,6 @@ fn radicand(x: u64) -> f64 {
     }
 }
 
-// The start of a record, or another place.
-fn start(d: &[u64; 32]) -> usize {
-    if once_in(d[20], 2) {
-        0
-    } else {
-        pick(d[21], 60)
-    }
-}
-
 fn deal_spot(d: &[u64; 32]) -> Spot {
     Spot {
         x: coordinate(d[19]),
@@ -169,7 +160,7 @@ fn deal_sides(d: &[u64; 32]) -> Sides {
 
 fn deal_seeds(d: &[u64; 32]) -> Seeds {
     Seeds {
-        at: start(d),
+        number: pick(d[21], 4),
         hit: once_in(d[29], 40),
         place: pick(d[30], 120),
         first: d[12],

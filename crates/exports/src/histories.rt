@@ -208,13 +208,13 @@ pub extern "C" fn call_next_redo(
 pub extern "C" fn call_applied(
     journal: &[u8],
     state: &[usize; 6],
-    offset: usize,
+    number: usize,
     bytes: &mut [u8; 8],
     doubles: &mut [f64; 3],
     r: &mut [usize; 5],
 ) -> u8 {
     tell_next(
-        looks::applied(journal, handle_of(state), offset),
+        looks::applied(journal, handle_of(state), number),
         bytes,
         doubles,
         r,

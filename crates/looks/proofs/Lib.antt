@@ -1,3 +1,5 @@
 pub mod NextFound
 pub mod NextShown
 pub mod NextTold
+pub mod Chained
+pub mod Pushed

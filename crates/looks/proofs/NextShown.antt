@@ -1,14 +1,16 @@
 -- What `next_undo`, `next_redo` and `applied` answer at each of their tests. Assumes nothing.
-use mathlib.Core.Path.{_≡_, ap, _∙_}
+use mathlib.Core.Path.{_≡_, sym, ap, _∙_}
 use mathlib.Core.Bool.{Bool, true, false}
 use mathlib.Core.List.{List}
 use mathlib.Core.Option.{none}
-use Prim.Native.Nat.{ℕ, _+_, _-_, _≤_, _<_}
+use Prim.Native.Nat.{ℕ, suc, _+_, _-_, _≤_, _<_}
+use native.Mathlib.Omega.{arith}
 use borrow.Author.Tests.{eq-eqb, ne-eqb, le-leb, lt-leb}
 use lib.Dec.{leb}
 use lib.ListN.{length, take, drop}
 use Rattle.limits.specs.Checks.{firstOf, refusedOr}
 use Rattle.limits.proofs.First.{refused-first}
+use Rattle.edits.specs.declared.Edit.{Edit}
 use Rattle.records.specs.Record.{changesIn, Reading, readForth, readBack}
 use Rattle.records.proofs.Finding.{length-in}
 use Rattle.recorded.specs.Lies.{editAt}
@@ -17,7 +19,7 @@ use Rattle.ledger.specs.Handle.{sound, steppedBack, steppedForth}
 use Rattle.looks.specs.declared.Next.{Next}
 use Rattle.looks.specs.declared.Next.the-variants as next
 use Rattle.editing.specs.Calls.{handleChecks}
-use Rattle.looks.specs.Looks.{shown, stepShown, nextUndoOf, nextRedoOf, readShown, appliedOf}
+use Rattle.looks.specs.Looks.{shown, stepShown, nextUndoOf, nextRedoOf, rewound, past, shownAfter, appliedOf}
 use Rattle.looks.proofs.NextFound.{listAt, Seen, SeenBack, SeenForth}
 
 -- ---- a record that was found, shown
@@ -28,10 +30,6 @@ module _ {journal : List ℕ} {r : Reading} {kind start n count : ℕ} (f : Seen
   shown-is : recordAt journal kind start n count ≡ shown start (n, editAt journal kind start, changesIn journal (listAt start n count) count)
   unfolding shown
   shown-is = rw (length-in journal (listAt start n count) count)
-
-  read-shown : recordAt journal kind start n count ≡ readShown start r
-  unfolding readShown
-  read-shown = rw (f .reads) shown-is
 
   -- one step over it, by the handle after the step
   module _ (size : ℕ) (h : Handle) (from : ℕ → ℕ) (inside : ℕ → Bool) (stepped : ℕ → Handle → Handle) (i : inside n ≡ true) where
@@ -47,10 +45,6 @@ step-none : (size : ℕ) (h : Handle) (r : Reading) (from : ℕ → ℕ) (inside
 unfolding stepShown
 step-none size h r from inside stepped e = rw e
 
-read-none : (at : ℕ) (r : Reading) → r ≡ none → next.Refused 4 ≡ readShown at r
-unfolding readShown
-read-none at r e = rw e
-
 module _ (journal : List ℕ) (h : Handle) where
   -- ---- 1 and 4
   module _ (n : ℕ) (e : n ≡ firstOf (handleChecks (length journal) h)) (k : n ≡ 0 → ⊥) where
@@ -62,9 +56,9 @@ module _ (journal : List ℕ) (h : Handle) where
     unfolding nextRedoOf
     redo-refused = refused-first (handleChecks (length journal) h) next.Refused _ n e k
 
-    pub applied-refused : (at : ℕ) → next.Refused n ≡ appliedOf journal h at
+    pub applied-refused : (number : ℕ) → next.Refused n ≡ appliedOf journal h number
     unfolding appliedOf
-    applied-refused at = refused-first (handleChecks (length journal) h) next.Refused _ n e k
+    applied-refused number = refused-first (handleChecks (length journal) h) next.Refused _ n e k
 
   -- ---- past them
   module _ (fine : firstOf (handleChecks (length journal) h) ≡ 0) where
@@ -109,17 +103,35 @@ module _ (journal : List ℕ) (h : Handle) where
         pub redo-shown : sound (length journal) (steppedForth n h) ≡ true → recordAt journal kind start n count ≡ nextRedoOf journal h
         redo-shown e = step-shown (f .found) (length journal) h (λ n. h .offset) (λ n. leb (h .offset + n) (h .end)) steppedForth ends (f .starts) e ∙ redo-steps
 
-    pub applied-nothing : (at : ℕ) → h .offset ≤ at → next.Nothing ≡ appliedOf journal h at
+    pub applied-nothing : (number : ℕ) → h .position ≤ number → next.Nothing ≡ appliedOf journal h number
     unfolding appliedOf refusedOr
-    applied-nothing at e = rw (fine, le-leb _ _ e)
+    applied-nothing number e = rw (fine, le-leb _ _ e)
 
-    module _ (at : ℕ) (left : at < h .offset) where
-      applied-reads : readShown at (readForth (take (h .offset - at) (drop at journal))) ≡ appliedOf journal h at
-      unfolding appliedOf refusedOr
-      applied-reads = rw (fine, lt-leb _ _ left)
+    pub applied-after : (number : ℕ) → number < h .position → shownAfter journal number (rewound h) ≡ appliedOf journal h number
+    unfolding appliedOf refusedOr
+    applied-after number left = rw (fine, lt-leb _ _ left)
 
-      pub applied-unread : readForth (take (h .offset - at) (drop at journal)) ≡ none → next.Refused 4 ≡ appliedOf journal h at
-      applied-unread e = read-none at (readForth (take (h .offset - at) (drop at journal))) e ∙ applied-reads
+-- ---- what `next_redo` shows after some steps, by what it shows now
+module _ (journal : List ℕ) (h : Handle) where
+  pub after-none : (x : Next) (left : ℕ) → x ≡ nextRedoOf journal h → left ≡ 0 → x ≡ shownAfter journal left h
+  unfolding shownAfter
+  after-none x left q l = rw l q
 
-      pub applied-shown : {kind start n count : ℕ} → SeenForth journal at (h .offset) kind start n count → recordAt journal kind start n count ≡ appliedOf journal h at
-      applied-shown f = read-shown (f .found) ∙ ap (λ (m : ℕ). readShown m (readForth (take (h .offset - at) (drop at journal)))) (f .starts) ∙ applied-reads
+  module _ (left : ℕ) (more : left ≡ 0 → ⊥) where
+    one-less : left ≡ suc (left - 1)
+    one-less = omega (arith, more)
+
+    pub after-record : {e : Edit} {start n list count : ℕ} (x : Next) → x ≡ nextRedoOf journal h → x ≡ next.Record e start n list count
+        → shownAfter journal (left - 1) (steppedForth n h) ≡ shownAfter journal left h
+    unfolding shownAfter past
+    after-record {n = n} x q p =
+        let over : shownAfter journal (left - 1) (steppedForth n h) ≡ shownAfter journal (suc (left - 1)) h = rw (← q, p) in
+        over ∙ ap (λ (l : ℕ). shownAfter journal l h) (sym one-less)
+
+    pub after-nothing : (x : Next) → x ≡ nextRedoOf journal h → x ≡ next.Nothing → next.Nothing ≡ shownAfter journal left h
+    unfolding shownAfter past
+    after-nothing x q p = rw (one-less, ← q, p)
+
+    pub after-refused : {a : ℕ} (x : Next) → x ≡ nextRedoOf journal h → x ≡ next.Refused a → next.Refused a ≡ shownAfter journal left h
+    unfolding shownAfter past
+    after-refused x q p = rw (one-less, ← q, p)

@@ -1,11 +1,11 @@
--- What is shown of a record is what undo, redo or a play of the applied records reads, and its changes lie in the journal from `list` on. Assumes nothing.
+-- What is shown of a record is what undo or redo reads, and its changes lie in the journal from `list` on. Assumes nothing.
 use mathlib.Core.Path.{_≡_, refl, sym, ap, ap₂, _∙_}
 use mathlib.Core.Bool.{Bool, true, false, cond}
 use mathlib.Core.List.{List}
 use mathlib.Core.Option.{none, some, Option·some-injective}
-use Prim.Native.Nat.{ℕ, zero, suc, _+_, _-_}
+use Prim.Native.Nat.{ℕ, zero, suc, _+_, _-_, _≤_, _<_}
 use native.Mathlib.Omega.{arith}
-use borrow.Author.Tests.{leb-false}
+use borrow.Author.Tests.{eqb-false}
 use lib.Dec.{leb, eqb}
 use lib.ListN.{length, take, drop}
 use Rattle.limits.specs.Checks.{firstOf, refusedOr}
@@ -20,8 +20,15 @@ use Rattle.ledger.specs.Handle.{steppedBack, steppedForth}
 use Rattle.looks.specs.declared.Next.{Next}
 use Rattle.looks.specs.declared.Next.the-variants as next
 use Rattle.editing.specs.Calls.{handleChecks}
-use Rattle.looks.specs.Looks.{shown, stepShown, nextUndoOf, nextRedoOf, readShown, appliedOf}
+use Rattle.looks.specs.Looks.{shown, stepShown, nextUndoOf, nextRedoOf}
 use Rattle.looks.proofs.NextFound.{listAt, handle-sound, Seen, seen-back, seen-forth}
+
+-- ---- the next record to redo: what is read of it, that it starts at the standing offset and ends in the used part, and that there is one
+pub record Redoes (journal : List ℕ) (h : Handle) (e : Edit) (start n list count : ℕ) : Type 0 where
+  pub reads : readForth (take (h .end - h .offset) (drop (h .offset) journal)) ≡ some (n, e, changesIn journal list count)
+  pub starts : start ≡ h .offset
+  pub ends : h .offset + n ≤ h .end
+  pub left : h .position < h .count
 
 -- ---- a reading that is shown
 record Told (r : Reading) (from : ℕ → ℕ) (e : Edit) (start n list count : ℕ) : Type 0 where
@@ -33,12 +40,12 @@ record Told (r : Reading) (from : ℕ → ℕ) (e : Edit) (start n list count : 
 
 module _ {e : Edit} {start n list count : ℕ} where
   -- ---- back from a record that is shown to the tests before it
-  unrefused : (m : ℕ) (x : Next) → refusedOr m next.Refused x ≡ next.Record e start n list count → (m ≡ 0) × (x ≡ next.Record e start n list count)
+  pub unrefused : (m : ℕ) (x : Next) → refusedOr m next.Refused x ≡ next.Record e start n list count → (m ≡ 0) × (x ≡ next.Record e start n list count)
   unfolding refusedOr
   unrefused zero x p = (refl, p)
   unrefused (suc m) x p = absurd (let z : _≡_ {A = ℕ} 0 1 = cc in omega arith)
 
-  something : (b : Bool) (x : Next) → cond b next.Nothing x ≡ next.Record e start n list count → (b ≡ false) × (x ≡ next.Record e start n list count)
+  pub something : (b : Bool) (x : Next) → cond b next.Nothing x ≡ next.Record e start n list count → (b ≡ false) × (x ≡ next.Record e start n list count)
   something true x p = absurd (let z : _≡_ {A = ℕ} 0 1 = cc in omega arith)
   something false x p = (refl, p)
 
@@ -56,11 +63,6 @@ module _ {e : Edit} {start n list count : ℕ} where
   step-told size h none from inside stepped p = absurd (let z : _≡_ {A = ℕ} 0 1 = cc in omega arith)
   step-told size h (some t) from inside stepped p = told-by t from (unrefused _ (shown (from (t .0)) t) p .1)
 
-  read-told : (at : ℕ) (r : Reading) → readShown at r ≡ next.Record e start n list count → Told r (λ m. at) e start n list count
-  unfolding readShown
-  read-told at none p = absurd (let z : _≡_ {A = ℕ} 0 1 = cc in omega arith)
-  read-told at (some t) p = told-by t (λ m. at) p
-
   -- ---- its changes
   told-changes : {journal : List ℕ} {r : Reading} {from : ℕ → ℕ} (t : Told r from e start n list count) → Seen journal r (kindOf e) (from n) n count → r ≡ some (n, e, changesIn journal list count)
   told-changes {journal} {r} {from} t s =
@@ -77,7 +79,7 @@ module _ {e : Edit} {start n list count : ℕ} where
   unfolding foundAt
   told-forth offset t = rw (t .reads, t .counts)
 
-  -- ---- the three calls
+  -- ---- the two calls
   module _ (journal : List ℕ) (h : Handle) where
     pub undo-told : nextUndoOf journal h ≡ next.Record e start n list count → readBack (take (h .offset) journal) ≡ some (n, e, changesIn journal list count)
     unfolding nextUndoOf
@@ -88,22 +90,17 @@ module _ {e : Edit} {start n list count : ℕ} where
         let t = step-told (length journal) h (readBack (take (h .offset) journal)) (λ m. h .offset - m) (λ m. leb m (h .offset)) steppedBack step in
         told-changes t (seen-back journal (h .offset) (kindOf e) (h .offset - n) n count (omega (arith, s .ends, s .fits)) (told-back (h .offset) t) .found)
 
-    pub redo-told : nextRedoOf journal h ≡ next.Record e start n list count
-        → readForth (take (h .end - h .offset) (drop (h .offset) journal)) ≡ some (n, e, changesIn journal list count)
+    pub redo-told : nextRedoOf journal h ≡ next.Record e start n list count → Redoes journal h e start n list count
     unfolding nextRedoOf
     redo-told p =
         let fine = unrefused (firstOf (handleChecks (length journal) h)) _ p in
         let s = handle-sound (length journal) h (fine .0) in
-        let step = something (eqb (h .position) (h .count)) _ (fine .1) .1 in
-        let t = step-told (length journal) h (readForth (take (h .end - h .offset) (drop (h .offset) journal))) (λ m. h .offset) (λ m. leb (h .offset + m) (h .end)) steppedForth step in
-        told-changes t (seen-forth journal (h .offset) (h .end) (kindOf e) (h .offset) n count (s .ends) (s .fits) (told-forth (h .offset) t) .found)
-
-    pub applied-told : (at : ℕ) → appliedOf journal h at ≡ next.Record e start n list count
-        → readForth (take (h .offset - at) (drop at journal)) ≡ some (n, e, changesIn journal list count)
-    unfolding appliedOf
-    applied-told at p =
-        let fine = unrefused (firstOf (handleChecks (length journal) h)) _ p in
-        let s = handle-sound (length journal) h (fine .0) in
-        let read = something (leb (h .offset) at) _ (fine .1) in
-        let t = read-told at (readForth (take (h .offset - at) (drop at journal))) (read .1) in
-        told-changes t (seen-forth journal at (h .offset) (kindOf e) at n count (omega (arith, leb-false (h .offset) at (read .0))) (omega (arith, s .ends, s .fits)) (told-forth at t) .found)
+        let step = something (eqb (h .position) (h .count)) _ (fine .1) in
+        let t = step-told (length journal) h (readForth (take (h .end - h .offset) (drop (h .offset) journal))) (λ m. h .offset) (λ m. leb (h .offset + m) (h .end)) steppedForth (step .1) in
+        let f = seen-forth journal (h .offset) (h .end) (kindOf e) (h .offset) n count (s .ends) (s .fits) (told-forth (h .offset) t) in
+        record {
+          reads = told-changes t (f .found);
+          starts = t .starts;
+          ends = f .ends;
+          left = omega (arith, s .stands, eqb-false (h .position) (h .count) (step .0));
+        }

@@ -1,9 +1,10 @@
 -- What a maker asks of a history without changing its sheet: history.rs, `is_dirty`, `can_undo`, `can_redo`, `next_undo`, `next_redo` and `applied`. Each looks
 -- at the journal's length (1) and the handle (4), at no sheet. Definitions only. Assumes nothing.
+use mathlib.Core.Path.{_≡_}
 use mathlib.Core.Bool.{Bool, not, cond}
 use mathlib.Core.List.{List, [], _∷_}
 use mathlib.Core.Option.{none, some}
-use Prim.Native.Nat.{ℕ, _+_, _-_, _*_}
+use Prim.Native.Nat.{ℕ, zero, suc, _+_, _-_, _*_}
 use lib.Dec.{leb, eqb}
 use lib.ListN.{length, take, drop}
 use Rattle.limits.specs.Numbers.{journalDamaged}
@@ -58,13 +59,29 @@ nextRedoOf journal h =
     (cond (eqb (h .position) (h .count)) next.Nothing
     (stepShown (length journal) h (readForth (take (end - offset) (drop offset journal))) (λ n. offset) (λ n. leb (offset + n) end) steppedForth))
 
--- ---- `applied`: "The applied ops, oldest first", one a call: the record that starts at an offset before the standing one, whose bytes it is read from
-unfoldable pub readShown : ℕ → Reading → Next
-readShown at none = next.Refused journalDamaged
-readShown at (some r) = shown at r
+-- ---- `applied`: "The applied ops, oldest first", by number: what `next_redo` would show after that many steps, were every applied record undone and none past them
+-- there. So the journal is read from its first byte, record by record
+abbrev pub rewound : Handle → Handle
+rewound h = record { offset = 0; end = h .offset; position = 0; count = h .position; saved = 0 }
+
+-- what comes after a record that is shown, by its length
+unfoldable pub past : Next → (ℕ → Next) → Next
+past (next.Record e start n list count) more = more n
+past next.Nothing more = next.Nothing
+past (next.Refused number) more = next.Refused number
+
+unfoldable pub shownAfter : List ℕ → ℕ → Handle → Next
+shownAfter journal zero h = nextRedoOf journal h
+shownAfter journal (suc n) h = past (nextRedoOf journal h) (λ m. shownAfter journal n (steppedForth m h))
 
 unfoldable pub appliedOf : List ℕ → Handle → ℕ → Next
-appliedOf journal h at =
+appliedOf journal h number =
     checked (handleChecks (length journal) h) next.Refused
-    (cond (leb (h .offset) at) next.Nothing
-    (readShown at (readForth (take (h .offset - at) (drop at journal)))))
+    (cond (leb (h .position) number) next.Nothing
+    (shownAfter journal number (rewound h)))
+
+-- the chain of the records that end before `end` or at it: the oldest starts at 0, each next one where the one before ends. `applied` shows a record of it
+-- (`applied-chained` in proofs/Chained), in a history that was pushed the pushed ones (`applied-pushed` in proofs/Pushed)
+pub data Starts (journal : List ℕ) (end : ℕ) : ℕ → ℕ → Type 0 where
+  oldest : Starts journal end 0 0
+  after : {n at : ℕ} (r : ℕ × Edit × List Change) → Starts journal end n at → readForth (take (end - at) (drop at journal)) ≡ some r → Starts journal end (suc n) (at + r .0)

@@ -19,7 +19,7 @@ ghost use Prim.Native.Nat.{_+_, _-_, _*_, _≤_};
 ghost use lib.ListN.{length};
 ghost use Rattle.recorded.specs.Lies.{editAt, Lies};
 ghost use Rattle.looks.specs.declared.Next.the-variants as next;
-ghost use Rattle.looks.specs.Looks.{nextUndoOf, nextRedoOf, appliedOf};
+ghost use Rattle.looks.specs.Looks.{nextUndoOf, nextRedoOf, shownAfter, rewound, appliedOf};
 
 // The edit of a record that lies in the journal.
 fn edit_at(journal: &[u8], kind: u8, start: usize) -> Edit
@@ -126,25 +126,53 @@ pub fn next_redo(journal: &[u8], handle: Handle) -> Next
     }
 }
 
-// The applied record that starts at an offset, where one ends before the standing offset or at it. The
-// oldest starts at 0, and each next one where the one before ends.
-pub fn applied(journal: &[u8], handle: Handle, offset: usize) -> Next
-    ensures { λ r. ⌜ r ≡ appliedOf (now (journal .entry)) handle offset ⌝ }
+// What `next_redo` shows after n steps forth, each over the record that it shows.
+fn shown_after(journal: &[u8], handle: Handle, n: usize) -> Next
+    ensures { λ r. ⌜ r ≡ shownAfter (now (journal .entry)) n handle ⌝ }
+{
+    let mut cursor = handle;
+    let mut left = n;
+    while left != 0 {
+        match next_redo(journal, cursor) {
+            Next::Record {
+                edit: _,
+                start: _,
+                length,
+                list: _,
+                count: _,
+            } => cursor = stepped_forth(cursor, length),
+            Next::Nothing => return Next::Nothing,
+            Next::Refused(no) => return Next::Refused(no),
+        }
+        left -= 1;
+    }
+    next_redo(journal, cursor)
+}
+
+// The applied records as a history of their own, none of them redone.
+fn rewound(handle: Handle) -> Handle
+    ensures { λ r. ⌜ r ≡ rewound handle ⌝ }
+{
+    Handle {
+        offset: 0,
+        end: handle.offset,
+        position: 0,
+        count: handle.position,
+        saved: 0,
+    }
+}
+
+// An applied record by its number, 0 for the oldest. The journal is read from its first byte, record by record: what
+// lies inside a record is never taken for one, and where one on the way is unsound the answer is 4.
+pub fn applied(journal: &[u8], handle: Handle, number: usize) -> Next
+    ensures { λ r. ⌜ r ≡ appliedOf (now (journal .entry)) handle number ⌝ }
 {
     let no = handle_no(journal.len(), handle);
     if no != 0 {
         return Next::Refused(no);
     }
-    if handle.offset <= offset {
+    if handle.position <= number {
         return Next::Nothing;
     }
-    match find_forth(journal, offset, handle.offset) {
-        Found::Record {
-            kind,
-            start,
-            length,
-            count,
-        } => record_at(journal, kind, start, length, count),
-        Found::Unsound => Next::Refused(JOURNAL_DAMAGED),
-    }
+    shown_after(journal, rewound(handle), number)
 }

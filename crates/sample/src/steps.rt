@@ -202,7 +202,14 @@ fn shown(c: usize, a: Hand, journal: &[u8], state: &[usize; 6]) -> Outcome {
     let no = match c {
         52 => exports::call_next_undo(journal, state, &mut bytes, &mut doubles, &mut r),
         53 => exports::call_next_redo(journal, state, &mut bytes, &mut doubles, &mut r),
-        _ => exports::call_applied(journal, state, a.seeds.at, &mut bytes, &mut doubles, &mut r),
+        _ => exports::call_applied(
+            journal,
+            state,
+            a.seeds.number,
+            &mut bytes,
+            &mut doubles,
+            &mut r,
+        ),
     };
     told(no, mix_edit(mix_answer(no, &r), &bytes, &doubles))
 }
