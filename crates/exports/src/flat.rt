@@ -45,7 +45,16 @@ pub(crate) fn area_of(whole: bool, s: &[u16; 4]) -> Area {
     }
 }
 
-// An edit: kind, tool, old colour and new colour in bytes; its index; its LAB. Kinds past 4 are removals.
+// What a wrapper returns for a kind that no edit has: none of document 01's numbers.
+pub(crate) const NO_EDIT: u8 = 254;
+
+// Whether the bytes are an edit's: of a kind from 1 to 4. Each wrapper asks it before `edit_of`.
+pub(crate) fn is_edit(bytes: &[u8; 8]) -> bool {
+    let kind = bytes[0];
+    1 <= kind && kind <= 4
+}
+
+// An edit: kind, tool, old colour and new colour in bytes; its index; its LAB.
 pub(crate) fn edit_of(bytes: &[u8; 8], index: usize, doubles: &[f64; 3]) -> Edit {
     let kind = bytes[0];
     let old = Rgb {

@@ -1,6 +1,8 @@
 // The calls of `history`. The palette count and the handle's five numbers go in and come back in a list of six.
+use crate::flat::NO_EDIT;
 use crate::flat::NONE;
 use crate::flat::edit_of;
+use crate::flat::is_edit;
 use crate::flat::tell_edit;
 use history::Handle;
 use history::Moved;
@@ -55,6 +57,9 @@ pub extern "C" fn call_push(
     scratch: &mut [u8],
     state: &mut [usize; 6],
 ) -> u8 {
+    if !is_edit(bytes) {
+        return NO_EDIT;
+    }
     let k = state[0];
     let edit = edit_of(bytes, index, doubles);
     let handle = handle_of(state);
@@ -238,6 +243,9 @@ pub extern "C" fn call_replay(
     scratch: &mut [u8],
     state: &mut [usize; 6],
 ) -> u8 {
+    if !is_edit(bytes) {
+        return NO_EDIT;
+    }
     let k = state[0];
     let edit = edit_of(bytes, index, doubles);
     let m = history::replay(

@@ -1,5 +1,7 @@
 // The calls of `line` and `tools`.
+use crate::flat::NO_EDIT;
 use crate::flat::edit_of;
+use crate::flat::is_edit;
 use crate::flat::tell_count;
 use crate::flat::tell_edit;
 use tools::Made;
@@ -59,11 +61,17 @@ pub extern "C" fn call_is_empty(
     doubles: &[f64; 3],
     list: &[u64],
 ) -> bool {
+    if !is_edit(bytes) {
+        return false;
+    }
     tools::is_empty(edit_of(bytes, index, doubles), list)
 }
 
 #[no_mangle]
 pub extern "C" fn call_kind(bytes: &[u8; 8], index: usize, doubles: &[f64; 3]) -> u8 {
+    if !is_edit(bytes) {
+        return NO_EDIT;
+    }
     tools::kind(edit_of(bytes, index, doubles))
 }
 
