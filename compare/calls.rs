@@ -62,10 +62,10 @@ ours! {
     call_bresenham(ax: i32, ay: i32, bx: i32, by: i32, out: mut [i32], r: R,) -> u8;
     call_normalize(list: [u64], scratch: mut [u64], out: mut [u64], r: R,) -> u8;
     call_pixels(tool: u8, list: [u64], scratch: mut [u64], out: mut [u64], bytes: &mut [u8; 8], doubles: &mut [f64; 3], r: R,) -> u8;
-    call_is_empty(bytes: &[u8; 8], index: usize, doubles: &[f64; 3], list: [u64],) -> bool;
+    call_is_empty(bytes: &[u8; 8], index: usize, doubles: &[f64; 3], list: [u64], r: R,) -> u8;
     call_kind(bytes: &[u8; 8], index: usize, doubles: &[f64; 3],) -> u8;
     call_extend(stroke: mut [u64], count: usize, list: [u64], scratch: mut [u64], r: R,) -> u8;
-    call_stroke(tool: u8, count: usize, bytes: &mut [u8; 8], doubles: &mut [f64; 3], r: R,) -> u8;
+    call_stroke(tool: u8, stroke: mut [u64], count: usize, scratch: mut [u64], bytes: &mut [u8; 8], doubles: &mut [f64; 3], r: R,) -> u8;
 
     call_pencil(sheet, whole: bool, s: S, points: [i32], size: usize, index: i16, scratch: mut [u64], out: mut [u64], r: R,) -> u8;
     call_eraser(sheet, whole: bool, s: S, points: [i32], size: usize, scratch: mut [u64], out: mut [u64], r: R,) -> u8;

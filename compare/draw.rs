@@ -1,5 +1,6 @@
 //! A fixed sequence of numbers to draw inputs from.
 
+#[derive(Clone)]
 pub struct Draw(u64);
 
 impl Draw {

@@ -370,7 +370,20 @@ fn lists(t: &mut Table) {
                 "{buffer:x?} {count} {event:x?} {scratch}"
             );
         }
-        tell!(t, "Stroke", sheets::stroke(tool, &list), "{tool} {list:x?}");
+        // a stroke of any changes, as many as its buffer has, fewer, or more
+        let mut apart = draw.clone();
+        let count = if apart.once_in(20) {
+            n + apart.below(3)
+        } else {
+            apart.room(n).min(n)
+        };
+        let scratch = apart.room(count);
+        tell!(
+            t,
+            "Stroke",
+            sheets::stroke(tool, &list, count, scratch),
+            "{tool} {list:x?} {count} {scratch}"
+        );
     }
     // every list of up to three changes at two places, olds and news 0 or 1
     for n in 0..3 {
@@ -1084,6 +1097,16 @@ fn long_lists(t: &mut Table) {
             "{n} changes"
         );
         tell!(t, "pixels", sheets::pixels(7, &list, n, n), "{n} changes");
+        let mut apart = draw.clone();
+        for e in [any_edit(3, &mut apart), any_edit(3, &mut apart)] {
+            tell!(t, "is_empty", sheets::is_empty(&e, &list), "{e:?} {n}");
+        }
+        tell!(
+            t,
+            "Stroke",
+            sheets::stroke(7, &list, n, n),
+            "a stroke of {n}"
+        );
         let front = list_of(&normalize(changes_of(&list[..1000])));
         let mut buffer = front.clone();
         buffer.resize(n, WORD);

@@ -399,12 +399,13 @@ fn loose(c: usize, d: &Deck) -> Vec<u64> {
             let front = normal();
             sheets::extend(&over(&front, 5, WORD), front.len(), &list(d[24], 3), 7)
         }
-        42 => sheets::stroke(
-            d[24] as u8,
-            &(0..pick(d[20], 4) as u64)
-                .map(|x| x | 1 << 48)
-                .collect::<Vec<u64>>(),
-        ),
+        42 => {
+            // the fingerprint is without the buffer, whose changes are in normal form and stay as they are
+            let buffer: Vec<u64> = (0..4).map(|x| x | 1 << 48).collect();
+            let [mut words, _] = sheets::stroke(d[24] as u8, &buffer, pick(d[20], 4), 4);
+            words.truncate(words.len() - buffer.len());
+            [words, Vec::new()]
+        }
         59 => sheets::linear(d[25] as u8),
         60 => {
             let lab = |rgb: &[u8]| pixelforge::color::rgb8_to_lab(rgb).try_into().unwrap();

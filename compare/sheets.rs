@@ -448,11 +448,14 @@ pub fn pixels(tool: u8, list: &[u64], scratch: usize, out: usize) -> Pair {
 }
 
 pub fn is_empty(e: &Flat, list: &[u64]) -> Pair {
-    let expected = e.op(list).is_empty();
-    [
-        vec![0, expected.into()],
-        vec![0, call_is_empty(&e.bytes, e.index, &e.lab, list).into()],
-    ]
+    let expected = if list.len() > MAX_CHANGES {
+        vec![21, R[0] as u64]
+    } else {
+        vec![0, e.op(list).is_empty().into()]
+    };
+    let mut r = R;
+    let no = call_is_empty(&e.bytes, e.index, &e.lab, list, &mut r);
+    [expected, vec![no.into(), r[0] as u64]]
 }
 
 pub fn kind(e: &Flat) -> Pair {
@@ -489,19 +492,34 @@ pub fn extend(buffer: &[u64], count: usize, list: &[u64], scratch: usize) -> Pai
     [expected, listed(no, &r, &to)]
 }
 
-/// `Stroke::new`, `tool`, `changes` and `into_op`, of a stroke of so many changes.
-pub fn stroke(tool: u8, list: &[u64]) -> Pair {
-    let mut stroke = Stroke::new(&tool.to_string());
-    let fresh = stroke.changes().len();
-    stroke.extend(changes_of(list));
-    let count = stroke.changes().len();
-    let (b, f, mut r, normal) = flat_of(&stroke.into_op());
-    r[1] = normal.len();
-    (r[2], r[3]) = (fresh, count);
-    let expected = made(0, b, f, r, &[]);
-    let (mut b, mut f, mut r) = (BYTES, DOUBLES, R);
-    let no = call_stroke(tool, count, &mut b, &mut f, &mut r);
-    [expected, made(no, b, f, r, &[])]
+/// `Stroke::new`, `tool`, `changes` and `into_op`, of a stroke of the first `count` changes of a buffer, whatever they are:
+/// the Rust's `into_op` is `Op::pixels`. The buffer is at the end of the words.
+pub fn stroke(tool: u8, buffer: &[u64], count: usize, scratch: usize) -> Pair {
+    let held = first(&[(21, count > MAX_CHANGES), (16, count > buffer.len())]);
+    let mut expected_r = R;
+    expected_r[2] = Stroke::new(&tool.to_string()).changes().len();
+    if held == 0 {
+        expected_r[3] = count;
+    }
+    let no = if held == 0 && scratch < count {
+        16
+    } else {
+        held
+    };
+    let expected = if no == 0 {
+        let op = Op::pixels(&tool.to_string(), changes_of(&buffer[..count]));
+        let (b, f, _, normal) = flat_of(&op);
+        expected_r[1] = normal.len();
+        let mut out = buffer.to_vec();
+        out[..normal.len()].copy_from_slice(&normal);
+        made(0, b, f, expected_r, &out)
+    } else {
+        made(no, BYTES, DOUBLES, expected_r, buffer)
+    };
+    let (mut to, mut room, mut b, mut f, mut r) =
+        (buffer.to_vec(), vec![WORD; scratch], BYTES, DOUBLES, R);
+    let no = call_stroke(tool, &mut to, count, &mut room, &mut b, &mut f, &mut r);
+    [expected, made(no, b, f, r, &to)]
 }
 
 // palette.rs

@@ -4,6 +4,8 @@ use crate::flat::edit_of;
 use crate::flat::is_edit;
 use crate::flat::tell_count;
 use crate::flat::tell_edit;
+use limits::Counted;
+use tools::Emptiness;
 use tools::Made;
 use tools::Stroke;
 
@@ -60,11 +62,18 @@ pub extern "C" fn call_is_empty(
     index: usize,
     doubles: &[f64; 3],
     list: &[u64],
-) -> bool {
+    r: &mut [usize; 5],
+) -> u8 {
     if !is_edit(bytes) {
-        return false;
+        return NO_EDIT;
     }
-    tools::is_empty(edit_of(bytes, index, doubles), list)
+    match tools::is_empty(edit_of(bytes, index, doubles), list) {
+        Emptiness::Is(b) => {
+            r[0] = if b { 1 } else { 0 };
+            0
+        }
+        Emptiness::Refused(n) => n,
+    }
 }
 
 #[no_mangle]
@@ -86,11 +95,22 @@ pub extern "C" fn call_extend(
     tell_count(tools::extend(stroke, count, list, scratch), r)
 }
 
-// A stroke of so many changes as an edit. r[2] is the count of a new one, r[3] its own.
+// A count, or what stands in for it where it is refused.
+fn count_or(c: Counted, other: usize) -> usize {
+    match c {
+        Counted::Count(n) => n,
+        Counted::Refused(_) => other,
+    }
+}
+
+// A stroke of the first `count` changes of a buffer as an edit. r[2] is how many a new one has there, r[3] how many it
+// has itself.
 #[no_mangle]
 pub extern "C" fn call_stroke(
     tool: u8,
+    stroke: &mut [u64],
     count: usize,
+    scratch: &mut [u64],
     bytes: &mut [u8; 8],
     doubles: &mut [f64; 3],
     r: &mut [usize; 5],
@@ -100,7 +120,7 @@ pub extern "C" fn call_stroke(
         tool: fresh.tool(),
         count,
     };
-    r[2] = fresh.changes();
-    r[3] = s.changes();
-    tell_made(s.into_op(), bytes, doubles, r)
+    r[2] = count_or(fresh.changes(stroke), r[2]);
+    r[3] = count_or(s.changes(stroke), r[3]);
+    tell_made(s.into_op(stroke, scratch), bytes, doubles, r)
 }

@@ -216,18 +216,15 @@ pub fn edit(a: Hand) -> [u8; 8] {
 
 // Beside a list of one change, or none.
 fn is_empty(a: Hand) -> Outcome {
+    let mut one = [7777usize; 5];
+    let mut none = [7777usize; 5];
     let doubles = [0.0f64; 3];
     let bytes = edit(a);
-    let list = [0u64; 1];
-    let none = [0u64; 0];
-    let one = exports::call_is_empty(&bytes, a.choice.from, &doubles, &list);
-    told(
-        0,
-        mix(
-            mix(mix_number(0), one_if(one)),
-            one_if(exports::call_is_empty(&bytes, a.choice.from, &doubles, &none)),
-        ),
-    )
+    let change = [0u64; 1];
+    let nothing = [0u64; 0];
+    exports::call_is_empty(&bytes, a.choice.from, &doubles, &change, &mut one);
+    let no = exports::call_is_empty(&bytes, a.choice.from, &doubles, &nothing, &mut none);
+    told(no, mix(mix(mix_number(no), one[0] as u64), none[0] as u64))
 }
 
 fn kind(a: Hand) -> Outcome {
@@ -257,13 +254,23 @@ fn extend(a: Hand) -> Outcome {
     told(no, mix_words(mix_answer(no, &r), &stroke))
 }
 
+// A stroke of up to four changes in normal form: at x = 0, 1, 2 and 3, from 0 to 1.
 fn stroke(a: Hand) -> Outcome {
     let mut r = [7777usize; 5];
     let mut bytes = [0x5au8; 8];
     let mut doubles = [1.5f64; 3];
+    let mut scratch = [0u64; 4];
+    let mut buffer = [
+        0x0001_0000_0000_0000u64,
+        0x0001_0000_0000_0001u64,
+        0x0001_0000_0000_0002u64,
+        0x0001_0000_0000_0003u64,
+    ];
     let no = exports::call_stroke(
         a.choice.tool,
+        &mut buffer,
         a.choice.from,
+        &mut scratch,
         &mut bytes,
         &mut doubles,
         &mut r,

@@ -1,2 +1,3 @@
 pub mod Normalizing
 pub mod Extending
+pub mod Reading

@@ -1,23 +1,30 @@
--- What `normalize` and `pixels` answer, by what their tests find. Assumes nothing.
+-- What `normalize`, `pixels` and `is_empty` answer, by what their tests find. Assumes nothing.
 use Prim.Native.Nat.{ℕ, _≤_, _<_}
-use mathlib.Core.Path.{_≡_, refl, ap}
-use mathlib.Core.List.{List, map}
+use mathlib.Core.Path.{_≡_, refl, ap, _∙_}
+use mathlib.Core.Bool.{Bool}
+use mathlib.Core.List.{List, [], _∷_, map}
 use native.Mathlib.Omega.{arith}
 use borrow.Author.Tests.{lt-ltb, le-ltb}
+use lib.Dec.{ltb}
 use lib.ListN.{length, take}
 use Rattle.limits.specs.Limits.{maxChanges}
-use Rattle.limits.specs.Checks.{firstOf}
+use Rattle.limits.specs.Numbers.{listTooLong}
+use Rattle.limits.specs.Checks.{_when_, firstOf}
 use Rattle.limits.specs.Answer.{filled}
 use Rattle.limits.specs.declared.Counted.{Counted}
 use Rattle.limits.specs.declared.Counted.the-variants.{Count, Refused}
+use Rattle.limits.proofs.First.{refused-first, result-first}
+use Rattle.edits.specs.declared.Edit.{Edit}
 use Rattle.edits.specs.Change.{unpacked}
+use Rattle.edits.specs.Apply.{noPixels}
 use Rattle.changes.specs.Fronts.{Front}
 use Rattle.changes.specs.Listed.{handed, countOf, InScratch}
 use Rattle.changes.proofs.Handing.{listed-refused, listed-done}
 use Rattle.changes.proofs.InScratch.{scratch-then}
 use Rattle.normal.specs.Normal.{normalizeOf, normalPacked}
 use Rattle.tools.specs.declared.Made.{Made}
-use Rattle.tools.specs.Op.{normalizeChecks, normalizeCall, made, madeCount, pixelsOf, pixelsCall}
+use Rattle.tools.specs.declared.Emptiness.the-variants as emptiness
+use Rattle.tools.specs.Op.{normalizeChecks, normalizeCall, made, madeCount, pixelsOf, pixelsCall, isEmptyOf}
 
 module _ (room : ℕ) (list out : List ℕ) where
   pub normalize-long : maxChanges < length list → filled (Refused 21) out ≡ normalizeCall room list out
@@ -50,3 +57,13 @@ module _ (tool room : ℕ) (list : List ℕ) (places : ℕ) where
       → InScratch (madeCount r) places s (made r) (pixelsCall tool room list)
   unfolding pixelsCall
   pixels-in {a} c e = rw (e, count-kept tool a) (scratch-then c (λ out after h d. ap (λ f. made (pixelsOf tool (f .answer)) (f .buffer)) d))
+
+-- ---- `is_empty`
+module _ (edit : Edit) (list : List ℕ) where
+  pub empty-long : maxChanges < length list → emptiness.Refused 21 ≡ isEmptyOf edit list
+  unfolding isEmptyOf firstOf
+  empty-long h = refused-first (listTooLong when ltb maxChanges (length list) ∷ []) emptiness.Refused _ 21 (rw (lt-ltb maxChanges (length list) h)) (λ e. omega arith)
+
+  pub empty-told : {b : Bool} → length list ≤ maxChanges → b ≡ noPixels edit (map unpacked list) → emptiness.Is b ≡ isEmptyOf edit list
+  unfolding isEmptyOf firstOf
+  empty-told h e = ap emptiness.Is e ∙ result-first (listTooLong when ltb maxChanges (length list) ∷ []) emptiness.Refused _ (rw (le-ltb maxChanges (length list) h))

@@ -5,16 +5,20 @@ use lib.Dec.{ltb}
 use lib.ListN.{length}
 use Rattle.limits.specs.Limits.{maxChanges}
 use Rattle.limits.specs.Numbers.{noSpace, listTooLong}
-use Rattle.limits.specs.Checks.{Check, _when_}
+use Rattle.limits.specs.Checks.{Check, _when_, checked}
 use Rattle.limits.specs.Answer.{Filled}
 use Rattle.limits.specs.declared.Counted.{Counted}
 use Rattle.limits.specs.declared.Counted.the-variants as counted
+use Rattle.edits.specs.declared.Edit.{Edit}
 use Rattle.edits.specs.declared.Edit.the-variants.{Pixels}
 use Rattle.edits.specs.Change.{unpacked}
+use Rattle.edits.specs.Apply.{noPixels}
 use Rattle.changes.specs.Listed.{listed}
 use Rattle.normal.specs.Normal.{normalizeOf}
 use Rattle.tools.specs.declared.Made.{Made}
 use Rattle.tools.specs.declared.Made.the-variants as made-of
+use Rattle.tools.specs.declared.Emptiness.{Emptiness}
+use Rattle.tools.specs.declared.Emptiness.the-variants as emptiness
 
 -- 21, then 16: the scratch holds one number a change
 unfoldable pub normalizeChecks : ℕ → ℕ → List Check
@@ -44,3 +48,7 @@ pixelsOf tool (counted.Refused n) = made-of.Refused n
 
 unfoldable pub pixelsCall : ℕ → ℕ → List ℕ → List ℕ → MadeList
 pixelsCall tool room list out = let r = normalizeCall room list out in made (pixelsOf tool (r .answer)) (r .buffer)
+
+-- ---- 21, then `is_empty`: "A `Pixels` op without changes"
+unfoldable pub isEmptyOf : Edit → List ℕ → Emptiness
+isEmptyOf edit list = checked (listTooLong when ltb maxChanges (length list) ∷ []) emptiness.Refused (emptiness.Is (noPixels edit (map unpacked list)))

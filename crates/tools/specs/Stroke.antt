@@ -5,11 +5,15 @@ use lib.Dec.{ltb}
 use lib.ListN.{length, take}
 use Rattle.limits.specs.Limits.{maxChanges}
 use Rattle.limits.specs.Numbers.{noSpace, listTooLong}
-use Rattle.limits.specs.Checks.{Check, _when_}
+use Rattle.limits.specs.Checks.{Check, _when_, checked}
 use Rattle.limits.specs.Answer.{Filled}
+use Rattle.limits.specs.declared.Counted.{Counted}
+use Rattle.limits.specs.declared.Counted.the-variants.{Count, Refused}
 use Rattle.edits.specs.Change.{Change, unpacked}
 use Rattle.changes.specs.Listed.{listed}
 use Rattle.normal.specs.Normal.{normalizeOf}
+use Rattle.tools.specs.declared.Made.the-variants as made-of
+use Rattle.tools.specs.Op.{MadeList, made, pixelsCall}
 
 -- `self.changes.extend(changes); self.changes = normalize(..)`
 unfoldable pub extended : List Change → List Change → List Change
@@ -28,3 +32,16 @@ extendChecks count places n room =
 unfoldable pub extendCall : ℕ → ℕ → List ℕ → List ℕ → Filled ℕ
 extendCall room count list stroke =
     listed (extendChecks count (length stroke) (length list) room) (extended (map unpacked (take count stroke)) (map unpacked list)) stroke
+
+-- ---- a stroke of which the buffer is read: 21 for its count, then 16 for a count of changes that the buffer does not have
+unfoldable pub strokeChecks : ℕ → ℕ → List Check
+strokeChecks count places = listTooLong when ltb maxChanges count ∷ noSpace when ltb places count ∷ []
+
+-- `&self.changes`: the first `count` of a buffer of `places`
+unfoldable pub changesOf : ℕ → ℕ → Counted
+changesOf count places = checked (strokeChecks count places) Refused (Count count)
+
+-- `Op::pixels(&self.tool, self.changes)`, its list over the buffer's front; room is the scratch's length
+unfoldable pub intoOpCall : ℕ → ℕ → ℕ → List ℕ → MadeList
+intoOpCall tool room count stroke =
+    checked (strokeChecks count (length stroke)) (λ n. made (made-of.Refused n) stroke) (pixelsCall tool room (take count stroke) stroke)

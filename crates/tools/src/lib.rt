@@ -24,7 +24,14 @@ pub enum Made {
     Refused(u8),
 }
 
-// A drag: the tool that it is noted with, and how many changes its buffer holds so far, at the front.
+// What `is_empty` answers.
+pub enum Emptiness {
+    Is(bool),
+    Refused(u8),
+}
+
+// A drag: the tool that it is noted with, and how many changes its buffer holds so far, at the front. A maker may write
+// any count: the calls that read the buffer check it.
 pub struct Stroke {
     pub tool: u8,
     pub count: usize,

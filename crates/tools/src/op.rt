@@ -1,4 +1,5 @@
 // `normalize` and what else op.rs asks of an edit and its list.
+use crate::Emptiness;
 use crate::Made;
 use changes::copy_out;
 use changes::count_of;
@@ -9,14 +10,11 @@ use limits::LIST_TOO_LONG;
 use limits::MAX_CHANGES;
 use limits::NO_SPACE;
 ghost use mathlib.Core.Path.{_≡_};
-ghost use mathlib.Core.List.{map};
 ghost use lib.ListN.{length};
 ghost use Rattle.limits.specs.Answer.{filled};
-ghost use Rattle.edits.specs.Change.{unpacked};
-ghost use Rattle.edits.specs.Apply.{noPixels};
 ghost use Rattle.records.specs.Found.{kindOf};
 ghost use Rattle.changes.specs.Listed.{countOf, InScratch};
-ghost use Rattle.tools.specs.Op.{normalizeCall, made, madeCount, pixelsOf, pixelsCall};
+ghost use Rattle.tools.specs.Op.{normalizeCall, made, madeCount, pixelsOf, pixelsCall, isEmptyOf};
 
 // The normal form of a list, left at the front of the scratch for a buffer of `room` places: in order by y, then
 // x, with the first old and the last new of each place, and without what changes nothing.
@@ -86,11 +84,15 @@ pub fn made_count(answer: Made) -> usize
     }
 }
 
-// Whether the edit is of pixels, and its list is empty.
-pub fn is_empty(edit: Edit, list: &[u64]) -> bool
-    ensures { λ r. ⌜ r ≡ noPixels edit (map unpacked (now (list .entry))) ⌝ }
+// Whether the edit is of pixels, and its list is empty. The list beside an edit of another kind is not read; over the
+// limit it is 21, too.
+pub fn is_empty(edit: Edit, list: &[u64]) -> Emptiness
+    ensures { λ r. ⌜ r ≡ isEmptyOf edit (now (list .entry)) ⌝ }
 {
-    edit.is_empty(list.len())
+    if MAX_CHANGES < list.len() {
+        return Emptiness::Refused(LIST_TOO_LONG);
+    }
+    Emptiness::Is(edit.is_empty(list.len()))
 }
 
 // The journal's kind of an edit: 1 "pixels", 2 "palette_set", 3 "palette_add", 4 "palette_remove".

@@ -2,10 +2,11 @@
 // buffer is the normal form of what it was and then the event's list, so that normalising goes on step by step.
 use crate::Made;
 use crate::Stroke;
+use crate::made_count;
+use crate::pixels_in;
 use changes::copy_out;
 use changes::count_of;
 use changes::counted;
-use edits::Edit;
 use limits::Counted;
 use limits::LIST_TOO_LONG;
 use limits::MAX_CHANGES;
@@ -15,9 +16,8 @@ ghost use mathlib.Core.Path.{_≡_};
 ghost use lib.ListN.{length};
 ghost use Rattle.limits.specs.Checks.{firstOf};
 ghost use Rattle.limits.specs.Answer.{filled};
-ghost use Rattle.tools.specs.declared.Made.the-variants.{Op};
-ghost use Rattle.edits.specs.declared.Edit.the-variants.{Pixels};
-ghost use Rattle.tools.specs.Stroke.{extendChecks, extendCall};
+ghost use Rattle.tools.specs.Op.{made};
+ghost use Rattle.tools.specs.Stroke.{extendChecks, extendCall, strokeChecks, changesOf, intoOpCall};
 
 // The number of the first check of an extension that applies, or 0: 21 of either list, then 16 for a count that
 // the buffer has no places for, and for scratch with fewer places than both lists have changes.
@@ -55,6 +55,20 @@ pub fn extend(stroke: &mut [u64], count: usize, list: &[u64], scratch: &mut [u64
     r
 }
 
+// The number of the first check of a stroke that applies, or 0: 21 of its count, then 16 where the buffer has fewer
+// places.
+fn stroke_no(count: usize, places: usize) -> u8
+    ensures { λ r. ⌜ r ≡ firstOf (strokeChecks count places) ⌝ }
+{
+    if MAX_CHANGES < count {
+        return LIST_TOO_LONG;
+    }
+    if places < count {
+        return NO_SPACE;
+    }
+    0
+}
+
 impl Stroke {
     // A stroke without changes.
     pub fn new(tool: u8) -> Stroke
@@ -71,19 +85,30 @@ impl Stroke {
     }
 
     // How many changes it has so far, for the preview: the first of its buffer.
-    pub fn changes(self) -> usize
-        ensures { λ r. ⌜ r ≡ self .count ⌝ }
+    pub fn changes(self, stroke: &[u64]) -> Counted
+        ensures { λ r. ⌜ r ≡ changesOf (self .count) (length (now (stroke .entry))) ⌝ }
     {
-        self.count
+        let no = stroke_no(self.count, stroke.len());
+        if no != 0 {
+            return Counted::Refused(no);
+        }
+        Counted::Count(self.count)
     }
 
-    // The stroke as one edit of pixels. Its changes are in normal form already, so they stay where they are.
-    pub fn into_op(self) -> Made
-        ensures { λ r. ⌜ r ≡ Op (Pixels (self .tool)) (self .count) ⌝ }
+    // The stroke as one edit of pixels: its changes, normalised, at the front of its buffer. What `extend` left there
+    // is in normal form and stays as it is. The scratch has a place a change, or the answer is 16.
+    pub fn into_op(self, stroke: &mut [u64], scratch: &mut [u64]) -> Made
+        ensures { λ r. ⌜ made r (now (stroke .exit)) ≡ intoOpCall (self .tool) (length (now (scratch .entry))) (self .count) (now (stroke .entry)) ⌝ }
+        ensures { λ _. ⌜ length (now (scratch .exit)) ≡ length (now (scratch .entry)) ⌝ }
     {
-        Made::Op {
-            edit: Edit::Pixels { tool: self.tool },
-            count: self.count,
+        let count = self.count;
+        let places = stroke.len();
+        let no = stroke_no(count, places);
+        if no != 0 {
+            return Made::Refused(no);
         }
+        let r = pixels_in(self.tool, &stroke[..count], scratch, places);
+        copy_out(scratch, made_count(r), stroke);
+        r
     }
 }
