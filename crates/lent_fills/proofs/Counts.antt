@@ -35,7 +35,7 @@ use Rattle.changes.specs.Listed.{countOf, InScratch}
 use Rattle.changes.proofs.InScratch.{scratch-none, scratch-then}
 use Rattle.structs.specs.Struct.{least}
 use Rattle.fills.specs.Fills.{hasIndex, replacing, replaced, fromPixel, global, listed, replaceColorOf, fillGlobalOf}
-use Rattle.lent_fills.specs.Scratch.{noRoom, needing}
+use Rattle.structs.specs.Scratch.{noRoom, needing}
 use Rattle.lent_removals.proofs.Listing.{Lists, listed-in, none-same}
 
 -- ---- a list of changes over a buffer

@@ -14,7 +14,7 @@ ghost use Rattle.sheet.specs.Sheet.{sheetOf};
 ghost use Rattle.changes.specs.Listed.{countOf, InScratch};
 ghost use Rattle.structs.specs.Struct.{packedOf};
 ghost use Rattle.fills.specs.Fills.{replaceColorOf, fillGlobalOf};
-ghost use Rattle.lent_fills.specs.Scratch.{noRoom, needing};
+ghost use Rattle.structs.specs.Scratch.{noRoom, needing};
 
 // What a call answers that has too little scratch: 16, where nothing else refuses it.
 fn no_room(answer: Counted) -> Counted

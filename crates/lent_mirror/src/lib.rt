@@ -1,13 +1,20 @@
-// `mirror_tiles` of tools.rs as makers hold it: the list of changes is a lent slice of structs, to read and to fill.
-// The call is thin over `mirror::mirror_tiles_in`, and its contract is the flat call's own definition at the numbers
-// that the structs stand for.
+// `mirror_tiles` of tools.rs as makers hold it: the list of changes is a lent slice of structs, to read and to fill. Its
+// contract is the flat call's own definition at the numbers that the structs stand for; the one thing asked for beyond it
+// is a buffer for those numbers.
 //
 // Two buffers of numbers are lent as scratch; what they hold after the call is free.
-use changes::count_of;
+mod packed;
+
 use limits::Counted;
-use mirror::mirror_tiles_in;
+use mirror_checks::is_touching;
+use packed::kept_of;
+use packed::made_of;
+use packed::mirror_packed;
+use packed::read_of;
 use selection::Area;
 use structs::Change;
+use structs::any_outside;
+use structs::copy_front;
 use structs::lesser;
 use structs::pack;
 use structs::unpack;
@@ -17,11 +24,11 @@ ghost use lib.ListN.{length};
 ghost use Rattle.limits.specs.Answer.{filled};
 ghost use Rattle.sheet.specs.Sheet.{sheetOf};
 ghost use Rattle.structs.specs.Struct.{packedOf};
-ghost use Rattle.mirror.specs.Places.{mirrorPlaced};
+ghost use Rattle.lent_mirror.specs.Lent.{mirrorLent};
 
-// `mirror::mirror_tiles`. The scratch has a place for each of the sheet's. Flat has a place a change, and so has the
-// scratch where the list is handed back untouched; with fewer no change is read, and the answer is 16 where nothing
-// else refuses the call.
+// `mirror::mirror_tiles`. The scratch has a place for each of the sheet's, as there. Flat has a place a change where the
+// list is touched; with fewer the answer is 16, where nothing else refuses the call. A list that is handed back untouched
+// needs none.
 pub fn mirror_tiles(
     w: usize,
     h: usize,
@@ -37,12 +44,17 @@ pub fn mirror_tiles(
     scratch: &mut [u64],
     out: &mut [Change],
 ) -> Counted
-    ensures { λ r. ⌜ (filled r (map packedOf (now (out .exit))) ≡ mirrorPlaced (sheetOf w h k (now (palette .entry)) (now (lab .entry)) (now (indices .entry))) area on t (map packedOf (now (list .entry))) (length (now (flat .entry))) (length (now (scratch .entry))) (map packedOf (now (out .entry)))) × (length (now (flat .exit)) ≡ length (now (flat .entry))) × (length (now (scratch .exit)) ≡ length (now (scratch .entry))) ⌝ }
+    ensures { λ r. ⌜ (filled r (map packedOf (now (out .exit))) ≡ mirrorLent (sheetOf w h k (now (palette .entry)) (now (lab .entry)) (now (indices .entry))) area on t (map packedOf (now (list .entry))) (length (now (flat .entry))) (length (now (scratch .entry))) (map packedOf (now (out .entry)))) × (length (now (flat .exit)) ≡ length (now (flat .entry))) × (length (now (scratch .exit)) ≡ length (now (scratch .entry))) ⌝ }
 {
     let n = list.len();
-    let m = lesser(n, flat.len());
+    let places = flat.len();
+    let room = out.len();
+    let touched = is_touching(on, n, t, w, h);
+    let read = read_of(touched, n);
+    let off = any_outside(w, h, list, read);
+    let m = lesser(read, places);
     pack(list, m, flat);
-    let r = mirror_tiles_in(
+    let r = mirror_packed(
         w,
         h,
         k,
@@ -52,12 +64,15 @@ pub fn mirror_tiles(
         area,
         on,
         t,
+        off,
         flat,
         n,
         scratch,
-        out.len(),
+        room,
     );
-    let count = count_of(r);
-    unpack(scratch, count, out);
+    let made = made_of(touched, r);
+    unpack(scratch, made, out);
+    let kept = kept_of(touched, r);
+    copy_front(list, kept, out);
     r
 }

@@ -1,15 +1,13 @@
 // Per-tile editing: `mirror_tiles` of tools.rs. A list of changes is lent as one number of 64 bits a change, and so
 // is the scratch, whose contents are free before and after the call.
-mod packed;
-
 use changes::copy_out;
 use limits::Counted;
 use limits::NO_SPACE;
 use mirror_checks::Stage;
+use mirror_checks::is_straying;
 use mirror_checks::is_touching;
 use mirror_checks::prepare;
 use mirroring::mirror_in;
-pub use packed::mirror_tiles_in;
 use selection::Area;
 use selection::Selection;
 ghost use mathlib.Core.Path.{_≡_};
@@ -77,9 +75,11 @@ pub fn mirror_tiles(
     ensures { λ r. ⌜ filled r (now (out .exit)) ≡ mirrorCall (sheetOf w h k (now (palette .entry)) (now (lab .entry)) (now (indices .entry))) area on t (now (list .entry)) (length (now (scratch .entry))) (now (out .entry)) ⌝ }
     ensures { λ _. ⌜ length (now (scratch .exit)) ≡ length (now (scratch .entry)) ⌝ }
 {
-    let touched = is_touching(on, list.len(), t, w, h);
+    let n = list.len();
+    let touched = is_touching(on, n, t, w, h);
+    let off = is_straying(touched, w, h, list);
     let room = scratch.len();
-    match prepare(w, h, k, palette, lab, indices, area, touched, list, room) {
+    match prepare(w, h, k, palette, lab, indices, area, n, off, room) {
         Stage::Canvas(s) => finish(touched, w, h, t, indices, s, list, scratch, out),
         Stage::Refused(no) => Counted::Refused(no),
     }

@@ -31,20 +31,19 @@ divides t w h = not (eqb t 0) && (eqb (w % t) 0 && eqb (h % t) 0)
 unfoldable pub touching : Bool → ℕ → ℕ → ℕ → ℕ → Bool
 touching on count t w h = on && (not (eqb count 0) && divides t w h)
 
--- "else a change off the sheet is 5"
+-- "else a change off the sheet is 5": of a list that is touched
 unfoldable pub straying : Bool → ℕ → ℕ → List ℕ → Bool
 straying touched w h list = touched && some (outside w h) (map unpacked list)
 
--- 1, 2, 3; 21 for the list, 5 for the selection, 5 for a change of a list that is touched; then 16: "scratch under w × h places", which is `room`
-unfoldable pub mirrorChecks : Sheet → Area → Bool → List ℕ → ℕ → List Check
-mirrorChecks s area touched list room =
+-- 1, 2, 3; 21 for a list of `count` changes, 5 for the selection, 5 for a change (`off`); then 16: "scratch under w × h places", which is `room`
+unfoldable pub mirrorChecks : Sheet → Area → ℕ → Bool → ℕ → List Check
+mirrorChecks s area count off room =
     sheetChecks [] s
-    ++ (listTooLong when ltb maxChanges (length list)
-    ∷ (regionChecks area (s .w) (s .h) ++ (offTheSheet when straying touched (s .w) (s .h) list ∷ noSpace when ltb room (s .w * s .h) ∷ [])))
+    ++ (listTooLong when ltb maxChanges count ∷ (regionChecks area (s .w) (s .h) ++ (offTheSheet when off ∷ noSpace when ltb room (s .w * s .h) ∷ [])))
 
 -- the region that copies change, where none of them applies
-unfoldable pub stageOf : Sheet → Area → Bool → List ℕ → ℕ → Stage
-stageOf s area touched list room = checked (mirrorChecks s area touched list room) Refused (Canvas (regionIn area (s .w) (s .h)))
+unfoldable pub stageOf : Sheet → Area → ℕ → Bool → ℕ → Stage
+stageOf s area count off room = checked (mirrorChecks s area count off room) Refused (Canvas (regionIn area (s .w) (s .h)))
 
 -- the result: the list with the copies, normalised, or the list as it is
 unfoldable pub mirrorList : Bool → ℕ → ℕ → ℕ → List ℤ → Selection → List ℕ → List ℕ
@@ -54,7 +53,7 @@ mirrorList touched w h t l region list = cond touched (map packed (mirrored w h 
 unfoldable pub mirrorCall : Sheet → Area → Bool → ℕ → List ℕ → ℕ → List ℕ → Filled ℕ
 mirrorCall s area on t list room out =
     let touched = touching on (length list) t (s .w) (s .h) in
-    checked (mirrorChecks s area touched list room)
+    checked (mirrorChecks s area (length list) (straying touched (s .w) (s .h) list) room)
     (λ n. filled (counted.Refused n) out)
     (handed (mirrorList touched (s .w) (s .h) t (s .indices) (regionIn area (s .w) (s .h)) list) out)
 

@@ -61,7 +61,7 @@ fn any_outside(w: usize, h: usize, list: &[u64]) -> bool
 }
 
 // Number 5 of a change, where the list is touched.
-fn is_straying(touched: bool, w: usize, h: usize, list: &[u64]) -> bool
+pub fn is_straying(touched: bool, w: usize, h: usize, list: &[u64]) -> bool
     ensures { λ r. ⌜ r ≡ straying touched w h (now (list .entry)) ⌝ }
 {
     if !touched {
@@ -70,8 +70,8 @@ fn is_straying(touched: bool, w: usize, h: usize, list: &[u64]) -> bool
     any_outside(w, h, list)
 }
 
-// The region that copies change, or the number of the first of 1 to 3, 21, 5 for the selection, 5 for a change and the
-// scratch's 16 that applies.
+// The region that copies change, or the number of the first of 1 to 3, 21 for a list of `count` changes, 5 for the
+// selection, 5 for a change (`off`) and the scratch's 16 that applies.
 pub fn prepare(
     w: usize,
     h: usize,
@@ -80,23 +80,23 @@ pub fn prepare(
     lab: &[f64],
     indices: &[i16],
     area: Area,
-    touched: bool,
-    list: &[u64],
+    count: usize,
+    off: bool,
     room: usize,
 ) -> Stage
-    ensures { λ r. ⌜ r ≡ stageOf (sheetOf w h k (now (palette .entry)) (now (lab .entry)) (now (indices .entry))) area touched (now (list .entry)) room ⌝ }
+    ensures { λ r. ⌜ r ≡ stageOf (sheetOf w h k (now (palette .entry)) (now (lab .entry)) (now (indices .entry))) area count off room ⌝ }
 {
     let first = check(w, h, k, palette, lab, indices);
     if first != 0 {
         return Stage::Refused(first);
     }
-    if MAX_CHANGES < list.len() {
+    if MAX_CHANGES < count {
         return Stage::Refused(LIST_TOO_LONG);
     }
     let Chosen::Part(s) = region(area, w, h) else {
         return Stage::Refused(OFF_THE_SHEET);
     };
-    if is_straying(touched, w, h, list) {
+    if off {
         return Stage::Refused(OFF_THE_SHEET);
     }
     if room < indices.len() {

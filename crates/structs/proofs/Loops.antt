@@ -1,14 +1,18 @@
--- What the loops of `pack` and `unpack` make, turn by turn, and that it is what their contracts say. Assumes nothing.
+-- What the loops over slices make, turn by turn, and that it is what their contracts say. Assumes nothing.
 use mathlib.Core.Path.{_≡_, refl, sym, ap, _∙_}
+use mathlib.Core.Bool.{Bool, false, _||_}
 use mathlib.Core.List.{List, map}
-use Prim.Native.Nat.{ℕ, zero, suc, _<_, _≤_, _^_}
+use Prim.Native.Nat.{ℕ, zero, suc, _+_, _<_, _≤_, _^_}
 use native.Mathlib.Omega.{arith}
 use lib.IntN.{pos}
 use lib.ListN.{length, take, getD, set, length-set, length-map, List·getD-map}
-use lib.Seq.{take-suc, length-take-le}
-use Rattle.lists.specs.Lists.{over}
+use lib.Seq.{take-suc, length-take-le, getD-take}
+use Rattle.lists.specs.Lists.{over, some}
 use Rattle.lists.proofs.Over.{over-none, over-set}
 use Rattle.lists.proofs.Mapped.{map-set}
+use Rattle.lists.proofs.Nowhere.{some-map}
+use Rattle.lists.proofs.Scan.{Flagged, flag-step, flag-end}
+use Rattle.edits.specs.Change.{outside, unpacked}
 use Rattle.normal.proofs.Packing.{packed-unpacked}
 use Rattle.structs.specs.declared.Change.{Change}
 use Rattle.structs.specs.Struct.{packedOf, structOf}
@@ -58,3 +62,40 @@ pub unpacked-next : (vs : List ℕ) (cs : List Change) (i : ℕ) → i < length 
 unpacked-next vs cs i h k g u =
     map-set packedOf (unpacks vs cs i) i (structOf (getD vs i 0))
     ∙ next vs (map packedOf cs) (map packedOf (unpacks vs cs i)) i (packedOf (structOf (getD vs i 0))) 0 h (omega (arith, length-map cs packedOf)) (packed-unpacked (getD vs i 0) g) u
+
+-- ---- cs with the first i changes of vs in its first i places
+abbrev pub copies : List Change → List Change → ℕ → List Change
+copies vs cs zero = cs
+copies vs cs (suc i) = set (copies vs cs i) i (getD vs i none)
+
+pub copies-length : (vs cs : List Change) (i : ℕ) → length (copies vs cs i) ≡ length cs
+copies-length vs cs zero = refl
+copies-length vs cs (suc i) = length-set (copies vs cs i) i _ ∙ copies-length vs cs i
+
+pub copies-over : (vs cs : List Change) (i : ℕ) → i ≤ length vs → i ≤ length cs → map packedOf (copies vs cs i) ≡ over (take i (map packedOf vs)) (map packedOf cs)
+copies-over vs cs zero h k = over-none (map packedOf cs)
+copies-over vs cs (suc i) h k =
+    map-set packedOf (copies vs cs i) i (getD vs i none)
+    ∙ next (map packedOf vs) (map packedOf cs) (map packedOf (copies vs cs i)) i (packedOf (getD vs i none)) (packedOf none)
+    (omega (arith, length-map vs packedOf)) (omega (arith, length-map cs packedOf)) (sym (List·getD-map packedOf vs i none)) (copies-over vs cs i (omega arith) (omega arith))
+
+-- ---- a flag that says of the first n changes, with those from the i-th on, whether one is off the sheet
+module _ (w h : ℕ) (vs : List Change) (n : ℕ) where
+  abbrev read : List ℕ
+  read = take n (map packedOf vs)
+
+  abbrev pub Off : ℕ → Bool → Type 0
+  Off i off = Flagged (λ c. outside w h (unpacked c)) read i off
+
+  pub off-none : Off 0 false
+  off-none = record { says = refl }
+
+  pub off-next : (i : ℕ) (off r : Bool) → n ≤ length vs → i < n → Off i off → r ≡ off || outside w h (unpacked (packedOf (getD vs i none))) → Off (i + 1) r
+  off-next i off r fit below f e =
+      flag-step (packedOf none) f (omega (arith, read-length fit)) (ap (λ (c : ℕ). outside w h (unpacked c)) (sym (getD-take n (map packedOf vs) i (packedOf none) below ∙ List·getD-map packedOf vs i none))) e
+    where
+      read-length : n ≤ length vs → length read ≡ n
+      read-length fit = length-take-le n (map packedOf vs) (omega (arith, length-map vs packedOf))
+
+  pub off-all : (i : ℕ) (off : Bool) → n ≤ length vs → Off i off → i ≡ n → off ≡ some (outside w h) (map unpacked read)
+  off-all i off fit f e = flag-end f (omega (arith, e, length-take-le n (map packedOf vs) (omega (arith, length-map vs packedOf)))) ∙ sym (some-map unpacked (outside w h) read)

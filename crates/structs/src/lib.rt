@@ -9,6 +9,8 @@ use pixels::old_of;
 use pixels::row;
 ghost use mathlib.Core.Path.{_≡_};
 ghost use Rattle.structs.specs.Struct.{packedOf, structOf};
+pub use slices::any_outside;
+pub use slices::copy_front;
 pub use slices::lesser;
 pub use slices::pack;
 pub use slices::unpack;

@@ -15,11 +15,11 @@ check-requires : tie.Need-check-requires
 check-requires c κs = search needs
 
 -- past the first test the sheet is well-formed
-past : (c : tie.Else1) → let a = c .before .before .before .before .before .args in WellFormed (sheetOf (a .w) (a .h) (a .k) (a .palette .now) (a .lab .now) (a .indices .now))
+past : (c : tie.Else1) → let a = c .before .before .before .before .args in WellFormed (sheetOf (a .w) (a .h) (a .k) (a .palette .now) (a .lab .now) (a .indices .now))
 past c = c .before .check .ensures .fine (c .if1 .left)
 
 -- the region
-found : (c : tie.After-s) → let a = c .before .before .before .before .before .before .before .before .before .args in Found (a .area) (a .w) (a .h) (c .s .given .0 .0)
+found : (c : tie.After-s) → let a = c .before .before .before .before .before .before .before .before .args in Found (a .area) (a .w) (a .h) (c .s .given .0 .0)
 found c = let l = past (c .before .before .before .before) .limits in region-found _ _ (l .w-small) (l .h-small) _ _ (sym (c .before .before .region .ensures) ∙ c .s .given .1)
 
 returns : tie.Need-returns
@@ -37,17 +37,14 @@ enum-known-s c = search needs
 returns-3 : tie.Need-returns-3
 returns-3 c = let f = past (c .before .before .before) in stage-off _ _ _ _ _ f (c .before .before .if2 .left) (region-none _ _ (f .limits .w-small) (f .limits .h-small) _ (λ s q. miss (1 ∷ 2 ∷ []) 0 tt (rw (c .before .region .ensures ∙ q) at (c .match .keys2))))
 
-is-straying-requires : tie.Need-is-straying-requires
-is-straying-requires c κs = search needs
-
 returns-4 : tie.Need-returns-4
-returns-4 c = stage-stray _ _ _ _ _ (past (c .before .before .before .before .before .before .before)) (c .before .before .before .before .before .before .if2 .left) (found (c .before .before .before) .unrefused) (sym (c .before .is-straying .ensures) ∙ c .if3 .taken)
+returns-4 c = stage-stray _ _ _ _ _ (past (c .before .before .before .before .before .before)) (c .before .before .before .before .before .if2 .left) (found (c .before .before) .unrefused) (c .if3 .taken)
 
 returns-5 : tie.Need-returns-5
-returns-5 c = let f = past (c .before .before .before .before .before .before .before .before) in stage-short _ _ _ _ _ f (c .before .before .before .before .before .before .before .if2 .left) (found (c .before .before .before .before) .unrefused) (sym (c .before .before .is-straying .ensures) ∙ c .before .if3 .left) (omega (arith, f .limits .indices-length, c .if4 .taken))
+returns-5 c = let f = past (c .before .before .before .before .before .before .before) in stage-short _ _ _ _ _ f (c .before .before .before .before .before .before .if2 .left) (found (c .before .before .before) .unrefused) (c .before .if3 .left) (omega (arith, f .limits .indices-length, c .if4 .taken))
 
 returns-6 : tie.Need-returns-6
-returns-6 c = let f = past (c .before .before .before .before .before .before .before .before) in rw (found (c .before .before .before .before) .value) (stage-done _ _ _ _ _ f (c .before .before .before .before .before .before .before .if2 .left) (found (c .before .before .before .before) .unrefused) (sym (c .before .before .is-straying .ensures) ∙ c .before .if3 .left) (omega (arith, f .limits .indices-length, c .if4 .left)))
+returns-6 c = let f = past (c .before .before .before .before .before .before .before) in rw (found (c .before .before .before) .value) (stage-done _ _ _ _ _ f (c .before .before .before .before .before .before .if2 .left) (found (c .before .before .before) .unrefused) (c .before .if3 .left) (omega (arith, f .limits .indices-length, c .if4 .left)))
 
 pub prepare-spec : {M : Type 1} → statement M
 prepare-spec =
@@ -59,7 +56,6 @@ prepare-spec =
     region-requires
     enum-known-s
     returns-3
-    is-straying-requires
     returns-4
     returns-5
     returns-6)

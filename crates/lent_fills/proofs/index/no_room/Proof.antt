@@ -1,5 +1,5 @@
 -- `no_room`: by the answer. Assumes nothing.
-use Rattle.lent_fills.specs.Scratch.{noRoom}
+use Rattle.structs.specs.Scratch.{noRoom}
 use borrow.Author.Needs.{needs}
 use Rattle.lent_fills.proofs.index.no_room.Statement.{statement}
 use Rattle.lent_fills.proofs.index.no_room.Tie as tie
