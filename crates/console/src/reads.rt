@@ -1,67 +1,31 @@
-// The loop of reads and writes: what is read goes to `pour`, and the text that it leaves is written.
+// The loop of reads and writes: what is read is answered, and the text is written.
 use crate::Got;
-use history::fresh;
+use crate::Session;
+use ends::answer_held;
+use ends::begin;
 use libc::STDIN_FILENO;
-use libc::STDOUT_FILENO;
-use opening::Core;
 use pouring::GATHERED;
 use pouring::HELD;
 use pouring::Turn;
-use pouring::pour;
-use session::step;
+use std::num::wrapping_add_u64;
+use streams::goes_on;
+use streams::send;
+use telling::answer_chunk;
 ghost use mathlib.Core.Path.{_≡_};
+ghost use mathlib.Core.Bool.{true};
 ghost use lib.ListN.{length, take};
 ghost use Rattle.answering.specs.Lines.{chunkFed};
 ghost use Rattle.answering.specs.Panel.{stepOf};
 ghost use Rattle.opening.specs.Memory.{panelIn, Fits};
 ghost use Rattle.pouring.specs.Chunks.{Holds};
-ghost use Rattle.console.specs.Left.{Left};
+ghost use Rattle.telling.specs.Told.{Answered};
+ghost use Rattle.console.specs.Session.{Reads, Closed, Heard, Whole};
 
-// Answers a chunk: the text is written whenever it may lack room, and at the chunk's end.
-fn answer_chunk(
-    t: Turn,
-    palette: &mut [u8],
-    lab: &mut [f64],
-    indices: &mut [i16],
-    journal: &mut [u8],
-    line: &mut [u8],
-    chunk: &[u8],
-    bytes: &mut [u8],
-    list: &mut [u64],
-    out: &mut [u8],
-) -> Turn
-    requires { ⌜ Fits (t .core) (length (now palette)) (length (now lab)) (length (now indices)) (length (now journal)) (length (now bytes)) (length (now list)) ⌝ }
-    requires { ⌜ Holds t (length (now line)) × (length (now out) ≡ 65536) ⌝ }
-    ensures { λ r. ⌜ Left (panelIn (r .core) (now (palette .exit)) (now (lab .exit)) (now (indices .exit)) (now (journal .exit))) (take (r .len) (now (line .exit))) (chunkFed stepOf (panelIn (t .core) (now (palette .entry)) (now (lab .entry)) (now (indices .entry)) (now (journal .entry))) (take (t .len) (now (line .entry))) (now (chunk .entry))) ⌝ }
-    ensures { λ r. ⌜ Fits (r .core) (length (now (palette .exit))) (length (now (lab .exit))) (length (now (indices .exit))) (length (now (journal .exit))) (length (now (bytes .exit))) (length (now (list .exit))) ⌝ }
-    ensures { λ r. ⌜ Holds r (length (now (line .exit))) ⌝ }
-{
-    let mut s = t;
-    let mut from = 0;
-    while from < chunk.len() {
-        let p = pour(
-            s.core,
-            s.len,
-            palette,
-            lab,
-            indices,
-            journal,
-            line,
-            chunk,
-            from,
-            bytes,
-            list,
-            out,
-        );
-        from = p.next;
-        s = p.turn;
-        let at = s.at;
-        io::write_all(STDOUT_FILENO, &out[..at]);
-    }
-    s
-}
+// Bytes that a read asks for.
+const CHUNK: usize = 4_096;
 
-// Reads once, and answers what came. A read that fails counts as the end of the input.
+// Reads once, and answers what came, which stands at the front of `chunk` then. A read that brought nothing is the end of
+// the input, unless it failed for the moment only.
 fn answer_some(
     t: Turn,
     palette: &mut [u8],
@@ -75,19 +39,25 @@ fn answer_some(
     out: &mut [u8],
 ) -> Got
     requires { ⌜ Fits (t .core) (length (now palette)) (length (now lab)) (length (now indices)) (length (now journal)) (length (now bytes)) (length (now list)) ⌝ }
-    requires { ⌜ Holds t (length (now line)) × (length (now out) ≡ 65536) ⌝ }
+    requires { ⌜ Holds t (length (now line)) × (length (now out) ≡ 65536) × (length (now chunk) ≡ 4096) ⌝ }
+    ensures { λ r. ⌜ (r .all ≡ true → Answered (panelIn (r .turn .core) (now (palette .exit)) (now (lab .exit)) (now (indices .exit)) (now (journal .exit))) (take (r .turn .len) (now (line .exit))) (r .said) (chunkFed stepOf (panelIn (t .core) (now (palette .entry)) (now (lab .entry)) (now (indices .entry)) (now (journal .entry))) (take (t .len) (now (line .entry))) (take (r .n) (now (chunk .exit))))) ⌝ }
+    ensures { λ r. ⌜ Reads r ⌝ }
     ensures { λ r. ⌜ Fits (r .turn .core) (length (now (palette .exit))) (length (now (lab .exit))) (length (now (indices .exit))) (length (now (journal .exit))) (length (now (bytes .exit))) (length (now (list .exit))) ⌝ }
     ensures { λ r. ⌜ Holds (r .turn) (length (now (line .exit))) ⌝ }
 {
     let got = libc::read(STDIN_FILENO, chunk);
     let n = io::count(got, chunk);
     if n == 0 {
+        let more = goes_on(got);
         return Got {
             turn: t,
-            more: false,
+            n: 0,
+            said: 0,
+            all: true,
+            more,
         };
     }
-    let next = answer_chunk(
+    let told = answer_chunk(
         t,
         palette,
         lab,
@@ -99,14 +69,19 @@ fn answer_some(
         list,
         out,
     );
+    let turn = told.turn;
+    let all = told.all;
     Got {
-        turn: next,
-        more: true,
+        turn,
+        n,
+        said: told.said,
+        all,
+        more: all,
     }
 }
 
-// Reads to the end of the input. A proved loop has to end, and nothing says that an input does: it counts its
-// turns down, from a number that no run uses up.
+// Reads until a read brings nothing, or a text cannot be written. A proved loop has to end, and nothing says that an input
+// does: it counts its reads, up to a number that no run reaches.
 fn answer_reads(
     t: Turn,
     palette: &mut [u8],
@@ -118,15 +93,20 @@ fn answer_reads(
     bytes: &mut [u8],
     list: &mut [u64],
     out: &mut [u8],
-) -> Turn
+) -> Session
     requires { ⌜ Fits (t .core) (length (now palette)) (length (now lab)) (length (now indices)) (length (now journal)) (length (now bytes)) (length (now list)) ⌝ }
-    requires { ⌜ Holds t (length (now line)) × (length (now out) ≡ 65536) ⌝ }
-    ensures { λ r. ⌜ Fits (r .core) (length (now (palette .exit))) (length (now (lab .exit))) (length (now (indices .exit))) (length (now (journal .exit))) (length (now (bytes .exit))) (length (now (list .exit))) ⌝ }
-    ensures { λ r. ⌜ Holds r (length (now (line .exit))) ⌝ }
+    requires { ⌜ Holds t (length (now line)) × (length (now out) ≡ 65536) × (length (now chunk) ≡ 4096) ⌝ }
+    ensures { λ r. ⌜ (r .all ≡ true → Heard (panelIn (t .core) (now (palette .entry)) (now (lab .entry)) (now (indices .entry)) (now (journal .entry))) (take (t .len) (now (line .entry))) (panelIn (r .turn .core) (now (palette .exit)) (now (lab .exit)) (now (indices .exit)) (now (journal .exit))) (take (r .turn .len) (now (line .exit))) (r .heard) (r .said)) ⌝ }
+    ensures { λ r. ⌜ Closed r ⌝ }
+    ensures { λ r. ⌜ Fits (r .turn .core) (length (now (palette .exit))) (length (now (lab .exit))) (length (now (indices .exit))) (length (now (journal .exit))) (length (now (bytes .exit))) (length (now (list .exit))) ⌝ }
+    ensures { λ r. ⌜ Holds (r .turn) (length (now (line .exit))) ⌝ }
 {
     let mut s = t;
-    let mut turns = u64::MAX;
-    while turns > 0 {
+    let mut reads = 0;
+    let mut heard = 0;
+    let mut said = 0;
+    let mut last = 0;
+    while reads < u64::MAX {
         let g = answer_some(
             s,
             palette,
@@ -140,62 +120,35 @@ fn answer_reads(
             out,
         );
         s = g.turn;
+        reads += 1;
+        heard = wrapping_add_u64(heard, g.n as u64);
+        said = wrapping_add_u64(said, g.said as u64);
+        last = g.n;
         if !g.more {
-            return s;
+            return Session {
+                turn: s,
+                reads,
+                heard,
+                said,
+                last,
+                all: g.all,
+                more: false,
+            };
         }
-        turns -= 1;
     }
-    s
-}
-
-// The last line, where it has no newline.
-fn answer_last(
-    t: Turn,
-    palette: &mut [u8],
-    lab: &mut [f64],
-    indices: &mut [i16],
-    journal: &mut [u8],
-    line: &[u8],
-    bytes: &mut [u8],
-    list: &mut [u64],
-    out: &mut [u8],
-)
-    requires { ⌜ Fits (t .core) (length (now palette)) (length (now lab)) (length (now indices)) (length (now journal)) (length (now bytes)) (length (now list)) ⌝ }
-    requires { ⌜ Holds t (length (now line)) × (length (now out) ≡ 65536) ⌝ }
-{
-    let len = t.len;
-    if 0 < len {
-        let s = step(
-            t.core,
-            palette,
-            lab,
-            indices,
-            journal,
-            &line[..len],
-            bytes,
-            list,
-            out,
-            0,
-        );
-        let at = s.at;
-        io::write_all(STDOUT_FILENO, &out[..at]);
+    Session {
+        turn: s,
+        reads,
+        heard,
+        said,
+        last,
+        all: true,
+        more: true,
     }
 }
 
-// Nothing is open.
-fn unopened_core() -> Core
-    ensures { λ r. ⌜ (r .w ≡ 0) × (r .h ≡ 0) ⌝ }
-{
-    let handle = fresh();
-    Core {
-        opened: false,
-        w: 0,
-        h: 0,
-        k: 0,
-        handle,
-    }
-}
-
+// A session from its beginning: the reads, and the last line, where it has no newline. Where a text could not be written
+// nothing more is.
 fn answer_all(
     palette: &mut [u8],
     lab: &mut [f64],
@@ -206,17 +159,14 @@ fn answer_all(
     bytes: &mut [u8],
     list: &mut [u64],
     out: &mut [u8],
-)
+) -> Session
     requires { ⌜ (length (now palette) ≡ 765) × (length (now lab) ≡ 765) × (length (now indices) ≡ 4096) × (length (now journal) ≡ 4096) × (length (now line) ≡ 16385) ⌝ }
-    requires { ⌜ (length (now bytes) ≡ 8192) × (length (now list) ≡ 4096) × (length (now out) ≡ 65536) ⌝ }
+    requires { ⌜ (length (now chunk) ≡ 4096) × (length (now bytes) ≡ 8192) × (length (now list) ≡ 4096) × (length (now out) ≡ 65536) ⌝ }
+    ensures { λ r. ⌜ Whole r ⌝ }
 {
-    let core = unopened_core();
-    let t = answer_reads(
-        Turn {
-            core,
-            len: 0,
-            at: 0,
-        },
+    let t = begin();
+    let s = answer_reads(
+        t,
         palette,
         lab,
         indices,
@@ -227,17 +177,34 @@ fn answer_all(
         list,
         out,
     );
-    answer_last(t, palette, lab, indices, journal, line, bytes, list, out);
+    if !s.all {
+        return s;
+    }
+    let turn = s.turn;
+    let at = answer_held(turn, palette, lab, indices, journal, line, bytes, list, out);
+    let sent = send(&out[..at]);
+    let said = wrapping_add_u64(s.said, sent.n as u64);
+    Session {
+        turn,
+        reads: s.reads,
+        heard: s.heard,
+        said,
+        last: s.last,
+        all: sent.n == at,
+        more: s.more,
+    }
 }
 
 // Answers standard input, to its end, on standard output.
-pub fn run() {
+pub fn run() -> Session
+    ensures { λ r. ⌜ Whole r ⌝ }
+{
     let mut palette = [0u8; 765];
     let mut lab = [0.0f64; 765];
     let mut indices = [0i16; 4096];
     let mut journal = [0u8; 4096];
     let mut line = [0u8; HELD];
-    let mut chunk = [0u8; 65536];
+    let mut chunk = [0u8; CHUNK];
     let mut bytes = [0u8; 8192];
     let mut list = [0u64; 4096];
     let mut out = [0u8; GATHERED];
@@ -251,5 +218,5 @@ pub fn run() {
         &mut bytes,
         &mut list,
         &mut out,
-    );
+    )
 }

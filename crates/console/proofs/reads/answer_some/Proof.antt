@@ -1,4 +1,7 @@
--- `answer_some`: what was read is a part of the chunk. Assumes nothing.
+-- `answer_some`: a read of nothing, or a chunk. Assumes nothing.
+use Rattle.console.proofs.Sessions.{false-true, nothing-read}
+use native.Mathlib.Omega.{arith}
+use mathlib.Core.Path.{refl, sym, _∙_}
 use borrow.Author.Needs.{needs}
 use Rattle.console.proofs.reads.answer_some.Statement.{statement}
 use Rattle.console.proofs.reads.answer_some.Tie as tie
@@ -9,11 +12,16 @@ read-requires c κs = search needs
 count-requires : tie.Need-count-requires
 count-requires c κs = search needs
 
+goes-on-requires : tie.Need-goes-on-requires
+goes-on-requires c κs = search needs
+
 same-length : tie.Need-same-length
 same-length c = search needs
 
 returns : tie.Need-returns
-returns c = search needs
+returns c =
+    let start = c .before .before .before .before .before .before .before .before .before .before .before .before .before .before .before .before in
+    (λ e. nothing-read _ _, (record { few = omega arith; goes-on = λ e. refl; ends = λ e f. refl }, (start .pre .0, start .pre .1 .0)))
 
 slice-reshare-prefix-answer-chunk : tie.Need-slice-reshare-prefix-answer-chunk
 slice-reshare-prefix-answer-chunk c = search needs
@@ -40,9 +48,7 @@ same-length-6 : tie.Need-same-length-6
 same-length-6 c = search needs
 
 same-length-7 : tie.Need-same-length-7
-same-length-7 c =
-    let at-read = c .before .before .before .before .before .before .before .before .before .before .before .before .before .before .before .before .before .before .before .before .before .before .before .before .before .before .before .before .before .before in
-    at-read .read .kept .1 .0
+same-length-7 c = c .before .before .before .before .before .before .before .before .before .before .before .before .before .before .before .before .before .before .before .before .before .before .before .before .before .before .before .before .before .before .before .read .kept .1 .0
 
 same-length-8 : tie.Need-same-length-8
 same-length-8 c = search needs
@@ -54,7 +60,9 @@ same-length-10 : tie.Need-same-length-10
 same-length-10 c = search needs
 
 returns-2 : tie.Need-returns-2
-returns-2 c = search needs
+returns-2 c =
+    let told = c .before .before .before .before .before .before .before .before .before .before .before .before .before .before .before .before .answer-chunk in
+    (told .ensures .0, (record { few = omega (arith, c .before .before .before .before .before .before .before .before .before .before .before .before .before .before .before .before .before .before .before .before .before .before .before .before .before .before .before .count .ensures .0 .0, c .before .before .before .before .before .before .before .before .before .before .before .before .before .before .before .before .before .before .before .before .before .before .before .before .before .before .before .before .before .before .before .read .kept .1 .0, c .before .before .before .before .before .before .before .before .before .before .before .before .before .before .before .before .before .before .before .before .before .before .before .before .before .before .before .before .before .before .before .before .before .before .before .before .before .before .before .before .before .pre .1 .2); goes-on = λ e. e; ends = λ e f. absurd (false-true (sym e ∙ f)) }, told .ensures .1))
 
 pub answer-some-spec : {M : Type 1} → statement M
 answer-some-spec =
@@ -62,6 +70,7 @@ answer-some-spec =
     (tie.spec
     read-requires
     count-requires
+    goes-on-requires
     same-length
     returns
     slice-reshare-prefix-answer-chunk
