@@ -14,15 +14,15 @@ use Rattle.console.specs.declared.Session.{Session}
 abbrev pub counted : ℕ → ℕ
 counted n = n % 2 ^ 64
 
--- after a read there is more to come only where all text was written, and where it was, none only where the read brought nothing
+-- after a read there is more to come only where no stream failed, and where none did, no more only where the read brought nothing
 pub record Reads (r : Got) : Type 0 where
   pub few : r .n ≤ 4096
-  pub goes-on : r .more ≡ true → r .all ≡ true
-  pub ends : r .more ≡ false → r .all ≡ true → r .n ≡ 0
+  pub goes-on : r .more ≡ true → r .sound ≡ true
+  pub ends : r .more ≡ false → r .sound ≡ true → r .n ≡ 0
 
--- the loop ends after a read that brought nothing, after a text that could not be written, or after 2^64 - 1 reads
+-- the loop ends after a read that brought nothing, where a stream failed, or after 2^64 - 1 reads
 pub record Closed (r : Session) : Type 0 where
-  pub ends : r .more ≡ false → r .all ≡ true → r .last ≡ 0
+  pub ends : r .more ≡ false → r .sound ≡ true → r .last ≡ 0
   pub bound : r .more ≡ true → r .reads ≡ 18446744073709551615
 
 -- from state and held line p₀, l₀ to p, l: the reads brought the bytes `input`, fed as document 01's program is, and as many bytes were written as the answers have
@@ -42,4 +42,4 @@ pub record Printed (heard said : ℕ) : Type 0 where
 -- a whole session
 pub record Whole (r : Session) : Type 0 where
   pub closed : Closed r
-  pub printed : r .all ≡ true → Printed (r .heard) (r .said)
+  pub printed : r .sound ≡ true → Printed (r .heard) (r .said)

@@ -24,8 +24,18 @@ ghost use Rattle.console.specs.Session.{Reads, Closed, Heard, Whole};
 // Bytes that a read asks for.
 const CHUNK: usize = 4_096;
 
-// Reads once, and answers what came, which stands at the front of `chunk` then. A read that brought nothing is the end of
-// the input, unless it failed for the moment only.
+// Whether a read that brought nothing did not fail: it is to be made again, or the input has ended.
+fn is_sound(got: isize, more: bool) -> bool
+    ensures { λ r. ⌜ (more ≡ true → r ≡ true) ⌝ }
+{
+    if more {
+        return true;
+    }
+    got == 0
+}
+
+// Reads once, and answers what came, which stands at the front of `chunk` then. A read that failed for the moment only is
+// made again.
 fn answer_some(
     t: Turn,
     palette: &mut [u8],
@@ -40,7 +50,7 @@ fn answer_some(
 ) -> Got
     requires { ⌜ Fits (t .core) (length (now palette)) (length (now lab)) (length (now indices)) (length (now journal)) (length (now bytes)) (length (now list)) ⌝ }
     requires { ⌜ Holds t (length (now line)) × (length (now out) ≡ 65536) × (length (now chunk) ≡ 4096) ⌝ }
-    ensures { λ r. ⌜ (r .all ≡ true → Answered (panelIn (r .turn .core) (now (palette .exit)) (now (lab .exit)) (now (indices .exit)) (now (journal .exit))) (take (r .turn .len) (now (line .exit))) (r .said) (chunkFed stepOf (panelIn (t .core) (now (palette .entry)) (now (lab .entry)) (now (indices .entry)) (now (journal .entry))) (take (t .len) (now (line .entry))) (take (r .n) (now (chunk .exit))))) ⌝ }
+    ensures { λ r. ⌜ (r .sound ≡ true → Answered (panelIn (r .turn .core) (now (palette .exit)) (now (lab .exit)) (now (indices .exit)) (now (journal .exit))) (take (r .turn .len) (now (line .exit))) (r .said) (chunkFed stepOf (panelIn (t .core) (now (palette .entry)) (now (lab .entry)) (now (indices .entry)) (now (journal .entry))) (take (t .len) (now (line .entry))) (take (r .n) (now (chunk .exit))))) ⌝ }
     ensures { λ r. ⌜ Reads r ⌝ }
     ensures { λ r. ⌜ Fits (r .turn .core) (length (now (palette .exit))) (length (now (lab .exit))) (length (now (indices .exit))) (length (now (journal .exit))) (length (now (bytes .exit))) (length (now (list .exit))) ⌝ }
     ensures { λ r. ⌜ Holds (r .turn) (length (now (line .exit))) ⌝ }
@@ -49,11 +59,12 @@ fn answer_some(
     let n = io::count(got, chunk);
     if n == 0 {
         let more = goes_on(got);
+        let sound = is_sound(got, more);
         return Got {
             turn: t,
             n: 0,
             said: 0,
-            all: true,
+            sound,
             more,
         };
     }
@@ -70,17 +81,17 @@ fn answer_some(
         out,
     );
     let turn = told.turn;
-    let all = told.all;
+    let sound = told.all;
     Got {
         turn,
         n,
         said: told.said,
-        all,
-        more: all,
+        sound,
+        more: sound,
     }
 }
 
-// Reads until a read brings nothing, or a text cannot be written. A proved loop has to end, and nothing says that an input
+// Reads until a read brings nothing, or a stream fails. A proved loop has to end, and nothing says that an input
 // does: it counts its reads, up to a number that no run reaches.
 fn answer_reads(
     t: Turn,
@@ -96,7 +107,7 @@ fn answer_reads(
 ) -> Session
     requires { ⌜ Fits (t .core) (length (now palette)) (length (now lab)) (length (now indices)) (length (now journal)) (length (now bytes)) (length (now list)) ⌝ }
     requires { ⌜ Holds t (length (now line)) × (length (now out) ≡ 65536) × (length (now chunk) ≡ 4096) ⌝ }
-    ensures { λ r. ⌜ (r .all ≡ true → Heard (panelIn (t .core) (now (palette .entry)) (now (lab .entry)) (now (indices .entry)) (now (journal .entry))) (take (t .len) (now (line .entry))) (panelIn (r .turn .core) (now (palette .exit)) (now (lab .exit)) (now (indices .exit)) (now (journal .exit))) (take (r .turn .len) (now (line .exit))) (r .heard) (r .said)) ⌝ }
+    ensures { λ r. ⌜ (r .sound ≡ true → Heard (panelIn (t .core) (now (palette .entry)) (now (lab .entry)) (now (indices .entry)) (now (journal .entry))) (take (t .len) (now (line .entry))) (panelIn (r .turn .core) (now (palette .exit)) (now (lab .exit)) (now (indices .exit)) (now (journal .exit))) (take (r .turn .len) (now (line .exit))) (r .heard) (r .said)) ⌝ }
     ensures { λ r. ⌜ Closed r ⌝ }
     ensures { λ r. ⌜ Fits (r .turn .core) (length (now (palette .exit))) (length (now (lab .exit))) (length (now (indices .exit))) (length (now (journal .exit))) (length (now (bytes .exit))) (length (now (list .exit))) ⌝ }
     ensures { λ r. ⌜ Holds (r .turn) (length (now (line .exit))) ⌝ }
@@ -131,7 +142,7 @@ fn answer_reads(
                 heard,
                 said,
                 last,
-                all: g.all,
+                sound: g.sound,
                 more: false,
             };
         }
@@ -142,13 +153,13 @@ fn answer_reads(
         heard,
         said,
         last,
-        all: true,
+        sound: true,
         more: true,
     }
 }
 
-// A session from its beginning: the reads, and the last line, where it has no newline. Where a text could not be written
-// nothing more is.
+// A session from its beginning: the reads, and the last line, where it has no newline. Where a stream failed nothing more
+// is written, since the held line may be cut.
 fn answer_all(
     palette: &mut [u8],
     lab: &mut [f64],
@@ -177,7 +188,7 @@ fn answer_all(
         list,
         out,
     );
-    if !s.all {
+    if !s.sound {
         return s;
     }
     let turn = s.turn;
@@ -190,7 +201,7 @@ fn answer_all(
         heard: s.heard,
         said,
         last: s.last,
-        all: sent.n == at,
+        sound: sent.n == at,
         more: s.more,
     }
 }

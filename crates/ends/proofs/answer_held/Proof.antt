@@ -45,7 +45,7 @@ returns c =
     let at-step = c .before .before .before .before .before .before .before .before .before .before .before .before .before in
     let start = c .before .before .before .before .before .before .before .before .before .before .before .before .before .before .before .before .before .before .before .before .before .before .before .before .before .before .before .before .before .before in
     let a = start .args in
-    some-held (at-step .step .result) (panelIn (a .t .core) (a .palette .now) (a .lab .now) (a .indices .now) (a .journal .now)) _ (a .line .now) (a .out .now) _ (a .t .len) (at-step .step .ensures) (c .before .before .before .before .before .before .before .before .before .before .before .before .before .before .before .before .before .before .before .before .before .before .if1 .taken) (omega (arith, start .pre .1 .0 .line-length, start .pre .1 .0 .within))
+    some-held (at-step .step .result) (panelIn (a .t .core) (a .palette .now) (a .lab .now) (a .indices .now) (a .journal .now)) _ (a .line .now) (a .out .now) _ (a .t .len) (at-step .step .ensures) (omega (arith, c .before .before .before .before .before .before .before .before .before .before .before .before .before .before .before .before .before .before .before .before .before .before .if1 .taken)) (omega (arith, start .pre .1 .0 .line-length, start .pre .1 .0 .within))
 
 returns-2 : tie.Need-returns-2
 returns-2 c =

@@ -15,13 +15,16 @@ count-requires c κs = search needs
 goes-on-requires : tie.Need-goes-on-requires
 goes-on-requires c κs = search needs
 
+is-sound-requires : tie.Need-is-sound-requires
+is-sound-requires c κs = tt
+
 same-length : tie.Need-same-length
 same-length c = search needs
 
 returns : tie.Need-returns
 returns c =
-    let start = c .before .before .before .before .before .before .before .before .before .before .before .before .before .before .before .before in
-    (λ e. nothing-read _ _, (record { few = omega arith; goes-on = λ e. refl; ends = λ e f. refl }, (start .pre .0, start .pre .1 .0)))
+    let start = c .before .before .before .before .before .before .before .before .before .before .before .before .before .before .before .before .before in
+    (λ e. nothing-read _ _, (record { few = omega arith; goes-on = c .is-sound .ensures; ends = λ e f. refl }, (start .pre .0, start .pre .1 .0)))
 
 slice-reshare-prefix-answer-chunk : tie.Need-slice-reshare-prefix-answer-chunk
 slice-reshare-prefix-answer-chunk c = search needs
@@ -71,6 +74,7 @@ answer-some-spec =
     read-requires
     count-requires
     goes-on-requires
+    is-sound-requires
     same-length
     returns
     slice-reshare-prefix-answer-chunk
