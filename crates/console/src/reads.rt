@@ -12,7 +12,8 @@ use streams::goes_on;
 use streams::send;
 use telling::answer_chunk;
 ghost use mathlib.Core.Path.{_≡_};
-ghost use mathlib.Core.Bool.{true};
+ghost use mathlib.Core.Bool.{true, false};
+ghost use lib.IntN.{pos};
 ghost use lib.ListN.{length, take};
 ghost use Rattle.answering.specs.Lines.{chunkFed};
 ghost use Rattle.answering.specs.Panel.{stepOf};
@@ -27,6 +28,7 @@ const CHUNK: usize = 4_096;
 // Whether a read that brought nothing did not fail: it is to be made again, or the input has ended.
 fn is_sound(got: isize, more: bool) -> bool
     ensures { λ r. ⌜ (more ≡ true → r ≡ true) ⌝ }
+    ensures { λ r. ⌜ (more ≡ false → r ≡ true → got ≡ pos 0) ⌝ }
 {
     if more {
         return true;

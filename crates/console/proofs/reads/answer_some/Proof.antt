@@ -24,7 +24,7 @@ same-length c = search needs
 returns : tie.Need-returns
 returns c =
     let start = c .before .before .before .before .before .before .before .before .before .before .before .before .before .before .before .before .before in
-    (λ e. nothing-read _ _, (record { few = omega arith; goes-on = c .is-sound .ensures; ends = λ e f. refl }, (start .pre .0, start .pre .1 .0)))
+    (λ e. nothing-read _ _, (record { few = omega arith; goes-on = c .is-sound .ensures .0; ends = λ e f. refl }, (start .pre .0, start .pre .1 .0)))
 
 slice-reshare-prefix-answer-chunk : tie.Need-slice-reshare-prefix-answer-chunk
 slice-reshare-prefix-answer-chunk c = search needs
