@@ -79,7 +79,7 @@ pub fn paste(
         scratch,
         out.len(),
     );
-    let n = shifted_count(r);
-    unpack(scratch, n, out);
+    let count = shifted_count(r);
+    unpack(scratch, count, out);
     r
 }

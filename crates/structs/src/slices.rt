@@ -56,11 +56,11 @@ pub fn copy_front(list: &[Change], n: usize, out: &mut [Change])
     requires { ⌜ (n ≤ length (now list)) × (n ≤ length (now out)) ⌝ }
     ensures { λ _. ⌜ map packedOf (now (out .exit)) ≡ over (take n (map packedOf (now (list .entry)))) (map packedOf (now (out .entry))) ⌝ }
 {
-    let mut i: usize = 0;
-    while i < n {
-        let c = list[i];
-        out[i] = c;
-        i += 1;
+    let mut copied: usize = 0;
+    while copied < n {
+        let c = list[copied];
+        out[copied] = c;
+        copied += 1;
     }
 }
 
