@@ -696,7 +696,7 @@ fn with_area(t: &mut Table, c: &Case, a: Area, draw: &mut Draw) {
         let about = (about(s), a, &events, size, index);
         tell!(
             t,
-            "Stroke of `pencil`",
+            "Stroke of pencil",
             drawn::drag(c, a, &events, size, index),
             "{about:?}"
         );
