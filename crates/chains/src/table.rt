@@ -6,9 +6,10 @@ use tiling::key;
 use tiling::order_to;
 use tiling::scale;
 ghost use mathlib.Core.Path.{_≡_};
+ghost use mathlib.Core.Bool.{true, false};
 ghost use mathlib.Core.List.{map};
 ghost use Prim.Native.Nat.{_+_, _≤_, _<_, _^_};
-ghost use lib.ListN.{length, take, getD};
+ghost use lib.ListN.{length, getD};
 ghost use Rattle.lists.specs.Lists.{range};
 ghost use Rattle.tiling.specs.Cells.{Tiled, cellCount, codeOf, firstCells};
 ghost use Rattle.chains.specs.Table.{foundIn, headIn, nextIn, Holds, Chained, lastOn, bucketOf};
@@ -47,16 +48,31 @@ fn with_head(v: u64, head: u64) -> u64
     v % FOUND + head * FOUND + next_in(v) * NEXT
 }
 
-// What is found for cell c, along its chain from p on.
-fn find(w: usize, h: usize, t: usize, indices: &[i16], c: usize, p: u64, s: &[u64]) -> u64
+// What is found for cell c, along its chain from p on; FOUND, which no cell has, where that takes more than `most` steps.
+fn find(
+    w: usize,
+    h: usize,
+    t: usize,
+    indices: &[i16],
+    c: usize,
+    most: usize,
+    p: u64,
+    s: &[u64],
+) -> u64
     requires { ⌜ Tiled w h t (now indices) × (c < cellCount w h t) ⌝ }
     requires { ⌜ Chained w t (now indices) (cellCount w h t) c (now s) ⌝ }
     requires { ⌜ p ≡ lastOn w t (now indices) (cellCount w h t) (bucketOf w t (now indices) (cellCount w h t) c) c ⌝ }
-    ensures { λ r. ⌜ r ≡ codeOf w t (now (indices .entry)) c ⌝ }
+    ensures { λ r. ⌜ (r < 2 ^ 22 → r ≡ codeOf w t (now (indices .entry)) c) ⌝ }
+    ensures { λ r. ⌜ (2 ^ 22 ≤ r → most < c) ⌝ }
 {
     let at = corner_of(w, t, c);
     let mut p = p;
+    let mut left = most;
     while p != 0 {
+        if left == 0 {
+            return FOUND;
+        }
+        left -= 1;
         let f = (p - 1) as usize;
         let order = order_to(indices, at, corner_of(w, t, f), w, t);
         if order < 4 {
@@ -76,32 +92,50 @@ fn bucket(w: usize, h: usize, t: usize, indices: &[i16], c: usize, n: usize) -> 
 }
 
 // Cell c, after those before it: what is found for it, and where that is the cell itself, its chain begins with it.
-fn enter(w: usize, h: usize, t: usize, indices: &[i16], c: usize, s: &mut [u64])
+// Answers false, and stops, where its chain has more than `most` cells.
+fn enter(
+    w: usize,
+    h: usize,
+    t: usize,
+    indices: &[i16],
+    c: usize,
+    most: usize,
+    s: &mut [u64],
+) -> bool
     requires { ⌜ Tiled w h t (now indices) × (c < cellCount w h t) ⌝ }
     requires { ⌜ Chained w t (now indices) (cellCount w h t) c (now s) ⌝ }
-    ensures { λ _. ⌜ Chained w t (now (indices .entry)) (cellCount w h t) (c + 1) (now (s .exit)) ⌝ }
+    ensures { λ r. ⌜ (r ≡ true → Chained w t (now (indices .entry)) (cellCount w h t) (c + 1) (now (s .exit))) ⌝ }
+    ensures { λ r. ⌜ (r ≡ false → most < c) ⌝ }
 {
     let b = bucket(w, h, t, indices, c, s.len());
     let head = head_in(s[b]);
-    let found = find(w, h, t, indices, c, head, s);
+    let found = find(w, h, t, indices, c, most, head, s);
+    if FOUND <= found {
+        return false;
+    }
     let v = with_found(s[c], found, head);
     s[c] = v;
     if found == c as u64 * 4 {
         let u = with_head(s[b], c as u64 + 1);
         s[b] = u;
     }
+    true
 }
 
-// Every cell, in order.
-fn enter_all(w: usize, h: usize, t: usize, indices: &[i16], s: &mut [u64])
+// Every cell, in order; or false where a chain gets too long.
+fn enter_all(w: usize, h: usize, t: usize, indices: &[i16], most: usize, s: &mut [u64]) -> bool
     requires { ⌜ Tiled w h t (now indices) ⌝ }
     requires { ⌜ Chained w t (now indices) (cellCount w h t) 0 (now s) ⌝ }
-    ensures { λ _. ⌜ Chained w t (now (indices .entry)) (cellCount w h t) (cellCount w h t) (now (s .exit)) ⌝ }
+    ensures { λ r. ⌜ (r ≡ true → Chained w t (now (indices .entry)) (cellCount w h t) (cellCount w h t) (now (s .exit))) ⌝ }
+    ensures { λ r. ⌜ (r ≡ false → most < cellCount w h t) ⌝ }
 {
     let n = s.len();
     for c in 0..n {
-        enter(w, h, t, indices, c, s);
+        if !enter(w, h, t, indices, c, most, s) {
+            return false;
+        }
     }
+    true
 }
 
 fn clear(s: &mut [u64])
@@ -121,21 +155,17 @@ fn bare(s: &mut [u64])
     }
 }
 
-fn fill(w: usize, h: usize, t: usize, indices: &[i16], s: &mut [u64])
+// For each cell, in order, the first cell that it is a flip of, times 4, and the first of the flips none, h, v, both
+// (0 to 3) by which it is; or false where a chain gets more than `most` cells.
+pub fn fill(w: usize, h: usize, t: usize, indices: &[i16], most: usize, s: &mut [u64]) -> bool
     requires { ⌜ Tiled w h t (now indices) × (length (now s) ≡ cellCount w h t) ⌝ }
-    ensures { λ _. ⌜ now (s .exit) ≡ firstCells w h t (now (indices .entry)) ⌝ }
+    ensures { λ r. ⌜ (r ≡ true → now (s .exit) ≡ firstCells w h t (now (indices .entry))) ⌝ }
+    ensures { λ r. ⌜ (r ≡ false → most < cellCount w h t) ⌝ }
 {
     clear(s);
-    enter_all(w, h, t, indices, s);
+    if !enter_all(w, h, t, indices, most, s) {
+        return false;
+    }
     bare(s);
-}
-
-// For each cell, in order, the first cell that it is a flip of, times 4, and the first of the flips none, h, v, both
-// (0 to 3) by which it is: left at the front of the scratch, a place a cell.
-pub fn first_cells(w: usize, h: usize, t: usize, indices: &[i16], scratch: &mut [u64])
-    requires { ⌜ Tiled w h t (now indices) × (cellCount w h t ≤ length (now scratch)) ⌝ }
-    ensures { λ _. ⌜ take (cellCount w h t) (now (scratch .exit)) ≡ firstCells w h t (now (indices .entry)) ⌝ }
-{
-    let n = h / t * (w / t);
-    fill(w, h, t, indices, &mut scratch[..n]);
+    true
 }

@@ -7,8 +7,7 @@ use native.Mathlib.Decide.{ℕ-discrete}
 use native.Mathlib.Omega.{arith}
 use borrow.Author.Tests.{eq-eqb, ne-eqb}
 use lib.IntN.{ℤ}
-use lib.ListN.{length, getD, set, take}
-use lib.Seq.{take-all}
+use lib.ListN.{length, getD, set}
 use Rattle.lists.specs.Lists.{range}
 use Rattle.tiling.specs.Cells.{cellCount, orderOf, firstCell, codeOf, firstCells}
 use Rattle.tiling.specs.Ids.{firstsBelow, tileId, idOf}
@@ -138,11 +137,8 @@ module _ (w h t : ℕ) (l : List ℤ) where
   pub numbered-ids : map (numbered s) (range 0 (length s)) ≡ map (idOf w t l) (range 0 n)
   numbered-ids = rw length-codes (first-same (numbered s) (idOf w t l) n each)
 
-  -- ---- as `first_cells` leaves them in scratch of a place a cell
-  module _ (s₁ : List ℕ) (e : take n s₁ ≡ s) (k : length s₁ ≡ n) where
-    whole : s₁ ≡ s
-    whole = sym (take-all n s₁ (omega arith)) ∙ e
-
+  -- ---- as `first_cells` leaves them
+  module _ (s₁ : List ℕ) (whole : s₁ ≡ s) where
     pub coded-in : Coded s₁
     coded-in = rw whole coded
 

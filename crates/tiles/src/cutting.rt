@@ -1,5 +1,5 @@
-// `extract` at tolerance 0. The core leaves the first cell of each cell in the scratch; these are numbered there, in
-// order, and only then the tiles and the map are written.
+// `extract` at tolerance 0. The first cell of each cell is left in the scratch; these are numbered there, in order, and
+// only then the tiles and the map are written.
 use crate::Extraction;
 use chains::first_cells;
 use laying::copy_tiles;
@@ -11,10 +11,10 @@ use sheet::check;
 ghost use mathlib.Core.Path.{_≡_};
 ghost use lib.ListN.{length};
 ghost use Rattle.sheet.specs.Sheet.{sheetOf};
-ghost use Rattle.tiling.specs.Cells.{Tiled, cellCount};
+ghost use Rattle.tiling.specs.Cells.{Tiled, firstCells};
 ghost use Rattle.tiles.specs.Extracts.{left, extractedIn, extractCall};
 
-// The tiles and the map of a sheet that the tile side divides, in scratch of a place a cell.
+// The tiles and the map of a sheet that the tile side divides, from the first cell of each cell.
 fn extract_in(
     w: usize,
     h: usize,
@@ -24,10 +24,9 @@ fn extract_in(
     tiles: &mut [i16],
     map: &mut [u32],
 ) -> Extraction
-    requires { ⌜ Tiled w h t (now indices) × (length (now s) ≡ cellCount w h t) ⌝ }
+    requires { ⌜ Tiled w h t (now indices) × (now s ≡ firstCells w h t (now indices)) ⌝ }
     ensures { λ r. ⌜ left r (now (tiles .exit)) (now (map .exit)) ≡ extractedIn w h t (now (indices .entry)) (now (tiles .entry)) (now (map .entry)) ⌝ }
 {
-    first_cells(w, h, t, indices, s);
     let m = number_tiles(s);
     if tiles.len() < m * t * t {
         return Extraction::Refused(NO_SPACE);
@@ -78,6 +77,7 @@ pub fn extract(
     if scratch.len() < w * h {
         return Extraction::Refused(NO_SPACE);
     }
+    first_cells(w, h, t, indices, scratch);
     let n = h / t * (w / t);
     extract_in(w, h, t, indices, &mut scratch[..n], tiles, map)
 }

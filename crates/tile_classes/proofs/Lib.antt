@@ -1,0 +1,6 @@
+mod Ranks
+mod Shuffles
+mod Round
+mod Writing
+mod Entering
+mod Pixels

@@ -1,0 +1,5 @@
+pub mod Places
+pub mod Ranks
+pub mod Classes
+pub mod Firsts
+pub mod Pixels

@@ -1,0 +1,5 @@
+pub mod Flips
+pub mod Comparing
+pub mod Seeing
+pub mod Bits
+pub mod Leasts
