@@ -3,6 +3,7 @@ use Prim.Native.Nat.{ℕ, suc, _+_, _-_, _≤_, _<_}
 use mathlib.Core.Path.{_≡_, refl, ap, _∙_}
 use mathlib.Core.Bool.{Bool, true, false, cond}
 use native.Mathlib.Omega.{arith}
+use native.Mathlib.Decide.{decLt}
 use borrow.Author.Tests.{ltb-true, ltb-false}
 use lib.Dec.{ltb}
 use lib.IntN.{ℤ, pos, negsuc, _+ℤ_}
@@ -11,8 +12,9 @@ use mir.Val.{SFits}
 use Rattle.ints.specs.Ints.{far, fromZero}
 use Rattle.ints.proofs.Back.{near-abs}
 use Rattle.ints.proofs.Sums.{from-zero-by, sum-fits}
+use Rattle.spans.specs.declared.Span.{Span}
 use Rattle.blocks.specs.declared.Landing.{Landing}
-use Rattle.blocks.specs.Blocks.{landing}
+use Rattle.blocks.specs.Blocks.{landing, Lying, Includes}
 
 abbrev pub offsetOf : ℤ → ℕ
 offsetOf d = fromZero (d +ℤ pos 65536)
@@ -95,3 +97,17 @@ module _ (start count : ℕ) (d : ℤ) (side : ℕ) (near : far d ≡ false) whe
   pub axis-past : (x : ℕ) → axis .from + axis .count ≤ x → x < start + count → Off side (pos x +ℤ d)
   unfolding landing
   axis-past x h k = past (x + offsetOf d - 65536) (lands-on x d near (omega arith)) (omega arith)
+
+-- ---- the rows that something lands on
+module _ {y : Landing} {other : ℕ} {rows : Span} (r : Lying y other rows) where
+  pub lying-included : Includes rows y
+  lying-included = let c = r .count in record { from = λ h. (let s = r .start h in omega arith); upto = λ h. (let s = r .start h in omega arith) }
+
+  -- they end where the sheet does, or before
+  pub lying-ends : {side : ℕ} → other ≤ side → (0 < y .count → y .to + y .count ≤ side) → rows .start + rows .count ≤ side
+  lying-ends o e =
+      let c = r .count in
+      elim (decLt 0 (y .count)) [
+        | yes h ↦ (let s = r .start h in let t = e h in omega arith)
+        | no h ↦ (let s = r .none (omega arith) in omega arith)
+      ]

@@ -1,5 +1,5 @@
 -- What a list that lands paints: the block that the code writes, clipped to the sheet. Assumes nothing.
-use Prim.Native.Nat.{ℕ, _+_, _*_, _≤_, _<_, _^_}
+use Prim.Native.Nat.{ℕ, _+_, _-_, _*_, _≤_, _<_, _^_}
 use mathlib.Core.Path.{_≡_, refl, sym, ap, _∙_}
 use mathlib.Core.Bool.{Bool, true, false, cond, _&&_}
 use mathlib.Core.List.{List, [], _∷_, flatMap}
@@ -14,19 +14,21 @@ use Rattle.lists.proofs.Each.{all-map}
 use Rattle.ints.specs.Ints.{fromZero}
 use Rattle.sheet.specs.Document.{indexAt}
 use Rattle.sheet.specs.declared.Got.the-variants as got
+use Rattle.spans.specs.declared.Span.{Span}
 use Rattle.spans.specs.Positions.{Position}
 use Rattle.selection.specs.declared.Selection.{Selection}
 use Rattle.selection.specs.Selection.{positions}
 use Rattle.edits.specs.Change.{Change, place, painted, newOf}
-use Rattle.changes.specs.Between.{between}
+use Rattle.changes.specs.Between.{rowsOf, betweenRows}
+use Rattle.changes.proofs.Parts.{InRows, painted-rows}
 use Rattle.normal.specs.Normal.{normalizeOf}
 use Rattle.normal.specs.Laws.{On}
 use Rattle.normal.proofs.Shortest.{first-olds}
 use Rattle.normal.proofs.Pictures.{normal-between}
 use Rattle.blocks.specs.declared.Landing.{Landing}
-use Rattle.blocks.specs.Blocks.{block, sourceAt, landing, Rows, Lands, indexIn, ontoGot, onto, landed}
+use Rattle.blocks.specs.Blocks.{block, sourceAt, landing, Includes, Rows, Lands, indexIn, ontoGot, onto, landed}
 use Rattle.blocks.proofs.Landings.{offsetOf, Off, before, past, axis-low, axis-high, axis-side, axis-few, axis-near, axis-meets, axis-before, axis-past}
-use Rattle.blocks.proofs.Collected.{none-collected, clipped, collected-alike, by-rows, all-collected}
+use Rattle.blocks.proofs.Collected.{none-collected, clipped, collected-alike, by-rows, all-collected, all-range}
 use Rattle.blocks.proofs.Painting.{One, block-painted}
 
 -- ---- one index, where it lands
@@ -93,9 +95,12 @@ module _ (w h : ℕ) (l : List ℤ) where
   unfolding landed
   good-landed sw source dx dy ps = all-collected Good _ (λ p. good-onto (pos (p .x) +ℤ dx) (pos (p .y) +ℤ dy) (indexIn sw source p)) ps
 
-  -- ---- what lies between the pictures
-  pub good-between : w ≤ 2 ^ 16 → length l ≡ w * h → (cs : List Change) → All Good cs → normalizeOf cs ≡ between w l (painted newOf w cs l)
-  good-between small size cs g = normal-between w h small l size cs (all-map (λ c d. d .on) cs g) (first-olds w l [] cs (all-map (λ c d. d .old-is) cs g))
+  -- ---- painted where some rows are laid out: what lies between the pictures there
+  pub good-between : w ≤ 2 ^ 16 → length l ≡ w * h → (cs : List Change) → All Good cs → (first count : ℕ) → All (InRows w first count) cs
+      → (k : List ℤ) → rowsOf w first count k ≡ rowsOf w first count l → betweenRows w first count l (painted newOf w cs k) ≡ normalizeOf cs
+  good-between small size cs g first count r k e =
+      painted-rows w first count cs r k l e
+      ∙ sym (normal-between w h small l size cs (all-map (λ c d. d .on) cs g) (first-olds w l [] cs (all-map (λ c d. d .old-is) cs g)))
 
 -- ---- rows that a list has
 pub row-in : (a b w x n places : ℕ) → a < b → x + n ≤ w → b * w ≤ places → a * w + x + n ≤ places
@@ -169,6 +174,37 @@ module _ (w h sw : ℕ) (s : Selection) (dx dy : ℤ) (places room : ℕ) (m : L
     unfolding landed
     landed-clipped = by-rows (λ p. onto w h l (pos (p .x) +ℤ dx) (pos (p .y) +ℤ dy) (indexIn sw source p)) s ∙ collected-alike _ _ columns (range (s .y) (s .h)) ∙ rows
 
+    -- the change of one that lands
+    lands-at : (j i : ℕ) → j < down .count → i < across .count
+        → at (down .from + j) (across .from + i)
+        ≡ changed w h l (across .to + i) (down .to + j) (getD source ((down .from + j) * sw + (across .from + i)) (pos 0)) ∷ []
+    lands-at j i a b =
+        let column : across .to + i < w = omega (arith, axis-side (s .x) (s .w) dx w (m .across) (omega arith)) in
+        let row : down .to + j < h = omega (arith, axis-side (s .y) (s .h) dy h (m .down) (omega arith)) in
+        rw (axis-meets (s .x) (s .w) dx w (m .across) i, axis-meets (s .y) (s .h) dy h (m .down) j)
+        (onto-at w h l (across .to + i) (down .to + j) _ column row)
+
+    one-in : (rows : Span) → Includes rows down → (y x : ℕ) → down .from ≤ y → y < down .from + down .count → across .from ≤ x → x < across .from + across .count
+        → All (InRows w (rows .start) (rows .count)) (at y x)
+    unfolding All
+    one-in rows h y x a b p q =
+        let j : ℕ = y - down .from in
+        let i : ℕ = x - across .from in
+        let ey : y ≡ down .from + j = omega arith in
+        let ex : x ≡ across .from + i = omega arith in
+        let f = h .from (omega arith) in
+        let g = h .upto (omega arith) in
+        rw (ey, ex)
+        (rw (lands-at j i (omega arith) (omega arith))
+        (record { column = omega (arith, axis-side (s .x) (s .w) dx w (m .across) (omega arith)); from = omega arith; below = omega arith }, tt))
+
+    -- all of them lie in rows that include the landing
+    pub landed-in : (rows : Span) → Includes rows down → All (InRows w (rows .start) (rows .count)) (landed w h l sw source dx dy (positions s))
+    landed-in rows h =
+        let In : Change → Type 0 = InRows w (rows .start) (rows .count) in
+        rw landed-clipped
+        (all-range In across-row (down .from) (down .count) (λ y a b. all-range In (at y) (across .from) (across .count) (λ x p q. one-in rows h y x a b p q)))
+
     one : (j i : ℕ) → j < down .count → i < across .count
         → One w ((down .to + j) * w + across .to + i) (sourceAt source sw (across .from) (down .from) j i) (at (down .from + j) (across .from + i))
     unfolding place
@@ -177,8 +213,7 @@ module _ (w h sw : ℕ) (s : Selection) (dx dy : ℤ) (places room : ℕ) (m : L
         let ty : ℕ = down .to + j in
         record {
           change = changed w h l tx ty (getD source ((down .from + j) * sw + (across .from + i)) (pos 0));
-          is = rw (axis-meets (s .x) (s .w) dx w (m .across) i, axis-meets (s .y) (s .h) dy h (m .down) j)
-              (onto-at w h l tx ty _ (omega (arith, axis-side (s .x) (s .w) dx w (m .across) (omega arith))) (omega (arith, axis-side (s .y) (s .h) dy h (m .down) (omega arith))));
+          is = lands-at j i a b;
           place-is = omega arith;
           new-is = ap (λ (k : ℕ). getD source k (pos 0)) (omega arith);
         }

@@ -9,6 +9,7 @@ use Rattle.ints.specs.Ints.{far, fromZero}
 use Rattle.sheet.specs.Document.{indexAt}
 use Rattle.sheet.specs.declared.Got.{Got}
 use Rattle.sheet.specs.declared.Got.the-variants as got
+use Rattle.spans.specs.declared.Span.{Span}
 use Rattle.spans.specs.Positions.{Position}
 use Rattle.selection.specs.declared.Selection.{Selection}
 use Rattle.edits.specs.Change.{Change}
@@ -53,6 +54,17 @@ landing start count o side =
       to = start + o - 65536;
       count = min (start + o + count - 65536) side - (start + o - 65536);
     }
+
+-- the rows that something lands on, and `other` as their start where nothing lands
+pub record Lying (y : Landing) (other : ℕ) (rows : Span) : Type 0 where
+  pub count : rows .count ≡ y .count
+  pub start : 0 < y .count → rows .start ≡ y .to
+  pub none : y .count ≡ 0 → rows .start ≡ other
+
+-- rows that include what something lands on
+pub record Includes (rows : Span) (y : Landing) : Type 0 where
+  pub from : 0 < y .count → rows .start ≤ y .to
+  pub upto : 0 < y .count → y .to + y .count ≤ rows .start + rows .count
 
 -- what the rows of a block ask: numbers that do not wrap, and places that a list of a length has
 pub record Rows (w x y n m places : ℕ) : Type 0 where

@@ -5,6 +5,7 @@ use ints::min_usize;
 use ints::saturating_sub;
 use limits::MAX_DISTANCE;
 use selection::Selection;
+use spans::Span;
 ghost use mathlib.Core.Path.{_≡_};
 ghost use mathlib.Core.Bool.{false};
 ghost use mathlib.Core.List.{List};
@@ -15,7 +16,7 @@ ghost use Rattle.ints.specs.Ints.{far, fromZero};
 ghost use Rattle.selection.specs.Selection.{positions};
 ghost use Rattle.edits.specs.Change.{painted, newOf};
 ghost use Rattle.changes.specs.Between.{laidOut};
-ghost use Rattle.blocks.specs.Blocks.{written, block, sourceAt, landing, Rows, Lands, landed};
+ghost use Rattle.blocks.specs.Blocks.{written, block, sourceAt, landing, Lying, Rows, Lands, landed};
 
 // Shifts are counted from the least one on, where no number has a sign.
 const LEAST: usize = 65_536;
@@ -101,6 +102,22 @@ pub fn landing_on(start: usize, count: usize, d: i32, side: usize) -> Landing
         from: start + saturating_sub(LEAST, first),
         to,
         count: saturating_sub(end, to),
+    }
+}
+
+// The rows that something lands on, and `other` as their start where nothing lands.
+pub fn landed_rows(y: Landing, other: usize) -> Span
+    ensures { λ r. ⌜ Lying y other r ⌝ }
+{
+    if y.count == 0 {
+        return Span {
+            start: other,
+            count: 0,
+        };
+    }
+    Span {
+        start: y.to,
+        count: y.count,
     }
 }
 

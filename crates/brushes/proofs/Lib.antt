@@ -5,3 +5,4 @@ pub mod Fitting
 pub mod Frames
 pub mod Stamps
 pub mod Paths
+pub mod Reached

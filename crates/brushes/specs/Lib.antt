@@ -1,3 +1,4 @@
 pub mod Points
 pub mod Places
+pub mod Reached
 pub mod Given

@@ -34,7 +34,7 @@ pub fn clamp(size: usize) -> usize
 
 // One axis of a brush of n places at z, which starts (n - 1) / 2 before it: what lies from `from` on and below
 // `end`.
-fn stamp_run(z: i32, n: usize, from: usize, end: usize) -> Run
+pub(crate) fn stamp_run(z: i32, n: usize, from: usize, end: usize) -> Run
     requires { ⌜ Brush n × Close z ⌝ }
     ensures { λ r. ⌜ r ≡ clipped (z -ℤ pos ((n - 1) / 2)) (z -ℤ pos ((n - 1) / 2) +ℤ pos (n - 1)) from end ⌝ }
 {

@@ -2,11 +2,15 @@
 mod brush;
 mod frame;
 mod paint;
+mod rows;
 
 pub use brush::clamp;
 pub use brush::paint_path;
 pub use brush::paint_two;
 pub use frame::paint_rectangle;
+pub use rows::line_rows;
+pub use rows::path_rows;
+pub use rows::rectangle_rows;
 
 // The places of one axis that are painted: count of them from start on.
 pub struct Run {
@@ -19,4 +23,10 @@ pub struct Columns {
     pub all: Run,
     pub left: Run,
     pub right: Run,
+}
+
+// The least and the greatest row of some points.
+pub(crate) struct Reach {
+    pub low: i32,
+    pub high: i32,
 }

@@ -11,7 +11,7 @@ use lib.Dec.{eqb}
 use lib.Arith.{digits-div, digits-mod}
 use lib.IntN.{ℤ, pos}
 use lib.ListN.{length, take, drop, getD, set, length-drop, drop-of-length-le, take-append-drop}
-use lib.Seq.{drop-cons, drop-drop, getD-drop, length-take-le}
+use lib.Seq.{drop-cons, drop-drop, getD-drop, length-take-le, take-add}
 use mir.Syntax.{w16}
 use lib.Signed.{mag}
 use mir.Val.{Fits, SFits, toZ, ofZ, hbits}
@@ -22,9 +22,10 @@ use Rattle.ints.proofs.Back.{eq-back, by-value}
 use Rattle.edits.specs.Change.{packed}
 use Rattle.lists.specs.Lists.{All}
 use Rattle.lists.proofs.Each.{all-at}
-use Rattle.changes.specs.Between.{betweenFrom, between, laidOut, differenceOf, rowFrom}
+use Rattle.changes.specs.Between.{betweenFrom, laidOut, rowsOf, betweenRows, HasRows, differenceOf, rowFrom}
 use Rattle.changes.specs.Fronts.{Front, Put}
 use Rattle.changes.proofs.Fronts.{front-of, put-one, put-none}
+use Rattle.changes.proofs.Parts.{rows-read, length-rows, no-rows}
 
 -- the index that a number's lowest 16 bits are
 abbrev indexOf : ℕ → ℤ
@@ -70,15 +71,22 @@ row-between w y x (a ∷ row) l (v ∷ vs) e h f =
     ∙ ap (λ (k : List ℕ). differenceOf (y * 2 ^ 16 + x) (ofZ w16 a) (v % 2 ^ 16) ++ k) rest
     ∙ sym (append-assoc (differenceOf (y * 2 ^ 16 + x) (ofZ w16 a) (v % 2 ^ 16)) (rowFrom (suc (y * 2 ^ 16 + x)) row vs) below)
 
--- row y, and the rows below
-row-splits : (w y : ℕ) (l : List ℤ) (vs : List ℕ) → y * w + w ≤ length l → length l ≤ length vs → All (SFits w16) (take w (drop (y * w) l))
-    → map packed (betweenFrom w (y * w) (drop (y * w) l) (map indexOf (drop (y * w) vs)))
-    ≡ rowFrom (y * 2 ^ 16) (take w (drop (y * w) l)) (drop (y * w) vs) ++ map packed (betweenFrom w (y * w + w) (drop (y * w + w) l) (map indexOf (drop (y * w + w) vs)))
-row-splits w y l vs h k f =
+-- row y of k + 1, and the rows from z on, the next
+row-splits : (w y z k : ℕ) (l : List ℤ) (vs : List ℕ) → z * w ≡ y * w + w → y * w + w ≤ length l → length l ≤ length vs
+    → All (SFits w16) (take w (drop (y * w) l))
+    → map packed (betweenFrom w (y * w) (rowsOf w y (suc k) l) (map indexOf (drop (y * w) vs)))
+    ≡ rowFrom (y * 2 ^ 16) (take w (drop (y * w) l)) (drop (y * w) vs) ++ map packed (betweenFrom w (z * w) (rowsOf w z k l) (map indexOf (drop (z * w) vs)))
+unfolding rowsOf
+row-splits w y z k l vs next h e f =
     let row : List ℤ = take w (drop (y * w) l) in
+    let below : List ℤ = take (k * w) (drop (y * w + w) l) in
     let lr : length row ≡ w = length-take-le w (drop (y * w) l) (omega (arith, length-drop (y * w) l)) in
-    rw (take-append-drop w (drop (y * w) l), lr, zero-add, add-zero (y * w), add-zero (y * 2 ^ 16), drop-drop w (y * w) l, drop-drop w (y * w) vs)
-    at (row-between w y 0 row (drop w (drop (y * w) l)) (drop (y * w) vs) (omega (arith, lr, length-drop (y * w) vs)) (omega (arith, lr)) f)
+    let size : suc k * w ≡ w + k * w = omega (arith, suc-mul k w) in
+    let split : take (suc k * w) (drop (y * w) l) ≡ row ++ below =
+    ap (λ (n : ℕ). take n (drop (y * w) l)) size ∙ take-add w (k * w) (drop (y * w) l) ∙ ap (λ (m : List ℤ). row ++ take (k * w) m) (drop-drop w (y * w) l) in
+    rw (split, next)
+    (rw (lr, zero-add, add-zero (y * w), add-zero (y * 2 ^ 16), drop-drop w (y * w) vs)
+    at (row-between w y 0 row below (drop (y * w) vs) (omega (arith, lr, length-drop (y * w) vs)) (omega (arith, lr)) f))
 
 -- more bits than there are indices
 pub between-take : (w p : ℕ) (l m : List ℤ) → betweenFrom w p l m ≡ betweenFrom w p l (take (length l) m)
@@ -166,42 +174,56 @@ module _ (row : List ℤ) (first at : ℕ) (s₀ : List ℕ) (m₀ : ℕ) where
     pub rowing-fits : length row ≤ x → All (SFits w16) row
     rowing-fits h = all-at (SFits w16) (pos 0) row (λ i k. r .fits i (omega arith))
 
--- ---- all rows
-module _ (w h : ℕ) (l : List ℤ) (s₀ : List ℕ) where
-  pub record Listing (s : List ℕ) (m y : ℕ) : Type 0 where
-    pub low : m ≤ y * w
-    pub upto : y ≤ h
+-- ---- count rows from `first` on
+module _ (w first count : ℕ) (l : List ℤ) (s₀ : List ℕ) where
+  -- the changes of the rows from the j-th on
+  abbrev left : ℕ → List ℕ
+  left j = map packed (betweenFrom w ((first + j) * w) (rowsOf w (first + j) (count - j) l) (map indexOf (drop ((first + j) * w) s₀)))
+
+  pub record Listing (s : List ℕ) (m j : ℕ) : Type 0 where
+    pub low : m ≤ (first + j) * w
+    pub upto : j ≤ count
     pub long : length s ≡ length s₀
-    pub behind : drop (y * w) s ≡ drop (y * w) s₀
-    pub done : take m s ++ map packed (betweenFrom w (y * w) (drop (y * w) l) (map indexOf (drop (y * w) s₀))) ≡ map packed (betweenFrom w 0 l (map indexOf s₀))
+    pub behind : drop ((first + j) * w) s ≡ drop ((first + j) * w) s₀
+    pub done : take m s ++ left j ≡ left 0
 
   pub listing-start : Listing s₀ 0 0
-  listing-start = record { low = omega arith; upto = omega arith; long = refl; behind = rw (zero-mul w); done = rw (zero-mul w) }
+  listing-start = record { low = omega arith; upto = omega arith; long = refl; behind = refl; done = refl }
 
   -- row y as it is lent
   abbrev lent : ℕ → List ℤ
   lent y = take (y * w + w - y * w) (drop (y * w) l)
 
-  module _ (size : length l ≡ w * h) (fit : length l ≤ length s₀) {s : List ℕ} {m y : ℕ} (g : Listing s m y) where
-    module _ (k : y < h) where
+  module _ (in-picture : HasRows w first count (length l) (length s₀)) {s : List ℕ} {m j : ℕ} (g : Listing s m j) where
+    abbrev y : ℕ
+    y = first + j
+
+    module _ (k : j < count) where
       pub row-inside : y * w + w ≤ length l
-      row-inside = rw (size, mul-comm w h) (omega (arith, suc-mul y w, mul-le-mul-right w k))
+      row-inside =
+          let i = in-picture .inside in
+          let below : suc (first + j) ≤ first + count = omega arith in
+          omega (arith, suc-mul y w, mul-le-mul-right w below)
 
       length-lent : length (lent y) ≡ w
       length-lent = length-take-le (y * w + w - y * w) (drop (y * w) l) (omega (arith, length-drop (y * w) l, row-inside)) ∙ omega arith
 
-      pub listing-fits : w ≤ 2 ^ 16 → h ≤ 2 ^ 16 → (m ≤ y * w) × (y * w + length (lent y) ≤ length s) × (y * 2 ^ 16 + length (lent y) ≤ 2 ^ 32)
-      listing-fits a b = (g .low, rw (length-lent, g .long) (omega (arith, row-inside)), rw length-lent (omega arith))
+      pub listing-fits : (m ≤ y * w) × (y * w + length (lent y) ≤ length s) × (y * 2 ^ 16 + length (lent y) ≤ 2 ^ 32)
+      listing-fits =
+          let n = in-picture .narrow in
+          let f = in-picture .few in
+          let o = in-picture .roomy in
+          (g .low, rw (length-lent, g .long) (omega (arith, row-inside)), rw length-lent (omega arith))
 
       pub listing-next : All (SFits w16) (lent y) → {s′ : List ℕ} {r : ℕ}
-          → Put s m (rowFrom (y * 2 ^ 16) (lent y) (drop (y * w) s)) (y * w + length (lent y)) s′ r → length s′ ≡ length s → Listing s′ r (y + 1)
+          → Put s m (rowFrom (y * 2 ^ 16) (lent y) (drop (y * w) s)) (y * w + length (lent y)) s′ r → length s′ ≡ length s → Listing s′ r (j + 1)
       listing-next f {s′} {r} u t =
           let wide : y * w + w - y * w ≡ w = omega arith in
-          let nx : (y + 1) * w ≡ y * w + w = omega (arith, add-mul y 1 w, one-mul w) in
-          let end : y * w + length (lent y) ≡ (y + 1) * w = omega (arith, length-lent) in
-          let below : List ℕ = map packed (betweenFrom w ((y + 1) * w) (drop ((y + 1) * w) l) (map indexOf (drop ((y + 1) * w) s₀))) in
-          let split : map packed (betweenFrom w (y * w) (drop (y * w) l) (map indexOf (drop (y * w) s₀))) ≡ rowFrom (y * 2 ^ 16) (lent y) (drop (y * w) s₀) ++ below =
-          rw (nx, wide) (row-splits w y l s₀ row-inside fit (rw wide at f)) in
+          let nx : (first + (j + 1)) * w ≡ y * w + w = (let e : first + (j + 1) ≡ suc y = omega arith in rw e (omega (arith, suc-mul y w))) in
+          let end : y * w + length (lent y) ≡ (first + (j + 1)) * w = omega (arith, length-lent) in
+          let more : count - j ≡ suc (count - (j + 1)) = omega arith in
+          let split : left j ≡ rowFrom (y * 2 ^ 16) (lent y) (drop (y * w) s₀) ++ left (j + 1) =
+          rw (more, wide) (row-splits w y (first + (j + 1)) (count - (j + 1)) l s₀ nx row-inside (in-picture .roomy) (rw wide at f)) in
           let n : ℕ = length (lent y) in
           let passed : drop (y * w + n) s ≡ drop (y * w + n) s₀ = sym (drop-drop n (y * w) s) ∙ ap (drop n) (g .behind) ∙ drop-drop n (y * w) s₀ in
           record {
@@ -209,15 +231,32 @@ module _ (w h : ℕ) (l : List ℤ) (s₀ : List ℕ) where
             upto = omega arith;
             long = t ∙ g .long;
             behind = rw (← end) (u .behind ∙ passed);
-            done = ap (λ (b : List ℕ). b ++ below) (u .front ∙ ap (λ (b : List ℕ). take m s ++ rowFrom (y * 2 ^ 16) (lent y) b) (g .behind))
-                ∙ append-assoc (take m s) (rowFrom (y * 2 ^ 16) (lent y) (drop (y * w) s₀)) below ∙ ap (λ (b : List ℕ). take m s ++ b) (sym split) ∙ g .done;
+            done = ap (λ (b : List ℕ). b ++ left (j + 1)) (u .front ∙ ap (λ (b : List ℕ). take m s ++ rowFrom (y * 2 ^ 16) (lent y) b) (g .behind))
+                ∙ append-assoc (take m s) (rowFrom (y * 2 ^ 16) (lent y) (drop (y * w) s₀)) (left (j + 1))
+                ∙ ap (λ (b : List ℕ). take m s ++ b) (sym split) ∙ g .done;
           }
 
-    pub listing-end : h ≤ y → Front (map packed (between w l (laidOut (length l) s₀))) s m
-    unfolding between laidOut betweenFrom
+    pub listing-end : count ≤ j → Front (map packed (betweenRows w first count l (laidOut (length l) s₀))) s m
+    unfolding betweenRows betweenFrom
     listing-end k =
         let u = g .upto in
-        let e : y ≡ h = omega arith in
-        let none : drop (y * w) l ≡ [] = drop-of-length-le l {i = y * w} (rw (size, e, mul-comm w h) (omega arith)) in
-        let b : y * w ≤ length s = rw (g .long, e, mul-comm h w, ← size) fit in
-        front-of (sym (append-nil (take m s)) ∙ (rw none at (g .done)) ∙ ap (map packed) (between-take w 0 l (map indexOf s₀) ∙ ap (betweenFrom w 0 l) (sym (map-take indexOf (length l) s₀)))) (let lo = g .low in omega arith)
+        let i = in-picture .inside in
+        let o = in-picture .roomy in
+        let lo = g .low in
+        let lg = g .long in
+        let e : j ≡ count = omega arith in
+        let fits : first * w + count * w ≤ length l = omega (arith, add-mul first count w) in
+        let rows : length (rowsOf w first count l) ≡ count * w = length-rows w first count l fits in
+        front-of
+        (sym (append-nil (take m s)) ∙ ap (λ (x : List ℕ). take m s ++ x) (sym (none-left e)) ∙ g .done
+        ∙ ap (map packed) (all-left ∙ between-take w (first * w) (rowsOf w first count l) (map indexOf (drop (first * w) s₀))
+        ∙ ap (λ (n : ℕ). betweenFrom w (first * w) (rowsOf w first count l) (take n (map indexOf (drop (first * w) s₀)))) rows
+        ∙ ap (betweenFrom w (first * w) (rowsOf w first count l)) (sym (rows-read w first count (length l) s₀ fits))))
+        (omega (arith, mul-le-mul-right w (let z : first + j ≤ first + count = omega arith in z)))
+      where
+        none-left : j ≡ count → left j ≡ []
+        none-left e = let z : count - j ≡ 0 = omega arith in rw (z, no-rows w (first + j) l)
+
+        all-left : betweenFrom w ((first + 0) * w) (rowsOf w (first + 0) (count - 0) l) (map indexOf (drop ((first + 0) * w) s₀))
+            ≡ betweenFrom w (first * w) (rowsOf w first count l) (map indexOf (drop (first * w) s₀))
+        all-left = let a : first + 0 ≡ first = omega arith in let b : count - 0 ≡ count = omega arith in rw (a, b)

@@ -1,5 +1,6 @@
-// The changes between two pictures: a tool lays the picture out in the scratch, paints there, and then the places
-// that differ are listed, row by row, over what was read. So no tool has a list of its own to normalise.
+// The changes between two pictures: a tool lays the rows that it can reach out in the scratch, paints there, and
+// then the places that differ are listed, row by row, over what was read. So no tool has a list of its own to
+// normalise, and none costs more than the rows it can reach.
 use pixels::bits_of;
 ghost use mathlib.Core.Path.{_≡_};
 ghost use mathlib.Core.List.{map};
@@ -10,7 +11,7 @@ ghost use mir.Val.{SFits, ofZ};
 ghost use Rattle.lists.specs.Lists.{over, All};
 ghost use Rattle.edits.specs.Change.{packed};
 ghost use Rattle.changes.specs.Fronts.{Front, Put};
-ghost use Rattle.changes.specs.Between.{between, laidOut, differenceOf, rowFrom};
+ghost use Rattle.changes.specs.Between.{laidOut, rowsOf, betweenRows, HasRows, differenceOf, rowFrom};
 
 // The values of one part, and the units in which a change counts its row, its old and its new.
 const PART: u64 = 65_536;
@@ -21,8 +22,8 @@ const OLD: u64 = 4_294_967_296;
 
 const NEW: u64 = 281_474_976_710_656;
 
-// The picture into the scratch, an index a number, in 16 bits.
-pub fn lay(indices: &[i16], scratch: &mut [u64])
+// Indices into the scratch, an index a number, in 16 bits.
+fn lay(indices: &[i16], scratch: &mut [u64])
     requires { ⌜ length (now indices) ≤ length (now scratch) ⌝ }
     ensures { λ _. ⌜ now (scratch .exit) ≡ over (map (ofZ w16) (now (indices .entry))) (now (scratch .entry)) ⌝ }
     ensures { λ _. ⌜ laidOut (length (now (indices .entry))) (now (scratch .exit)) ≡ now (indices .entry) ⌝ }
@@ -33,6 +34,16 @@ pub fn lay(indices: &[i16], scratch: &mut [u64])
         scratch[i] = bits;
         i += 1;
     }
+}
+
+// Some rows of a picture into the scratch, each where it stands: count rows from row `first` on.
+pub fn lay_rows(indices: &[i16], w: usize, first: usize, count: usize, scratch: &mut [u64])
+    requires { ⌜ HasRows w first count (length (now indices)) (length (now scratch)) ⌝ }
+    ensures { λ _. ⌜ rowsOf w first count (laidOut (length (now (indices .entry))) (now (scratch .exit))) ≡ rowsOf w first count (now (indices .entry)) ⌝ }
+{
+    let at = first * w;
+    let end = at + count * w;
+    lay(&indices[at..end], &mut scratch[at..end]);
 }
 
 // An index painted at place p of a picture that is laid out.
@@ -76,19 +87,26 @@ fn row_differences(row: &[i16], first: u64, at: usize, s: &mut [u64], m: usize) 
     m
 }
 
-// The changes from a picture to the one that the scratch's front holds as bits, in row order, left at the front of
-// the scratch; answers how many they are.
-pub fn differences(indices: &[i16], w: usize, h: usize, scratch: &mut [u64]) -> usize
-    requires { ⌜ (w ≤ 2 ^ 16) × (h ≤ 2 ^ 16) × (length (now indices) ≡ w * h) × (length (now indices) ≤ length (now scratch)) ⌝ }
-    ensures { λ r. ⌜ Front (map packed (between w (now (indices .entry)) (laidOut (length (now (indices .entry))) (now (scratch .entry))))) (now (scratch .exit)) r ⌝ }
+// The changes in count rows from row `first` on, from a picture to the one that the scratch holds there as bits, in
+// row order, left at the front of the scratch; answers how many they are.
+pub fn differences(
+    indices: &[i16],
+    w: usize,
+    first: usize,
+    count: usize,
+    scratch: &mut [u64],
+) -> usize
+    requires { ⌜ HasRows w first count (length (now indices)) (length (now scratch)) ⌝ }
+    ensures { λ r. ⌜ Front (map packed (betweenRows w first count (now (indices .entry)) (laidOut (length (now (indices .entry))) (now (scratch .entry))))) (now (scratch .exit)) r ⌝ }
 {
     let mut m: usize = 0;
-    let mut y: usize = 0;
-    while y < h {
+    let mut j: usize = 0;
+    while j < count {
+        let y = first + j;
         let at = y * w;
         let end = at + w;
         m = row_differences(&indices[at..end], y as u64 * ROW, at, scratch, m);
-        y += 1;
+        j += 1;
     }
     m
 }

@@ -5,7 +5,7 @@ mod between;
 mod copy;
 
 pub use between::differences;
-pub use between::lay;
+pub use between::lay_rows;
 pub use between::paint;
 pub use copy::copy_out;
 pub use copy::count_of;

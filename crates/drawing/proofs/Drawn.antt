@@ -15,11 +15,14 @@ use Rattle.selection.proofs.Regions.{Within, below-span}
 use Rattle.lines.specs.Line.{Point}
 use Rattle.edits.specs.Change.{Change, place}
 use Rattle.lists.specs.Lists.{All}
-use Rattle.lists.proofs.Each.{all-append}
+use Rattle.lists.proofs.Each.{all-append, all-map, all-flat}
 use Rattle.changes.specs.Between.{between}
+use Rattle.changes.proofs.Parts.{InRows}
 use Rattle.normal.specs.Laws.{On}
 use Rattle.normal.proofs.Shortest.{first-olds}
 use Rattle.normal.proofs.Pictures.{normal-between}
+use Rattle.brushes.specs.declared.Run.{Run}
+use Rattle.brushes.specs.Reached.{Holds}
 use Rattle.brushes.specs.Points.{changeAt, changesAt, drawn}
 use Rattle.brushes.specs.Places.{setAll, placesOf}
 use Rattle.brushes.proofs.Painted.{painted-places}
@@ -71,6 +74,23 @@ module _ (w h : ℕ) (l : List ℤ) (region : Selection) (inside : Within region
   unfolding changesAt flatMap All
   all-olds [] = tt
   all-olds (p ∷ ps) = all-append olds (changeAt w l region z p) (flatMap (changeAt w l region z) ps) (one-old p) (all-olds ps)
+
+  -- and in the rows that hold the points
+  one-in : (rows : Run) (p : Point) → (containsI region (p .x) (p .y) ≡ true → (rows .start ≤ natAbs (p .y)) × (natAbs (p .y) < rows .start + rows .count))
+      → All (InRows w (rows .start) (rows .count)) (changeAt w l region z p)
+  unfolding changeAt All
+  one-in rows p h = go (containsI region (p .x) (p .y)) refl
+    where
+      here : Change
+      here = record { x = natAbs (p .x); y = natAbs (p .y); old = getD l (natAbs (p .y) * w + natAbs (p .x)) (pos 0); new = z }
+
+      go : (b : Bool) → containsI region (p .x) (p .y) ≡ b → All (InRows w (rows .start) (rows .count)) (cond b (here ∷ []) [])
+      go true e = let r = h e in (record { column = on-sheet p e .column; from = r .0; below = r .1 }, tt)
+      go false e = tt
+
+  pub all-in : (ps : List Point) (rows : Run) → Holds region ps rows → All (InRows w (rows .start) (rows .count)) (changesAt w l region z ps)
+  unfolding changesAt
+  all-in ps rows h = all-flat (InRows w (rows .start) (rows .count)) (changeAt w l region z) ps (all-map (one-in rows) ps (h .each))
 
   -- what a tool returns
   pub drawn-between : w ≤ 2 ^ 16 → length l ≡ w * h → (ps : List Point) → drawn w l region z ps ≡ between w l (setAll (placesOf region w ps) z l)

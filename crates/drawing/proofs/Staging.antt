@@ -26,15 +26,18 @@ use Rattle.sheet.specs.Sheet.{Sheet}
 use Rattle.sheet.specs.Checks.{sheetChecks, WellFormed, Judged}
 use Rattle.sheet.proofs.Judging.{none-applied, past-sheet, refused-sheet}
 use Rattle.lines.specs.Line.{Point}
-use Rattle.edits.specs.Change.{Change, packed}
-use Rattle.changes.specs.Between.{between, laidOut}
+use Rattle.edits.specs.Change.{Change, packed, painted, newOf}
+use Rattle.changes.specs.Between.{between, laidOut, rowsOf, betweenRows, HasRows}
+use Rattle.changes.proofs.Parts.{has-rows, painted-rows}
 use Rattle.changes.specs.Listed.{handed, listed}
 use Rattle.drawing.specs.declared.Stage.the-variants.{Canvas, Refused}
-use Rattle.brushes.specs.Points.{drawn}
+use Rattle.brushes.specs.declared.Run.{Run}
+use Rattle.brushes.specs.Points.{changesAt, drawn}
 use Rattle.brushes.specs.Places.{setAll, placesOf}
+use Rattle.brushes.specs.Reached.{Holds}
 use Rattle.drawing.specs.Calls.{drawChecks, stageOf}
-use Rattle.brushes.proofs.Painted.{laid-all}
-use Rattle.drawing.proofs.Drawn.{drawn-between}
+use Rattle.brushes.proofs.Painted.{laid-all, painted-places}
+use Rattle.drawing.proofs.Drawn.{all-in, drawn-between}
 
 -- a region that is not refused is inside
 within : (a : Area) (w h : ℕ) → firstOf (regionChecks a w h) ≡ 0 → Within (regionIn a w h) w h
@@ -133,23 +136,40 @@ module _ (s : Sheet) (given : List Check) (a : Area) (room : ℕ) where
         let b = f .below in
         record { width = f .width; right = f .right; bottom = f .bottom; below = omega arith }
 
-    -- the picture was laid out, painted and compared
-    pub answered : (ps : List Point) (z : ℤ) (s₁ s₂ : List ℕ) (c : Counted) (out after : List ℕ) → SFits w16 z → laidOut (length (s .indices)) s₁ ≡ s .indices
-        → s₂ ≡ setAll (placesOf region (s .w) ps) (ofZ w16 z) s₁
-        → filled c after ≡ handed (map packed (between (s .w) (s .indices) (laidOut (length (s .indices)) s₂))) out
-        → filled c after ≡ listed (drawChecks s given a room) (drawn (s .w) (s .indices) (regionIn a (s .w) (s .h)) z ps) out
-    unfolding listed
-    answered ps z s₁ s₂ c out after f e q d =
-        let n = length (s .indices) in
-        let places = placesOf region (s .w) ps in
-        let picture : laidOut n s₂ ≡ setAll places z (s .indices) = ap (laidOut n) q ∙ laid-all n places z s₁ f ∙ ap (setAll places z) e in
-        let l = r .well .limits in
-        let small : s .w ≤ 2 ^ 16 = (let k = l .w-small in omega arith) in
-        let list : between (s .w) (s .indices) (laidOut n s₂) ≡ drawn (s .w) (s .indices) (regionIn a (s .w) (s .h)) z ps =
-        ap (between (s .w) (s .indices)) picture ∙ sym (drawn-between (s .w) (s .h) (s .indices) region (r .on) z small (l .indices-length) ps)
-        ∙ ap (λ (t : Selection). drawn (s .w) (s .indices) t z ps) (r .is) in
-        d ∙ ap (λ (cs : List Change). handed (map packed cs) out) list
-        ∙ result-first (drawChecks s given a room) (λ m. filled (counted.Refused m) out) (handed (map packed (drawn (s .w) (s .indices) (regionIn a (s .w) (s .h)) z ps)) out) (r .none)
+    -- rows that hold a tool's points, of which each is on the sheet
+    module _ {ps : List Point} {rows : Run} (held : Holds region ps rows) where
+      pub ready-rows : (pixels : ℕ) → room ≤ pixels → HasRows (s .w) (rows .start) (rows .count) (length (s .indices)) pixels
+      ready-rows pixels h =
+          let l = r .well .limits in
+          let size = l .indices-length in
+          let e = held .ends in
+          let o = r .on .below in
+          let i = r .space in
+          has-rows (l .w-small) (l .h-small) (omega arith) size (omega arith)
+
+      -- the rows were laid out, painted and compared
+      pub answered : (z : ℤ) (s₁ s₂ : List ℕ) (c : Counted) (out after : List ℕ) → SFits w16 z
+          → rowsOf (s .w) (rows .start) (rows .count) (laidOut (length (s .indices)) s₁) ≡ rowsOf (s .w) (rows .start) (rows .count) (s .indices)
+          → s₂ ≡ setAll (placesOf region (s .w) ps) (ofZ w16 z) s₁
+          → filled c after ≡ handed (map packed (betweenRows (s .w) (rows .start) (rows .count) (s .indices) (laidOut (length (s .indices)) s₂))) out
+          → filled c after ≡ listed (drawChecks s given a room) (drawn (s .w) (s .indices) (regionIn a (s .w) (s .h)) z ps) out
+      unfolding listed
+      answered z s₁ s₂ c out after f e q d =
+          let n = length (s .indices) in
+          let l = r .well .limits in
+          let small : s .w ≤ 2 ^ 16 = (let k = l .w-small in omega arith) in
+          let cs : List Change = changesAt (s .w) (s .indices) region z ps in
+          let picture : laidOut n s₂ ≡ painted newOf (s .w) cs (laidOut n s₁) =
+          ap (laidOut n) q ∙ laid-all n (placesOf region (s .w) ps) z s₁ f ∙ sym (painted-places (s .w) (s .indices) region z ps (laidOut n s₁)) in
+          let list : betweenRows (s .w) (rows .start) (rows .count) (s .indices) (laidOut n s₂) ≡ drawn (s .w) (s .indices) (regionIn a (s .w) (s .h)) z ps =
+          ap (betweenRows (s .w) (rows .start) (rows .count) (s .indices)) picture
+          ∙ painted-rows (s .w) (rows .start) (rows .count) cs (all-in (s .w) (s .h) (s .indices) region (r .on) z ps rows held) (laidOut n s₁) (s .indices) e
+          ∙ ap (between (s .w) (s .indices)) (painted-places (s .w) (s .indices) region z ps (s .indices))
+          ∙ sym (drawn-between (s .w) (s .h) (s .indices) region (r .on) z small (l .indices-length) ps)
+          ∙ ap (λ (t : Selection). drawn (s .w) (s .indices) t z ps) (r .is) in
+          d ∙ ap (λ (cs : List Change). handed (map packed cs) out) list
+          ∙ result-first (drawChecks s given a room) (λ m. filled (counted.Refused m) out)
+          (handed (map packed (drawn (s .w) (s .indices) (regionIn a (s .w) (s .h)) z ps)) out) (r .none)
 
 -- ---- one check before all others
 pub listed-first : (c : Check) (checks : List Check) (cs : List Change) (out : List ℕ) → 0 < c .number → c .applies ≡ true → filled (counted.Refused (c .number)) out ≡ listed (c ∷ checks) cs out

@@ -1,14 +1,18 @@
-// The calls: their checks, and the picture laid out, painted and compared.
+// The calls: their checks, and the rows that a tool can reach laid out, painted and compared.
 use crate::Stage;
+use brushes::Run;
 use brushes::clamp;
+use brushes::line_rows;
 use brushes::paint_path;
 use brushes::paint_rectangle;
 use brushes::paint_two;
+use brushes::path_rows;
+use brushes::rectangle_rows;
 use changes::copy_out;
 use changes::count_of;
 use changes::counted;
 use changes::differences;
-use changes::lay;
+use changes::lay_rows;
 use ints::is_far;
 use limits::BAD_SHEET;
 use limits::Counted;
@@ -25,7 +29,7 @@ use selection::region;
 use sheet::check;
 ghost use mathlib.Core.Path.{_≡_};
 ghost use mathlib.Core.List.{List, map};
-ghost use Prim.Native.Nat.{_*_, _%_, _≤_, _^_};
+ghost use Prim.Native.Nat.{_%_};
 ghost use lib.ListN.{length};
 ghost use Rattle.limits.specs.Checks.{Check, firstOf};
 ghost use Rattle.lists.specs.Lists.{some};
@@ -33,7 +37,7 @@ ghost use Rattle.ints.specs.Ints.{far};
 ghost use Rattle.sheet.specs.Sheet.{sheetOf};
 ghost use Rattle.lines.specs.Line.{point, farPoint};
 ghost use Rattle.edits.specs.Change.{packed};
-ghost use Rattle.changes.specs.Between.{between, laidOut};
+ghost use Rattle.changes.specs.Between.{laidOut, betweenRows, HasRows};
 ghost use Rattle.changes.specs.Listed.{handed, countOf, InScratch};
 ghost use Rattle.brushes.specs.Given.{cornerChecks, pointChecks};
 ghost use Rattle.drawing.specs.Calls.{leaves, stageOf, pencilCall, eraserCall, lineCall, rectangleCall};
@@ -69,13 +73,13 @@ fn stage(
     Stage::Canvas(s)
 }
 
-// The end of each call: the changes from the picture to the one that is painted in the scratch, left at its front
-// for a buffer of `room` places; 16 where that has fewer.
-fn finish(indices: &[i16], w: usize, h: usize, scratch: &mut [u64], room: usize) -> Counted
-    requires { ⌜ (w ≤ 2 ^ 16) × (h ≤ 2 ^ 16) × (length (now indices) ≡ w * h) × (length (now indices) ≤ length (now scratch)) ⌝ }
-    ensures { λ r. ⌜ InScratch (countOf r) room (now (scratch .exit)) (leaves r) (handed (map packed (between w (now (indices .entry)) (laidOut (length (now (indices .entry))) (now (scratch .entry)))))) ⌝ }
+// The end of each call: the changes of some rows from the picture to the one that is painted in the scratch, left at
+// its front for a buffer of `room` places; 16 where that has fewer.
+fn finish(indices: &[i16], w: usize, rows: Run, scratch: &mut [u64], room: usize) -> Counted
+    requires { ⌜ HasRows w (rows .start) (rows .count) (length (now indices)) (length (now scratch)) ⌝ }
+    ensures { λ r. ⌜ InScratch (countOf r) room (now (scratch .exit)) (leaves r) (handed (map packed (betweenRows w (rows .start) (rows .count) (now (indices .entry)) (laidOut (length (now (indices .entry))) (now (scratch .entry)))))) ⌝ }
 {
-    let n = differences(indices, w, h, scratch);
+    let n = differences(indices, w, rows.start, rows.count, scratch);
     counted(n, room)
 }
 
@@ -154,9 +158,10 @@ pub fn pencil_in(
         Stage::Canvas(s) => {
             let v = bits_of(index) as u64;
             let brush = clamp(size);
-            lay(indices, scratch);
+            let rows = path_rows(points, s, brush);
+            lay_rows(indices, w, rows.start, rows.count, scratch);
             paint_path(points, scratch, w, s, brush, v);
-            finish(indices, w, h, scratch, room)
+            finish(indices, w, rows, scratch, room)
         }
         Stage::Refused(n) => Counted::Refused(n),
     }
@@ -292,9 +297,10 @@ pub fn line_in(
         Stage::Canvas(s) => {
             let v = bits_of(index) as u64;
             let brush = clamp(size);
-            lay(indices, scratch);
+            let rows = line_rows(s, brush, ay, by);
+            lay_rows(indices, w, rows.start, rows.count, scratch);
             paint_two(scratch, w, s, brush, ax, ay, bx, by, v);
-            finish(indices, w, h, scratch, room)
+            finish(indices, w, rows, scratch, room)
         }
         Stage::Refused(n) => Counted::Refused(n),
     }
@@ -368,9 +374,10 @@ pub fn rectangle_in(
     match stage(w, h, k, palette, lab, indices, no, area, scratch.len()) {
         Stage::Canvas(s) => {
             let v = bits_of(index) as u64;
-            lay(indices, scratch);
+            let rows = rectangle_rows(s, ay, by);
+            lay_rows(indices, w, rows.start, rows.count, scratch);
             paint_rectangle(scratch, w, s, ax, ay, bx, by, filled, v);
-            finish(indices, w, h, scratch, room)
+            finish(indices, w, rows, scratch, room)
         }
         Stage::Refused(n) => Counted::Refused(n),
     }

@@ -1,8 +1,9 @@
 // The drawing tools of tools.rs: `pencil`, `eraser`, `line`, `rectangle`. Each makes the list of changes that
 // paints one index at its points, as far as the selection has them; no sheet is changed.
 //
-// The picture is laid out in the scratch and painted there, clipped to the selection first; then the places that
-// differ are the changes. So the raw list of the Rust, which may be far longer than the sheet, is never made.
+// The rows that the points can reach are laid out in the scratch and painted there, clipped to the selection first;
+// then the places of these rows that differ are the changes. So the raw list of the Rust, which may be far longer
+// than the sheet, is never made, and what a tool cannot touch costs nothing but the checks.
 mod calls;
 
 pub use calls::eraser;

@@ -55,7 +55,7 @@ offset-is a b m j = by (halfway m (side a b) j) refl (ltZ a b)
     by true e false = refl
     by false e false = refl
 
-half-few : (a b : ℤ) (m : ℕ) → half a b m ≤ m
+pub half-few : (a b : ℤ) (m : ℕ) → half a b m ≤ m
 unfolding half
 half-few a b m = by (ltZ a b)
   where

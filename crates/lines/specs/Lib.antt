@@ -1,3 +1,4 @@
 pub mod Line
 pub mod Walk
+pub mod Within
 pub mod Brush

@@ -1,25 +1,31 @@
 -- What the list of `move_selection` paints: the selection cleared, then the block that lands. Assumes nothing.
-use Prim.Native.Nat.{ℕ, _+_, _≤_}
+use Prim.Native.Nat.{ℕ, _+_, _-_, _≤_, min, max}
 use mathlib.Core.Path.{_≡_, refl, sym, ap, _∙_}
 use mathlib.Core.List.{List, [], _∷_, _++_, map, flatMap}
 use native.Mathlib.Omega.{arith}
+use mathlib.Core.Bool.{false}
 use lib.IntN.{ℤ, negsuc}
 use lib.ListN.{length}
+use Rattle.ints.specs.Ints.{far}
 use Rattle.lists.specs.Lists.{range, All}
 use Rattle.lists.proofs.Each.{all-append}
+use Rattle.spans.specs.declared.Span.{Span}
 use Rattle.spans.specs.Positions.{Position, position}
 use Rattle.selection.specs.declared.Selection.{Selection}
 use Rattle.selection.specs.Selection.{positions}
 use Rattle.edits.specs.Change.{Change, place, painted, newOf, packed}
 use Rattle.changes.specs.Fronts.{Front}
-use Rattle.changes.specs.Between.{between, laidOut}
+use Rattle.changes.specs.Between.{laidOut, rowsOf, betweenRows, HasRows}
+use Rattle.changes.proofs.Parts.{InRows, has-rows}
 use Rattle.normal.specs.Normal.{normalizeOf}
 use Rattle.normal.proofs.Pictures.{painted-append}
-use Rattle.blocks.specs.Blocks.{block, Rows, Lands, indexIn, landed}
+use Rattle.blocks.specs.declared.Landing.{Landing}
+use Rattle.blocks.specs.Blocks.{block, landing, Lying, Includes, Rows, Lands, indexIn, landed}
 use Rattle.blocks.proofs.Collected.{map-collected, by-rows, all-range}
+use Rattle.blocks.proofs.Landings.{offsetOf, axis-side, lying-included, lying-ends}
 use Rattle.blocks.proofs.Painting.{block-painted}
-use Rattle.blocks.proofs.Placing.{Good, good-at, good-landed, good-between, row-in}
-use Rattle.moves.specs.Moves.{Movable, cleared, moveChanges}
+use Rattle.blocks.proofs.Placing.{Good, good-at, landed-in, good-landed, good-between, row-in}
+use Rattle.moves.specs.Moves.{Movable, MoveRows, cleared, moveChanges}
 
 -- ---- the selection that is cleared
 module _ (w h : ℕ) (l : List ℤ) (s : Selection) where
@@ -43,9 +49,40 @@ module _ (w h : ℕ) (l : List ℤ) (s : Selection) where
       rw cleared-rows
       (all-range (Good w h l) _ (s .y) (s .h) (λ y p q. all-range (Good w h l) _ (s .x) (s .w) (λ x r t. (good-at w h l x y (negsuc 0) (omega arith) (omega arith), tt))))
 
+  -- in rows that include the selection's
+  cleared-in : (rows : Span) → s .x + s .w ≤ w → rows .start ≤ s .y → s .y + s .h ≤ rows .start + rows .count
+      → All (InRows w (rows .start) (rows .count)) (cleared w l (positions s))
+  unfolding All
+  cleared-in rows a b c =
+      let In : Change → Type 0 = InRows w (rows .start) (rows .count) in
+      rw cleared-rows
+      (all-range In _ (s .y) (s .h) (λ y p q. all-range In _ (s .x) (s .w) (λ x r t. (record { column = omega arith; from = omega arith; below = omega arith }, tt))))
+
   pub good-move : (dx dy : ℤ) → s .x + s .w ≤ w → s .y + s .h ≤ h → All (Good w h l) (moveChanges w h l s dx dy)
   unfolding moveChanges
   good-move dx dy a b = all-append (Good w h l) (cleared w l (positions s)) _ (good-cleared a b) (good-landed w h l w l dx dy (positions s))
+
+-- ---- the rows that a move can change, as `move_rows` finds them
+module _ {h : ℕ} (s : Selection) (dy : ℤ) (near : far dy ≡ false) (below : s .y + s .h ≤ h)
+    {y : Landing} (p : y ≡ landing (s .y) (s .h) (offsetOf dy) h) {to : Span} (q : Lying y (s .y) to) where
+  pub move-ends : to .start + to .count ≤ h
+  move-ends = lying-ends q (omega arith) (λ k. rw p (axis-side (s .y) (s .h) dy h near (rw p at k)))
+
+  pub move-hull : {first end : ℕ} → first ≡ min (s .y) (to .start) → end ≡ max (s .y + s .h) (to .start + to .count)
+      → MoveRows h s (landing (s .y) (s .h) (offsetOf dy) h) (record { start = first; count = end - first })
+  move-hull {first} {end} e f =
+      let ends = move-ends in
+      rw (← p) (hull (lying-included q) (omega arith) (omega arith) (omega arith) (omega arith) (omega arith))
+    where
+      hull : {first end : ℕ} → Includes to y → first ≤ s .y → first ≤ to .start → s .y + s .h ≤ end → to .start + to .count ≤ end → end ≤ h
+          → MoveRows h s y (record { start = first; count = end - first })
+      hull i a b c d g =
+          record {
+            ends = omega arith;
+            top = a;
+            bottom = omega arith;
+            lands = record { from = λ k. (let x = i .from k in omega arith); upto = λ k. (let x = i .upto k in omega arith) };
+          }
 
 -- ---- as `list_move` meets them
 module _ {w h : ℕ} {l : List ℤ} {s : Selection} {dx dy : ℤ} {room : ℕ} (m : Movable w h l s dx dy room) where
@@ -66,17 +103,34 @@ module _ {w h : ℕ} {l : List ℤ} {s : Selection} {dx dy : ℤ} {room : ℕ} (
   pub lands-again : {room′ : ℕ} → room′ ≡ room → Lands w h w s dx dy (length l) room′
   lands-again e = rw e (m .lands)
 
-  -- laid out, cleared, painted: what differs is the move's normal form
-  pub move-front : (s₁ s₂ s₃ : List ℕ) {s₄ : List ℕ} {r : ℕ} → laidOut (length l) s₁ ≡ l → ((p : ℕ) → laidOut p s₂ ≡ block (λ j i. negsuc 0) w (s .x) (s .y) (s .w) (s .h) (laidOut p s₁))
-      → ((p : ℕ) (k : List ℤ) → laidOut p s₃ ≡ painted newOf w (landed w h k w l dx dy (positions s)) (laidOut p s₂))
-      → Front (map packed (between w l (laidOut (length l) s₃))) s₄ r → Front (map packed (normalizeOf (moveChanges w h l s dx dy))) s₄ r
-  unfolding moveChanges
-  move-front s₁ s₂ s₃ a b c f =
-      let n = m .lands in
-      let cs : List Change = cleared w l (positions s) in
-      let ds : List Change = landed w h l w l dx dy (positions s) in
-      let e : laidOut (length l) s₃ ≡ painted newOf w (cs ++ ds) l =
-      c (length l) l ∙ ap (painted newOf w ds) (b (length l) ∙ ap (block (λ j i. negsuc 0) w (s .x) (s .y) (s .w) (s .h)) a ∙ sym (cleared-block w h l s l)) ∙ sym (painted-append w cs ds l) in
-      let k : between w l (laidOut (length l) s₃) ≡ normalizeOf (cs ++ ds) =
-      ap (between w l) e ∙ sym (good-between w h l (let z = n .wide in omega arith) (m .size) (cs ++ ds) (good-move w h l s dx dy (n .right) (m .below))) in
-      rw k at f
+  -- the rows that a move can change
+  module _ {rows : Span} (q : MoveRows h s (landing (s .y) (s .h) (offsetOf dy) h) rows) where
+    pub move-has-rows : {room′ : ℕ} → room′ ≡ room → HasRows w (rows .start) (rows .count) (length l) room′
+    move-has-rows e =
+        let n = m .lands in
+        let d = n .roomy in
+        let size = m .size in
+        rw e (has-rows (n .wide) (n .high) (q .ends) size (omega arith))
+
+    -- laid out, cleared, painted: what differs is the move's normal form
+    pub move-front : (s₁ s₂ s₃ : List ℕ) {s₄ : List ℕ} {r : ℕ}
+        → rowsOf w (rows .start) (rows .count) (laidOut (length l) s₁) ≡ rowsOf w (rows .start) (rows .count) l
+        → ((p : ℕ) → laidOut p s₂ ≡ block (λ j i. negsuc 0) w (s .x) (s .y) (s .w) (s .h) (laidOut p s₁))
+        → ((p : ℕ) (k : List ℤ) → laidOut p s₃ ≡ painted newOf w (landed w h k w l dx dy (positions s)) (laidOut p s₂))
+        → Front (map packed (betweenRows w (rows .start) (rows .count) l (laidOut (length l) s₃))) s₄ r
+        → Front (map packed (normalizeOf (moveChanges w h l s dx dy))) s₄ r
+    unfolding moveChanges
+    move-front s₁ s₂ s₃ a b c f =
+        let n = m .lands in
+        let laid : List ℤ = laidOut (length l) s₁ in
+        let cs : List Change = cleared w l (positions s) in
+        let ds : List Change = landed w h l w l dx dy (positions s) in
+        let e : laidOut (length l) s₃ ≡ painted newOf w (cs ++ ds) laid =
+        c (length l) l ∙ ap (painted newOf w ds) (b (length l) ∙ sym (cleared-block w h l s laid)) ∙ sym (painted-append w cs ds laid) in
+        let inside : All (InRows w (rows .start) (rows .count)) (cs ++ ds) =
+        all-append (InRows w (rows .start) (rows .count)) cs ds (cleared-in w h l s rows (n .right) (q .top) (q .bottom))
+        (landed-in w h w s dx dy (length l) room n l l rows (q .lands)) in
+        let k : betweenRows w (rows .start) (rows .count) l (laidOut (length l) s₃) ≡ normalizeOf (cs ++ ds) =
+        ap (betweenRows w (rows .start) (rows .count) l) e
+        ∙ good-between w h l (let z = n .wide in omega arith) (m .size) (cs ++ ds) (good-move w h l s dx dy (n .right) (m .below)) (rows .start) (rows .count) inside laid a in
+        rw k at f

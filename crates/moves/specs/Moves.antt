@@ -11,6 +11,7 @@ use Rattle.limits.specs.Checks.{Check, _when_}
 use Rattle.ints.specs.Ints.{eqZ}
 use Rattle.sheet.specs.Sheet.{Sheet}
 use Rattle.sheet.specs.Checks.{sheetChecks}
+use Rattle.spans.specs.declared.Span.{Span}
 use Rattle.spans.specs.Positions.{Position}
 use Rattle.selection.specs.declared.Selection.{Selection}
 use Rattle.selection.specs.declared.Chosen.{Chosen}
@@ -19,7 +20,8 @@ use Rattle.selection.specs.Selection.{positions, translated}
 use Rattle.selection.specs.Calls.{shiftChecks}
 use Rattle.edits.specs.Change.{Change}
 use Rattle.normal.specs.Normal.{normalizeOf}
-use Rattle.blocks.specs.Blocks.{Lands, indexIn, landed}
+use Rattle.blocks.specs.declared.Landing.{Landing}
+use Rattle.blocks.specs.Blocks.{Includes, Lands, indexIn, landed}
 use Rattle.pasting.specs.Pasting.{Left, leaves}
 
 -- "transparency where they were", of each position of the selection
@@ -55,3 +57,10 @@ pub record Movable (w h : ℕ) (l : List ℤ) (s : Selection) (dx dy : ℤ) (roo
   pub size : length l ≡ w * h
   pub below : s .y + s .h ≤ h
   pub lands : Lands w h w s dx dy (length l) room
+
+-- rows of a sheet of h rows that include a selection's and those that it lands on
+pub record MoveRows (h : ℕ) (s : Selection) (y : Landing) (rows : Span) : Type 0 where
+  pub ends : rows .start + rows .count ≤ h
+  pub top : rows .start ≤ s .y
+  pub bottom : s .y + s .h ≤ rows .start + rows .count
+  pub lands : Includes rows y

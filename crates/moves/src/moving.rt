@@ -1,20 +1,29 @@
 // `move_selection`.
 use blocks::clear_rows;
 use blocks::land;
+use blocks::landed_rows;
+use blocks::landing_on;
 use changes::copy_out;
 use changes::counted;
 use changes::differences;
-use changes::lay;
+use changes::lay_rows;
+use ints::min_usize;
 use limits::NO_SPACE;
+use lines::max_usize;
 use pasting::Shifted;
 use pasting::shifted_count;
 use pasting::shifted_of;
 use selection::Chosen;
 use selection::Selection;
 use sheet::check;
+use spans::Span;
 ghost use mathlib.Core.Path.{_≡_};
+ghost use mathlib.Core.Bool.{false};
 ghost use mathlib.Core.List.{map};
+ghost use Prim.Native.Nat.{_+_, _≤_};
+ghost use lib.IntN.{pos, _+ℤ_};
 ghost use lib.ListN.{length};
+ghost use Rattle.ints.specs.Ints.{far, fromZero};
 ghost use Rattle.limits.specs.Checks.{firstOf};
 ghost use Rattle.sheet.specs.Sheet.{sheetOf};
 ghost use Rattle.selection.specs.Calls.{shiftChecks};
@@ -22,8 +31,9 @@ ghost use Rattle.edits.specs.Change.{packed};
 ghost use Rattle.changes.specs.Fronts.{Front};
 ghost use Rattle.changes.specs.Listed.{InScratch};
 ghost use Rattle.normal.specs.Normal.{normalizeOf};
+ghost use Rattle.blocks.specs.Blocks.{landing};
 ghost use Rattle.pasting.specs.Pasting.{left, shiftedCount};
-ghost use Rattle.moves.specs.Moves.{Movable, unmoved, moveChanges, movedList, movedSelection, moveChecks, moveCall};
+ghost use Rattle.moves.specs.Moves.{Movable, MoveRows, unmoved, moveChanges, movedList, movedSelection, moveChecks, moveCall};
 
 // Shift 0.
 fn is_unmoved(dx: i32, dy: i32) -> bool
@@ -72,6 +82,22 @@ fn move_no(
     0
 }
 
+// The rows that a move can change: from the first to the last of the selection's and of those that it lands on.
+fn move_rows(s: Selection, dy: i32, h: usize) -> Span
+    requires { ⌜ (far dy ≡ false) × (s .y + s .h ≤ h) ⌝ }
+    ensures { λ r. ⌜ MoveRows h s (landing (s .y) (s .h) (fromZero (dy +ℤ pos 65536)) h) r ⌝ }
+{
+    let top = s.y as usize;
+    let rows = s.h as usize;
+    let to = landed_rows(landing_on(top, rows, dy, h), top);
+    let first = min_usize(top, to.start);
+    let end = max_usize(top + rows, to.start + to.count);
+    Span {
+        start: first,
+        count: end - first,
+    }
+}
+
 // The changes of a move at the front of the scratch; answers how many they are. The selection is cleared first,
 // then painted where it lands; `indices` keeps the picture as it was.
 fn list_move(
@@ -86,7 +112,8 @@ fn list_move(
     requires { ⌜ Movable w h (now indices) s dx dy (length (now scratch)) ⌝ }
     ensures { λ r. ⌜ Front (map packed (normalizeOf (moveChanges w h (now (indices .entry)) s dx dy))) (now (scratch .exit)) r ⌝ }
 {
-    lay(indices, scratch);
+    let rows = move_rows(s, dy, h);
+    lay_rows(indices, w, rows.start, rows.count, scratch);
     clear_rows(
         scratch,
         w,
@@ -96,7 +123,7 @@ fn list_move(
         s.h as usize,
     );
     land(indices, w, s, dx, dy, w, h, scratch);
-    differences(indices, w, h, scratch)
+    differences(indices, w, rows.start, rows.count, scratch)
 }
 
 // The same, and none where the shift is 0.

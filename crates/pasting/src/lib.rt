@@ -1,11 +1,12 @@
 // `paste` of tools.rs, which the crate moves offers: a clip put on the sheet.
 use blocks::Landing;
 use blocks::land;
+use blocks::landed_rows;
 use blocks::landing_on;
 use changes::copy_out;
 use changes::counted;
 use changes::differences;
-use changes::lay;
+use changes::lay_rows;
 use ints::is_far;
 use limits::BAD_CLIP;
 use limits::Counted;
@@ -109,7 +110,8 @@ fn paste_no(
     clip_no(clip_w, clip_h, clip, x, y, room, indices.len())
 }
 
-// The changes of a paste at the front of the scratch; answers how many they are.
+// The changes of a paste at the front of the scratch; answers how many they are. The rows that the clip lands on are
+// laid out and compared.
 fn list_paste(
     w: usize,
     h: usize,
@@ -124,7 +126,8 @@ fn list_paste(
     requires { ⌜ Pastable w h (now indices) «clip_w» «clip_h» x y (length (now clip)) (length (now scratch)) ⌝ }
     ensures { λ r. ⌜ Front (map packed (normalizeOf (pasteChanges w h (now (indices .entry)) «clip_w» «clip_h» (now (clip .entry)) x y))) (now (scratch .exit)) r ⌝ }
 {
-    lay(indices, scratch);
+    let rows = landed_rows(landing_on(0, clip_h, y, h), 0);
+    lay_rows(indices, w, rows.start, rows.count, scratch);
     let s = Selection {
         x: 0,
         y: 0,
@@ -132,7 +135,7 @@ fn list_paste(
         h: clip_h as u16,
     };
     land(clip, clip_w, s, x, y, w, h, scratch);
-    differences(indices, w, h, scratch)
+    differences(indices, w, rows.start, rows.count, scratch)
 }
 
 // The rectangle that lands, or nothing.

@@ -1,7 +1,7 @@
 -- `differences`: what stands there and the rows below give the whole. Assumes nothing.
 use Prim.Native.Nat.{_-_, _+_, _*_, _≤_}
-use native.Mathlib.Nat.{mul-le-mul}
 use native.Mathlib.Omega.{arith}
+use native.Mathlib.Nat.{mul-le-mul}
 use lib.ListN.{length}
 use Rattle.changes.proofs.Rows.{Listing, row-inside, listing-start, listing-fits, listing-next, listing-end}
 use borrow.Author.Needs.{needs}
@@ -9,29 +9,36 @@ use Rattle.changes.proofs.between.differences.Statement.{statement}
 use Rattle.changes.proofs.between.differences.Tie as tie
 
 abbrev Inv-loop : tie.InvT-loop
-Inv-loop indices w h scratch₀ m₀ y₀ scratch m y = Listing w h indices scratch₀ scratch m y
+Inv-loop indices w first count scratch₀ m₀ j₀ scratch m j = Listing w first count indices scratch₀ scratch m j
 
 abbrev μ-loop : tie.MeasureT-loop
-μ-loop indices w h scratch₀ m₀ y₀ scratch m y = h - y
+μ-loop indices w first count scratch₀ m₀ j₀ scratch m j = count - j
+
+-- the row is inside the picture, and its places are small numbers
+here : (c : tie.In-loop Inv-loop μ-loop) → let a = c .before .before .before .args in (a .first + c .before .loop .j) * a .w + a .w ≤ length (a .indices .now)
+here c = row-inside _ _ _ (c .before .before .before .args .indices .now) _ (c .before .before .before .pre) (c .before .loop .inv) (c .loop-test .taken)
+
+small : (c : tie.In-loop Inv-loop μ-loop) → let a = c .before .before .before .args in (a .first + c .before .loop .j) * a .w ≤ 4294967296
+small c =
+    let start = c .before .before .before .pre in
+    let few = start .few in
+    let below : c .before .before .before .args .first + c .before .loop .j ≤ 65536 = omega (arith, c .loop-test .taken) in
+    mul-le-mul below (start .narrow)
 
 loop-holds : tie.Need-loop-holds Inv-loop μ-loop
-loop-holds c = listing-start _ _ _ _
+loop-holds c = listing-start _ _ _ _ _
 
--- the row is inside the picture
-here : (c : tie.In-loop Inv-loop μ-loop) → let a = c .before .before .before .args in c .before .loop .y * a .w + a .w ≤ length (a .indices .now)
-here c = let start = c .before .before .before .pre in row-inside _ _ (c .before .before .before .args .indices .now) _ (start .2) (start .3) (c .before .loop .inv) (c .loop-test .taken)
-
-small : (c : tie.In-loop Inv-loop μ-loop) → length (c .before .before .before .args .indices .now) ≤ 4294967296
-small c = let start = c .before .before .before .pre in omega (arith, mul-le-mul (start .0) (start .1), start .2)
+add-y : tie.Need-add-y Inv-loop μ-loop
+add-y c = omega (arith, c .before .before .before .pre .few, c .loop-test .taken)
 
 mul-at : tie.Need-mul-at Inv-loop μ-loop
-mul-at c = omega (arith, here c, small c)
+mul-at c = omega (arith, small c)
 
 add-end : tie.Need-add-end Inv-loop μ-loop
-add-end c = omega (arith, here c, small c)
+add-end c = omega (arith, small c, c .before .before .before .pre .narrow)
 
 mul-row-differences : tie.Need-mul-row-differences Inv-loop μ-loop
-mul-row-differences c = omega (arith, here c, small c)
+mul-row-differences c = omega (arith, small c)
 
 sub-row-differences : tie.Need-sub-row-differences Inv-loop μ-loop
 sub-row-differences c = search needs
@@ -43,25 +50,33 @@ part-row-differences-end : tie.Need-part-row-differences-end Inv-loop μ-loop
 part-row-differences-end c = here c
 
 mul-row-differences-2 : tie.Need-mul-row-differences-2 Inv-loop μ-loop
-mul-row-differences-2 c = search needs
+mul-row-differences-2 c = omega (arith, c .before .before .before .before .pre .few, c .before .loop-test .taken)
 
 row-differences-requires : tie.Need-row-differences-requires Inv-loop μ-loop
-row-differences-requires c κs = let start = c .before .before .before .before .before .pre in listing-fits _ _ (c .before .before .before .before .before .args .indices .now) _ (start .2) (start .3) (c .before .before .before .loop .inv) (c .before .before .loop-test .taken) (start .0) (start .1)
+row-differences-requires c κs =
+    let step = c .before .before in
+    let s = step .before .before .before in
+    listing-fits _ _ _ (s .args .indices .now) _ (s .pre) (step .before .loop .inv) (step .loop-test .taken)
 
-add-y : tie.Need-add-y Inv-loop μ-loop
-add-y c = search needs
+add-j : tie.Need-add-j Inv-loop μ-loop
+add-j c = search needs
 
 loop-less : tie.Need-loop-less Inv-loop μ-loop
 loop-less c = search needs
 
 loop-again : tie.Need-loop-again Inv-loop μ-loop
-loop-again c = listing-next _ _ (c .before .before .before .before .before .before .before .before .args .indices .now) _ (c .before .before .before .before .before .before .before .before .pre .2) (c .before .before .before .before .before .before .before .before .pre .3) (c .before .before .before .before .before .before .loop .inv) (c .before .before .before .before .before .loop-test .taken) (c .before .before .row-differences .ensures .1) (c .before .before .row-differences .ensures .0) (c .before .before .row-differences .kept .1 .1 .1 .0)
+loop-again c =
+    let row = c .before .before in
+    let step = row .before .before .before in
+    let s = step .before .before .before in
+    let r = row .row-differences in
+    listing-next _ _ _ (s .args .indices .now) _ (s .pre) (step .before .loop .inv) (step .loop-test .taken) (r .ensures .1) (r .ensures .0) (r .kept .1 .1 .1 .0)
 
 same-length : tie.Need-same-length Inv-loop μ-loop
 same-length c = c .before .loop .inv .long
 
 returns : tie.Need-returns Inv-loop μ-loop
-returns c = listing-end _ _ (c .before .before .before .args .indices .now) _ (c .before .before .before .pre .2) (c .before .before .before .pre .3) (c .before .loop .inv) (c .loop-test .left)
+returns c = listing-end _ _ _ (c .before .before .before .args .indices .now) _ (c .before .before .before .pre) (c .before .loop .inv) (c .loop-test .left)
 
 pub differences-spec : {M : Type 1} → statement M
 differences-spec =
@@ -70,6 +85,7 @@ differences-spec =
     Inv-loop
     μ-loop
     loop-holds
+    add-y
     mul-at
     add-end
     mul-row-differences
@@ -78,7 +94,7 @@ differences-spec =
     part-row-differences-end
     mul-row-differences-2
     row-differences-requires
-    add-y
+    add-j
     loop-less
     loop-again
     same-length

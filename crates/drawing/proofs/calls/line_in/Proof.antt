@@ -1,4 +1,4 @@
--- `line_in`: the checks; then the picture laid out, painted and compared. Assumes nothing.
+-- `line_in`: the checks; then its rows laid out, painted and compared. Assumes nothing.
 use mathlib.Core.Path.{_≡_, sym, _∙_}
 use mathlib.Core.List.{[], _∷_}
 use native.Mathlib.Omega.{arith}
@@ -12,10 +12,12 @@ use Rattle.lines.specs.Line.{point}
 use Rattle.lines.specs.Brush.{stamped}
 use Rattle.brushes.specs.Points.{pencilOf}
 use Rattle.brushes.specs.Given.{cornerChecks}
+use Rattle.brushes.specs.Reached.{Holds}
 use Rattle.drawing.specs.Calls.{stageOf, lineCall}
-use Rattle.brushes.proofs.Stamps.{brush-clamped}
+use Rattle.brushes.proofs.Stamps.{brush-clamped, near-close}
 use Rattle.brushes.proofs.Paths.{corners-near, stamped-places}
-use Rattle.drawing.proofs.Staging.{Ready, ready, ready-fits, refused, answered}
+use Rattle.brushes.proofs.Reached.{stamped-again}
+use Rattle.drawing.proofs.Staging.{Ready, ready, ready-fits, ready-rows, refused, answered}
 use Rattle.changes.proofs.InScratch.{scratch-none, scratch-then}
 use borrow.Author.Needs.{needs}
 use Rattle.drawing.proofs.calls.line_in.Statement.{statement}
@@ -49,19 +51,40 @@ answer c = let f = c .before .before .before .before .before .fits in c .stage .
 readied : (c : tie.After-s) → let a = c .before .before .before .before .before .before .before .args in Ready (sheet (c .before .before .before .before .before .before .before)) (cornerChecks (point (a .ax) (a .ay)) (point (a .bx) (a .by))) (a .area) (length (a .scratch .now)) (c .s .given .0 .0)
 readied c = ready _ _ _ _ _ (sym (c .s .given .1) ∙ answer (c .before .before))
 
-lay-requires : tie.Need-lay-requires
-lay-requires c κs = let r = readied (c .before .before .before .before) in omega (arith, r .space, r .well .limits .indices-length)
+-- the rows that hold its points
+held : (c : tie.After-line-rows) → let a = c .before .before .before .before .before .before .before .before .before .before .before .args in
+    Holds (c .before .before .before .before .s .given .0 .0) (stamped (a .size) (point (a .ax) (a .ay) ∷ point (a .bx) (a .by) ∷ [])) (c .line-rows .result)
+held c =
+    let s = c .before .before .before .before .before .before .before .before .before .before .before in
+    let a = s .args in
+    let again = stamped-again (a .size) (point (a .ax) (a .ay) ∷ point (a .bx) (a .by) ∷ []) in
+    rw (toZ-ofZ (s .fits .ay), toZ-ofZ (s .fits .by), c .before .clamp .ensures, again) at (c .line-rows .ensures (a .ax) (a .bx))
+
+line-rows-requires : tie.Need-line-rows-requires
+line-rows-requires c κs =
+    let s = c .before .before .before .before .before .before .before .before .before .before in
+    let n = corners-near _ _ (readied (c .before .before .before) .given-none) in
+    rw (toZ-ofZ (s .fits .ay), toZ-ofZ (s .fits .by), c .clamp .ensures) (brush-clamped _, near-close _ (n .0 .down), near-close _ (n .1 .down))
+
+lay-rows-requires : tie.Need-lay-rows-requires
+lay-rows-requires c κs = ready-rows _ _ _ _ _ (readied (c .before .before .before .before .before)) (held (c .before)) _ (omega arith)
 
 paint-two-requires : tie.Need-paint-two-requires
 paint-two-requires c κs =
-    let r = readied (c .before .before .before .before .before .before .before .before) in
-    let f = c .before .before .before .before .before .before .before .before .before .before .before .before .before .before .before .fits in
+    let laid = c .before .before .before in
+    let brush = laid .before .before .before in
+    let s = brush .before .before .before .before .before .before .before .before .before .before in
+    let r = readied (brush .before .before .before) in
     let n = corners-near _ _ (r .given-none) in
-    rw (toZ-ofZ (f .ax), toZ-ofZ (f .ay), toZ-ofZ (f .bx), toZ-ofZ (f .by), c .before .before .before .before .before .clamp .ensures)
-    (ready-fits _ _ _ _ _ r _ (omega (arith, r .space, c .before .before .before .lay .kept .1 .0)), brush-clamped _, n .0, n .1)
+    rw (toZ-ofZ (s .fits .ax), toZ-ofZ (s .fits .ay), toZ-ofZ (s .fits .bx), toZ-ofZ (s .fits .by))
+    (ready-fits _ _ _ _ _ r _ (omega (arith, r .space, laid .lay-rows .kept .1 .1 .1 .1 .0)), rw (brush .clamp .ensures) (brush-clamped _), n .0, n .1)
 
 finish-requires : tie.Need-finish-requires
-finish-requires c κs = let r = readied (c .before .before .before .before .before .before .before .before .before .before .before .before) in let l = r .well .limits in let a = l .w-small in let b = l .h-small in (omega arith, omega arith, l .indices-length, omega (arith, r .space, l .indices-length, c .before .before .before .before .before .before .before .lay .kept .1 .0, c .before .before .before .paint-two .kept .0))
+finish-requires c κs =
+    let painted = c .before .before .before in
+    let laid = painted .before .before .before .before in
+    let rows = laid .before .before in
+    ready-rows _ _ _ _ _ (readied (rows .before .before .before .before)) (held rows) _ (omega (arith, laid .lay-rows .kept .1 .1 .1 .1 .0, painted .paint-two .kept .0))
 
 enum-known-n : tie.Need-enum-known-n
 enum-known-n c = search needs
@@ -72,15 +95,21 @@ same-length c = search needs
 returns : tie.Need-returns
 unfolding lineCall pencilOf
 returns c =
-    let s = c .before .before .before .before .before .before .before .before .before .before .before .before .before .before .before .before .before .before .before .before .before .before in
+    let end = c .before .before in
+    let painted = end .before .before .before .before in
+    let laid = painted .before .before .before .before in
+    let rows = laid .before .before in
+    let brush = rows .before in
+    let on = rows .before .before .before .before in
+    let s = rows .before .before .before .before .before .before .before .before .before .before .before in
     let a = s .args in
     let f = s .fits in
-    let bits = by-value (ofZ w16) (f .index) (c .before .before .before .before .before .before .before .before .before .before .before .before .before .bits-of .ensures) in
-    let ps = point (a .ax) (a .ay) ∷ point (a .bx) (a .by) ∷ [] in
-    let painted = rw (toZ-ofZ (f .ax), toZ-ofZ (f .ay), toZ-ofZ (f .bx), toZ-ofZ (f .by), bits, c .before .before .before .before .before .before .before .before .before .before .before .before .clamp .ensures) at (c .before .before .before .before .before .before .paint-two .ensures) in
-    let region = c .before .before .before .before .before .before .before .before .before .before .before .before .before .before .before .s .given .0 .0 in (
-      scratch-then (c .before .before .finish .ensures) (λ out after e d. answered _ _ _ _ _ (readied (c .before .before .before .before .before .before .before .before .before .before .before .before .before .before .before)) (stamped (a .size) ps) (a .index) _ _ _ out after (f .index) (c .before .before .before .before .before .before .before .before .before .before .lay .ensures .1) (rw (stamped-places region (a .w) (a .size) ps) at painted) d),
-      c .before .before .finish .kept .1 .1 .1 .0 ∙ c .before .before .before .before .before .before .paint-two .kept .0 ∙ c .before .before .before .before .before .before .before .before .before .before .lay .kept .1 .0,
+    let bits = by-value (ofZ w16) (f .index) (brush .before .bits-of .ensures) in
+    let is = rw (toZ-ofZ (f .ax), toZ-ofZ (f .ay), toZ-ofZ (f .bx), toZ-ofZ (f .by), bits, brush .clamp .ensures) at (painted .paint-two .ensures) in
+    let places = stamped-places (on .s .given .0 .0) (a .w) (a .size) (point (a .ax) (a .ay) ∷ point (a .bx) (a .by) ∷ []) in (
+      scratch-then (end .finish .ensures)
+          (λ out after e d. answered _ _ _ _ _ (readied on) (held rows) (a .index) _ _ _ out after (f .index) (laid .lay-rows .ensures) (rw places at is) d),
+      end .finish .kept .1 .1 .1 .0 ∙ painted .paint-two .kept .0 ∙ laid .lay-rows .kept .1 .1 .1 .1 .0,
     )
 
 returns-2 : tie.Need-returns-2
@@ -97,7 +126,8 @@ line-in-spec =
     bits-of-requires
     cast-v
     clamp-requires
-    lay-requires
+    line-rows-requires
+    lay-rows-requires
     paint-two-requires
     finish-requires
     enum-known-n

@@ -1,4 +1,4 @@
--- `pencil_in`: the checks; then the picture laid out, painted and compared. Assumes nothing.
+-- `pencil_in`: the checks; then its rows laid out, painted and compared. Assumes nothing.
 use mathlib.Core.Path.{_≡_, sym, _∙_}
 use mathlib.Core.Bool.{not}
 use native.Mathlib.Omega.{arith}
@@ -14,10 +14,12 @@ use Rattle.sheet.specs.Sheet.{Sheet, sheetOf}
 use Rattle.lines.specs.Brush.{stamped}
 use Rattle.brushes.specs.Points.{pencilOf}
 use Rattle.brushes.specs.Given.{pointsOf, pointChecks}
+use Rattle.brushes.specs.Reached.{Holds}
 use Rattle.drawing.specs.Calls.{stageOf, pencilCall}
 use Rattle.brushes.proofs.Stamps.{brush-clamped}
 use Rattle.brushes.proofs.Paths.{points-near, stamped-places}
-use Rattle.drawing.proofs.Staging.{Ready, ready, ready-fits, refused, answered, listed-first, listed-skip}
+use Rattle.brushes.proofs.Reached.{stamped-again}
+use Rattle.drawing.proofs.Staging.{Ready, ready, ready-fits, ready-rows, refused, answered, listed-first, listed-skip}
 use Rattle.changes.proofs.InScratch.{scratch-none, scratch-then}
 use borrow.Author.Needs.{needs}
 use Rattle.drawing.proofs.calls.pencil_in.Statement.{statement}
@@ -55,14 +57,38 @@ answer c = c .stage .ensures _ (c .before .points-no .ensures)
 readied : (c : tie.After-s) → let a = c .before .before .before .before .before .before .before .before .args in Ready (sheet (c .before .before .before .before .before .before .before .before)) (pointChecks (a .points .now)) (a .area) (length (a .scratch .now)) (c .s .given .0 .0)
 readied c = ready _ _ _ _ _ (sym (c .s .given .1) ∙ answer (c .before .before))
 
-lay-requires : tie.Need-lay-requires
-lay-requires c κs = let r = readied (c .before .before .before .before) in omega (arith, r .space, r .well .limits .indices-length)
+-- the rows that hold its points
+held : (c : tie.After-path-rows) → let a = c .before .before .before .before .before .before .before .before .before .before .before .before .args in
+    Holds (c .before .before .before .before .s .given .0 .0) (stamped (a .size) (pointsOf (a .points .now))) (c .path-rows .result)
+held c =
+    let a = c .before .before .before .before .before .before .before .before .before .before .before .before .args in
+    rw (c .before .clamp .ensures, stamped-again (a .size) (pointsOf (a .points .now))) at (c .path-rows .ensures)
+
+path-rows-requires : tie.Need-path-rows-requires
+path-rows-requires c κs =
+    (rw (c .clamp .ensures) (brush-clamped _), points-near _ (c .before .before .before .before .before .before .before .if1 .left) (readied (c .before .before .before) .given-none))
+
+lay-rows-requires : tie.Need-lay-rows-requires
+lay-rows-requires c κs = ready-rows _ _ _ _ _ (readied (c .before .before .before .before .before)) (held (c .before)) _ (omega arith)
 
 paint-path-requires : tie.Need-paint-path-requires
-paint-path-requires c κs = let r = readied (c .before .before .before .before .before .before .before .before) in let e = c .before .before .before .before .before .before .before .before .before .before .before .before .if1 .left in (ready-fits _ _ _ _ _ r _ (omega (arith, r .space, c .before .before .before .lay .kept .1 .0)), rw (c .before .before .before .before .before .clamp .ensures) (brush-clamped _), points-near _ e (r .given-none), e)
+paint-path-requires c κs =
+    let laid = c .before .before .before in
+    let brush = laid .before .before .before in
+    let even = brush .before .before .before .before .before .before .before .if1 .left in
+    let r = readied (brush .before .before .before) in (
+      ready-fits _ _ _ _ _ r _ (omega (arith, r .space, laid .lay-rows .kept .1 .1 .1 .1 .0)),
+      rw (brush .clamp .ensures) (brush-clamped _),
+      points-near _ even (r .given-none),
+      even,
+    )
 
 finish-requires : tie.Need-finish-requires
-finish-requires c κs = let r = readied (c .before .before .before .before .before .before .before .before .before .before .before .before) in let l = r .well .limits in let a = l .w-small in let b = l .h-small in (omega arith, omega arith, l .indices-length, omega (arith, r .space, l .indices-length, c .before .before .before .before .before .before .before .lay .kept .1 .0, c .before .before .before .paint-path .kept .1 .0))
+finish-requires c κs =
+    let painted = c .before .before .before in
+    let laid = painted .before .before .before .before in
+    let rows = laid .before .before in
+    ready-rows _ _ _ _ _ (readied (rows .before .before .before .before)) (held rows) _ (omega (arith, laid .lay-rows .kept .1 .1 .1 .1 .0, painted .paint-path .kept .1 .0))
 
 enum-known-n : tie.Need-enum-known-n
 enum-known-n c = search needs
@@ -73,14 +99,21 @@ same-length c = search needs
 returns-2 : tie.Need-returns-2
 unfolding pencilCall pencilOf
 returns-2 c =
-    let s = c .before .before .before .before .before .before .before .before .before .before .before .before .before .before .before .before .before .before .before .before .before .before .before in
+    let end = c .before .before in
+    let painted = end .before .before .before .before in
+    let laid = painted .before .before .before .before in
+    let rows = laid .before .before in
+    let brush = rows .before in
+    let on = rows .before .before .before .before in
+    let s = rows .before .before .before .before .before .before .before .before .before .before .before .before in
     let a = s .args in
-    let ps = pointsOf (a .points .now) in
-    let painted = rw (by-value (ofZ w16) (s .fits .index) (c .before .before .before .before .before .before .before .before .before .before .before .before .before .bits-of .ensures), c .before .before .before .before .before .before .before .before .before .before .before .before .clamp .ensures) at (c .before .before .before .before .before .before .paint-path .ensures) in
-    let region = c .before .before .before .before .before .before .before .before .before .before .before .before .before .before .before .s .given .0 .0 in (
-      scratch-then (c .before .before .finish .ensures) (λ out after e d. answered _ _ _ _ _ (readied (c .before .before .before .before .before .before .before .before .before .before .before .before .before .before .before)) (stamped (a .size) ps) (a .index) _ _ _ out after (s .fits .index) (c .before .before .before .before .before .before .before .before .before .before .lay .ensures .1) (rw (stamped-places region (a .w) (a .size) ps) at painted) d
-          ∙ listed-skip (1 when not (eqb (length (a .points .now) % 2) 0)) _ _ out (rw (eq-eqb _ 0 (c .before .before .before .before .before .before .before .before .before .before .before .before .before .before .before .before .before .before .before .if1 .left)))),
-      c .before .before .finish .kept .1 .1 .1 .0 ∙ c .before .before .before .before .before .before .paint-path .kept .1 .0 ∙ c .before .before .before .before .before .before .before .before .before .before .lay .kept .1 .0,
+    let bits = by-value (ofZ w16) (s .fits .index) (brush .before .bits-of .ensures) in
+    let is = rw (bits, brush .clamp .ensures) at (painted .paint-path .ensures) in
+    let places = stamped-places (on .s .given .0 .0) (a .w) (a .size) (pointsOf (a .points .now)) in (
+      scratch-then (end .finish .ensures)
+          (λ out after e d. answered _ _ _ _ _ (readied on) (held rows) (a .index) _ _ _ out after (s .fits .index) (laid .lay-rows .ensures) (rw places at is) d
+          ∙ listed-skip (1 when not (eqb (length (a .points .now) % 2) 0)) _ _ out (rw (eq-eqb _ 0 (brush .before .before .before .before .before .before .before .if1 .left)))),
+      end .finish .kept .1 .1 .1 .0 ∙ painted .paint-path .kept .1 .0 ∙ laid .lay-rows .kept .1 .1 .1 .1 .0,
     )
 
 returns-3 : tie.Need-returns-3
@@ -98,7 +131,8 @@ pencil-in-spec =
     bits-of-requires
     cast-v
     clamp-requires
-    lay-requires
+    path-rows-requires
+    lay-rows-requires
     paint-path-requires
     finish-requires
     enum-known-n

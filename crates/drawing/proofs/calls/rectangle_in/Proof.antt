@@ -1,4 +1,4 @@
--- `rectangle_in`: the checks; then the picture laid out, painted and compared. Assumes nothing.
+-- `rectangle_in`: the checks; then its rows laid out, painted and compared. Assumes nothing.
 use mathlib.Core.Path.{_≡_, sym, _∙_}
 use native.Mathlib.Omega.{arith}
 use lib.ListN.{length}
@@ -10,8 +10,9 @@ use Rattle.sheet.specs.Sheet.{Sheet, sheetOf}
 use Rattle.lines.specs.Line.{point}
 use Rattle.brushes.specs.Points.{rectanglePoints, rectangleOf}
 use Rattle.brushes.specs.Given.{cornerChecks}
+use Rattle.brushes.specs.Reached.{Holds}
 use Rattle.drawing.specs.Calls.{stageOf, rectangleCall}
-use Rattle.drawing.proofs.Staging.{Ready, ready, ready-fits, refused, answered}
+use Rattle.drawing.proofs.Staging.{Ready, ready, ready-fits, ready-rows, refused, answered}
 use Rattle.changes.proofs.InScratch.{scratch-none, scratch-then}
 use borrow.Author.Needs.{needs}
 use Rattle.drawing.proofs.calls.rectangle_in.Statement.{statement}
@@ -32,6 +33,9 @@ bits-of-requires c κs = search needs
 cast-v : tie.Need-cast-v
 cast-v c = search needs
 
+rectangle-rows-requires : tie.Need-rectangle-rows-requires
+rectangle-rows-requires c κs = search needs
+
 abbrev sheet : (c : tie.Start) → Sheet
 sheet c = let a = c .args in sheetOf (a .w) (a .h) (a .k) (a .palette .now) (a .lab .now) (a .indices .now)
 
@@ -42,14 +46,29 @@ answer c = let f = c .before .before .before .before .before .fits in c .stage .
 readied : (c : tie.After-s) → let a = c .before .before .before .before .before .before .before .args in Ready (sheet (c .before .before .before .before .before .before .before)) (cornerChecks (point (a .ax) (a .ay)) (point (a .bx) (a .by))) (a .area) (length (a .scratch .now)) (c .s .given .0 .0)
 readied c = ready _ _ _ _ _ (sym (c .s .given .1) ∙ answer (c .before .before))
 
-lay-requires : tie.Need-lay-requires
-lay-requires c κs = let r = readied (c .before .before .before) in omega (arith, r .space, r .well .limits .indices-length)
+-- the rows that hold its points
+held : (c : tie.After-rectangle-rows) → let a = c .before .before .before .before .before .before .before .before .before .before .args in
+    Holds (c .before .before .before .s .given .0 .0) (rectanglePoints (point (a .ax) (a .ay)) (point (a .bx) (a .by)) (a .filled)) (c .rectangle-rows .result)
+held c =
+    let s = c .before .before .before .before .before .before .before .before .before .before in
+    let a = s .args in
+    rw (toZ-ofZ (s .fits .ay), toZ-ofZ (s .fits .by)) at (c .rectangle-rows .ensures (a .ax) (a .bx) (a .filled))
+
+lay-rows-requires : tie.Need-lay-rows-requires
+lay-rows-requires c κs = ready-rows _ _ _ _ _ (readied (c .before .before .before .before)) (held (c .before)) _ (omega arith)
 
 paint-rectangle-requires : tie.Need-paint-rectangle-requires
-paint-rectangle-requires c κs = let r = readied (c .before .before .before .before .before .before .before) in ready-fits _ _ _ _ _ r _ (omega (arith, r .space, c .before .before .before .lay .kept .1 .0))
+paint-rectangle-requires c κs =
+    let laid = c .before .before .before in
+    let r = readied (laid .before .before .before .before .before) in
+    ready-fits _ _ _ _ _ r _ (omega (arith, r .space, laid .lay-rows .kept .1 .1 .1 .1 .0))
 
 finish-requires : tie.Need-finish-requires
-finish-requires c κs = let r = readied (c .before .before .before .before .before .before .before .before .before .before .before) in let l = r .well .limits in let a = l .w-small in let b = l .h-small in (omega arith, omega arith, l .indices-length, omega (arith, r .space, l .indices-length, c .before .before .before .before .before .before .before .lay .kept .1 .0, c .before .before .before .paint-rectangle .kept .0))
+finish-requires c κs =
+    let painted = c .before .before .before in
+    let laid = painted .before .before .before .before in
+    let rows = laid .before .before in
+    ready-rows _ _ _ _ _ (readied (rows .before .before .before)) (held rows) _ (omega (arith, laid .lay-rows .kept .1 .1 .1 .1 .0, painted .paint-rectangle .kept .0))
 
 enum-known-n : tie.Need-enum-known-n
 enum-known-n c = search needs
@@ -60,13 +79,19 @@ same-length c = search needs
 returns : tie.Need-returns
 unfolding rectangleCall rectangleOf
 returns c =
-    let s = c .before .before .before .before .before .before .before .before .before .before .before .before .before .before .before .before .before .before .before .before .before in
+    let end = c .before .before in
+    let painted = end .before .before .before .before in
+    let laid = painted .before .before .before .before in
+    let rows = laid .before .before in
+    let r = readied (rows .before .before .before) in
+    let s = rows .before .before .before .before .before .before .before .before .before .before in
     let a = s .args in
     let f = s .fits in
-    let bits = by-value (ofZ w16) (f .index) (c .before .before .before .before .before .before .before .before .before .before .before .before .bits-of .ensures) in
-    let painted = rw (toZ-ofZ (f .ax), toZ-ofZ (f .ay), toZ-ofZ (f .bx), toZ-ofZ (f .by), bits) at (c .before .before .before .before .before .before .paint-rectangle .ensures) in (
-      scratch-then (c .before .before .finish .ensures) (λ out after e d. answered _ _ _ _ _ (readied (c .before .before .before .before .before .before .before .before .before .before .before .before .before .before)) (rectanglePoints (point (a .ax) (a .ay)) (point (a .bx) (a .by)) (a .filled)) (a .index) _ _ _ out after (f .index) (c .before .before .before .before .before .before .before .before .before .before .lay .ensures .1) painted d),
-      c .before .before .finish .kept .1 .1 .1 .0 ∙ c .before .before .before .before .before .before .paint-rectangle .kept .0 ∙ c .before .before .before .before .before .before .before .before .before .before .lay .kept .1 .0,
+    let bits = by-value (ofZ w16) (f .index) (rows .before .bits-of .ensures) in
+    let is = rw (toZ-ofZ (f .ax), toZ-ofZ (f .ay), toZ-ofZ (f .bx), toZ-ofZ (f .by), bits) at (painted .paint-rectangle .ensures) in (
+      scratch-then (end .finish .ensures)
+          (λ out after e d. answered _ _ _ _ _ r (held rows) (a .index) _ _ _ out after (f .index) (laid .lay-rows .ensures) is d),
+      end .finish .kept .1 .1 .1 .0 ∙ painted .paint-rectangle .kept .0 ∙ laid .lay-rows .kept .1 .1 .1 .1 .0,
     )
 
 returns-2 : tie.Need-returns-2
@@ -82,7 +107,8 @@ rectangle-in-spec =
     enum-known-s
     bits-of-requires
     cast-v
-    lay-requires
+    rectangle-rows-requires
+    lay-rows-requires
     paint-rectangle-requires
     finish-requires
     enum-known-n
