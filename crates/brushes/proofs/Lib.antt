@@ -4,5 +4,7 @@ pub mod Edges
 pub mod Fitting
 pub mod Frames
 pub mod Stamps
+pub mod Touching
+pub mod Walked
 pub mod Paths
 pub mod Reached

@@ -8,7 +8,7 @@ use mir.Syntax.{w32}
 use mir.Val.{SFits, toZ, ofZ}
 use mir.Facts.{toZ-ofZ}
 use mathlib.Core.Bool.{false}
-use lib.ListN.{length, drop}
+use lib.ListN.{length}
 use Rattle.lists.specs.Lists.{range}
 use Rattle.lists.proofs.Collect.{range-next, flatMap-append, flatMap-one}
 use Rattle.ints.proofs.Sums.{abs-sum}
@@ -16,12 +16,11 @@ use Rattle.selection.specs.declared.Selection.{Selection}
 use Rattle.ints.specs.Ints.{far}
 use Rattle.ints.proofs.Back.{near-abs}
 use Rattle.lines.specs.declared.Walk.{Walk}
-use Rattle.lines.specs.Line.{Point, point, longer, pointAt, lineOf}
+use Rattle.lines.specs.Line.{Point, point, longer, pointAt}
 use Rattle.lines.specs.Walk.{standing, StandsAt}
 use Rattle.lines.proofs.Points.{stands-point, stands-small}
-use Rattle.lines.proofs.Ends.{line-after}
 use Rattle.lines.specs.Brush.{clamped, covered, stampAt}
-use Rattle.lines.proofs.Toward.{small}
+use Rattle.lines.proofs.Toward.{small, nat-back}
 use Rattle.brushes.specs.declared.Run.{Run}
 use Rattle.brushes.specs.Places.{setAll, placeAt, placesOf, clipped, boxPlaces, stampPlaces, Brush, Close}
 use Rattle.brushes.proofs.Clipping.{as-run, held, inRow, rows-held}
@@ -79,9 +78,6 @@ neg-abs : (k : ℕ) → natAbs (negℤ (pos k)) ≡ k
 neg-abs zero = refl
 neg-abs (suc k) = refl
 
-nat-back : (k : ℕ) → k ≤ 8 → toZ w32 k ≡ pos k
-nat-back k h = toZ-ofZ {w = w32} {z = pos k} (record { sfits = omega arith })
-
 module _ {n : ℕ} (b : Brush n) (z : ℤ) (c : Close z) where
   abbrev half : ℕ
   half = (n - 1) / 2
@@ -96,7 +92,7 @@ module _ {n : ℕ} (b : Brush n) (z : ℤ) (c : Close z) where
   -- the number as the code has it
   start : toZ w32 (ofZ w32 z) -ℤ toZ w32 half ≡ z -ℤ pos half
   unfolding Close
-  start = rw (toZ-ofZ (small z (omega arith)), nat-back half half-small)
+  start = rw (toZ-ofZ (small z (omega arith)), nat-back half (omega (arith, half-small)))
 
   start-fits : SFits w32 (z -ℤ pos half)
   start-fits = small (z -ℤ pos half) (omega (arith, few))
@@ -125,10 +121,6 @@ module _ (region : Selection) (w n : ℕ) (v : ℕ) (a b : Point) (s₀ : List �
     pub long : length s ≡ length s₀
     pub done : s ≡ setAll (stampPlaces region w n (map (pointAt a b) (range 1 j))) v s₀
 
-  pub lining-start : (walk : Walk) → StandsAt a b 0 walk → Lining walk s₀ 0
-  unfolding stampPlaces placesOf setAll range flatMap
-  lining-start walk f = record { stands = f; long = refl; done = refl }
-
   pub lining-next : (walk next : Walk) (s t : List ℕ) (j : ℕ) → Lining walk s j → j < longer a b
       → ((a b : Point) (j : ℕ) → StandsAt a b j walk → j < longer a b → StandsAt a b (j + 1) next)
       → t ≡ setAll (stampPlaces region w n (standing next ∷ [])) v s → length t ≡ length s → Lining next t (j + 1)
@@ -142,12 +134,6 @@ module _ (region : Selection) (w n : ℕ) (v : ℕ) (a b : Point) (s₀ : List �
         done = e ∙ ap (λ (q : Point). setAll (stampPlaces region w n (q ∷ [])) v s) here ∙ ap (setAll (stampPlaces region w n (pointAt a b (1 + j) ∷ [])) v) (l .done)
             ∙ sym (paint-append region w n v (map (pointAt a b) (range 1 j)) (pointAt a b (1 + j) ∷ []) s₀) ∙ ap (λ (ps : List Point). setAll (stampPlaces region w n ps) v s₀) (sym path);
       }
-
-  pub lining-end : (walk : Walk) (s : List ℕ) (j : ℕ) → Lining walk s j → longer a b ≤ j → s ≡ setAll (stampPlaces region w n (drop 1 (lineOf a b))) v s₀
-  lining-end walk s j l h =
-      let low = l .stands .low in
-      let e : j ≡ longer a b = omega arith in
-      l .done ∙ ap (λ (k : ℕ). setAll (stampPlaces region w n (map (pointAt a b) (range 1 k))) v s₀) e ∙ ap (λ (ps : List Point). setAll (stampPlaces region w n ps) v s₀) (sym (line-after a b))
 
 pub record Standing (walk : Walk) : Type 0 where
   pub across : Close (walk .x .at)

@@ -1,4 +1,5 @@
 pub mod Points
 pub mod Places
 pub mod Reached
+pub mod Touching
 pub mod Given

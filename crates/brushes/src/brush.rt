@@ -2,7 +2,8 @@
 use crate::Run;
 use crate::paint::clip;
 use crate::paint::paint_box;
-use lines::begin;
+use crate::touch::touched_steps;
+use lines::stand_at;
 use lines::step;
 use selection::Selection;
 ghost use mathlib.Core.Path.{_≡_};
@@ -54,7 +55,8 @@ fn paint_stamp(scratch: &mut [u64], w: usize, region: Selection, n: usize, x: i3
     paint_box(scratch, w, across, down, v);
 }
 
-// The brush at each point of the line from a to b but the first.
+// The brush at each point of the line from a to b but the first. Only the steps at which it touches the region are
+// walked, so a line costs what it paints, however far its ends are.
 fn paint_line(
     scratch: &mut [u64],
     w: usize,
@@ -69,9 +71,14 @@ fn paint_line(
     requires { ⌜ Fits w (length (now scratch)) region × Brush n × Near (point ax ay) × Near (point bx by) ⌝ }
     ensures { λ _. ⌜ now (scratch .exit) ≡ setAll (stampPlaces region w n (drop 1 (lineOf (point ax ay) (point bx by)))) v (now (scratch .entry)) ⌝ }
 {
-    let mut walk = begin(ax, ay, bx, by);
-    let steps = walk.steps;
-    for j in 0..steps {
+    let steps = touched_steps(region, n, ax, ay, bx, by);
+    let first = steps.first;
+    let end = steps.end;
+    if end <= first {
+        return;
+    }
+    let mut walk = stand_at(ax, ay, bx, by, first - 1);
+    for j in first..end {
         walk = step(walk);
         paint_stamp(scratch, w, region, n, walk.x.at, walk.y.at, v);
     }

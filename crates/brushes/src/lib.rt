@@ -3,6 +3,7 @@ mod brush;
 mod frame;
 mod paint;
 mod rows;
+mod touch;
 
 pub use brush::clamp;
 pub use brush::paint_path;

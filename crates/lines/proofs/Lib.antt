@@ -2,6 +2,8 @@ pub mod Offsets
 pub mod Toward
 pub mod Walks
 pub mod Points
+pub mod Order
+pub mod Reaching
 pub mod Ends
 pub mod Within
 pub mod Alike

@@ -9,15 +9,15 @@ use lib.Dec.{T}
 use lib.IntN.{ℤ, pos, negsuc, natAbs, negℤ, _+ℤ_, _-ℤ_, +ℤ-idr, +ℤ-assoc, +ℤ-comm, negℤ-+ℤ, negℤ-negℤ}
 use lib.Signed.{ltZ, nonNeg}
 use mir.Syntax.{w32, w64}
-use mir.Val.{SFits, Fits}
-use mir.Facts.{fits-natAbs}
+use mir.Val.{SFits, Fits, toZ}
+use mir.Facts.{fits-natAbs, toZ-ofZ}
 use Rattle.ints.specs.Ints.{far}
 use Rattle.ints.proofs.Back.{never, near-abs}
 use Rattle.ints.proofs.Sums.{abs-sum, sum-fits}
 use Rattle.lines.specs.Line.{side, toward}
 use Rattle.lines.specs.Walk.{direction}
 
-abs-neg : (z : ℤ) → natAbs (negℤ z) ≡ natAbs z
+pub abs-neg : (z : ℤ) → natAbs (negℤ z) ≡ natAbs z
 abs-neg (pos zero) = refl
 abs-neg (pos (suc n)) = refl
 abs-neg (negsuc n) = refl
@@ -86,6 +86,15 @@ not-back (negsuc a) (negsuc b) e = le-ltb b a (omega (arith, ltb-true a b e))
 pub small : (z : ℤ) → natAbs z ≤ 2 ^ 20 → SFits w32 z
 small (pos n) h = record { sfits = omega arith }
 small (negsuc n) h = record { sfits = omega arith }
+
+pub nat-back : (k : ℕ) → k ≤ 2 ^ 20 → toZ w32 k ≡ pos k
+nat-back k h = toZ-ofZ {w = w32} {z = pos k} (record { sfits = omega arith })
+
+-- k places from a coordinate
+pub toward-fits : (a : ℤ) (k : ℕ) → far a ≡ false → k ≤ 131072 → SFits w32 (a +ℤ pos k) × SFits w32 (a -ℤ pos k)
+toward-fits a k p h =
+    let f = near-abs a p in
+    (sum-fits a (pos k) (omega arith), sum-fits a (negℤ (pos k)) (omega (arith, abs-neg (pos k))))
 
 pub direction-fits : (a b : ℤ) → SFits w32 (direction a b)
 direction-fits a b = small (direction a b) (omega (arith, direction-abs a b))

@@ -1,4 +1,5 @@
 pub mod Line
 pub mod Walk
 pub mod Within
+pub mod Steps
 pub mod Brush

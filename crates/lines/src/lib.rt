@@ -2,7 +2,11 @@
 //
 // A line goes as many steps as its longer side is long. Each axis is walked by itself: at every step its
 // side is added to what the closed form's division left, and where that makes a whole place, it moves.
+mod reach;
+
 use ints::saturating_sub;
+pub use reach::stand_at;
+pub use reach::steps_within;
 ghost use mathlib.Core.Path.{_≡_};
 ghost use mathlib.Core.Bool.{false};
 ghost use Prim.Native.Nat.{ℕ, _+_, _<_, max};
@@ -27,12 +31,18 @@ pub struct Walk {
     pub steps: usize,
 }
 
+// Steps of a line: those from `first` on and below `end`.
+pub struct Steps {
+    pub first: usize,
+    pub end: usize,
+}
+
 // At the first point of the line from a to b.
 pub fn begin(ax: i32, ay: i32, bx: i32, by: i32) -> Walk
     requires { ⌜ Near (point ax ay) × Near (point bx by) ⌝ }
     ensures { λ r. ⌜ StandsAt (point ax ay) (point bx by) 0 r ⌝ }
 {
-    let steps = max_usize(side(ax, bx), side(ay, by));
+    let steps = longer(ax, ay, bx, by);
     Walk {
         x: begin_axis(ax, bx, steps),
         y: begin_axis(ay, by, steps),
@@ -96,6 +106,14 @@ fn half(a: i32, b: i32, m: usize) -> usize
     ensures { λ r. ⌜ r ≡ half a b m ⌝ }
 {
     if a < b { saturating_sub(m, 1) } else { m }
+}
+
+// How many steps the line from a to b has: its longer side.
+pub fn longer(ax: i32, ay: i32, bx: i32, by: i32) -> usize
+    requires { ⌜ Near (point ax ay) × Near (point bx by) ⌝ }
+    ensures { λ r. ⌜ r ≡ longer (point ax ay) (point bx by) ⌝ }
+{
+    max_usize(side(ax, bx), side(ay, by))
 }
 
 // How far it is from a to b.
