@@ -10,6 +10,7 @@ mod calls;
 #[path = "../compare/lines.rs"]
 #[allow(dead_code)]
 mod lines;
+mod worst;
 
 use pixelforge::config::Config;
 use pixelforge::editor::document::{Document, Origin};
@@ -343,6 +344,9 @@ fn tiles() {
 }
 
 fn main() {
+    if std::env::args().nth(1).as_deref() == Some("worst") {
+        return worst::print();
+    }
     println!("| what                                                       |   ours ms | scan+call | ratio |      call | ratio |");
     println!("|------------------------------------------------------------|-----------|-----------|-------|-----------|-------|");
     fills();
