@@ -1,4 +1,4 @@
-//! Inputs made to be dear, beside the Rust: tiles that share a few chains of crates/chains, strokes whose points lie as
+//! Inputs made to be dear, beside the Rust: tiles that share a few chains of crates/tile_match, strokes whose points lie as
 //! far as points may, and a stroke of one dot on the largest sheet. `bench/run` prints their table after that of tools.rs;
 //! `target/bench/tools worst`, once it is built, prints it alone.
 //!
@@ -85,7 +85,7 @@ fn any_tiles(t: usize, count: usize) -> Distinct {
 }
 
 /// Tiles whose chain, of as many as there are tiles, is one of the first CHAINS. The key is that of
-/// crates/tiling/src/keys.rt: before its square, the number of a flip is a sum in which each place has a weight. So of a
+/// crates/tile_cells/src/keys.rt: before its square, the number of a flip is a sum in which each place has a weight. So of a
 /// tile drawn at random all fillings of two places are tried, an addition a flip and a try.
 fn hostile_tiles(t: usize, count: usize) -> Distinct {
     let (mut draw, mut found) = (Draw(19), Distinct::of(t));

@@ -1,4 +1,4 @@
-//! Ours: crates/exports, as `rt staticlib` compiles it. A slice is handed over as its pointer and its length.
+//! Ours: crates/c_exports, as `rt staticlib` compiles it. A slice is handed over as its pointer and its length.
 
 /// Declares a C function and a safe function over slices. A pointer goes with its own slice's length, no two slices
 /// overlap, and the functions called are proved to stay inside.
@@ -20,7 +20,7 @@ macro_rules! ours {
     (@ $name:ident $ret:ty [$($e:tt)*] [$($p:tt)*] [$($c:tt)*]) => {
         #[allow(clippy::too_many_arguments)]
         pub fn $name($($p)*) -> $ret {
-            #[link(name = "exports", kind = "static")]
+            #[link(name = "c_exports", kind = "static")]
             extern "C" {
                 fn $name($($e)*) -> $ret;
             }
@@ -29,7 +29,7 @@ macro_rules! ours {
     };
 }
 
-/// Numbers of an answer; which they are stands at each call in crates/exports.
+/// Numbers of an answer; which they are stands at each call in crates/c_exports.
 pub type R<'a> = &'a mut [usize; 5];
 pub type S<'a> = &'a [u16; 4];
 pub type State<'a> = &'a mut [usize; 6];

@@ -1,4 +1,4 @@
-//! The lines that the program `sample` must print. Its inputs are dealt from seeds, here as in crates/deals and crates/sample,
+//! The lines that the program `test_sample` must print. Its inputs are dealt from seeds, here as in crates/test_inputs and crates/test_sample,
 //! and the answers are the ones that the comparison expects: document 01's checks, and the Rust.
 
 use crate::drawn;
@@ -80,7 +80,7 @@ const NAMES: [&str; 63] = [
     "any_stray_below",
 ];
 
-// As in crates/deals.
+// As in crates/test_inputs.
 
 type Deck = [u64; 32];
 
@@ -184,7 +184,7 @@ fn line(c: usize, expected: &[u64]) {
     println!("{} {} {:016x}", NAMES[c], expected[0], print_of(expected));
 }
 
-// As in crates/sample.
+// As in crates/test_sample.
 
 /// A sheet of six pixels.
 fn sheet(d: &Deck, (w, h): (usize, usize)) -> Sheet {

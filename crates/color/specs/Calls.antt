@@ -6,15 +6,15 @@ use Prim.Native.Nat.{ℕ, _*_, _^_}
 use lib.Dec.{T, ltb, eqb}
 use lib.ListN.{length, take}
 use lib.Ieee.{Float, binary64, toBits}
-use Rattle.limits.specs.Limits.{maxEntries, storage}
-use Rattle.limits.specs.Numbers.{badSheet, unfitLab, noSuchEntry, rootRange}
-use Rattle.limits.specs.Checks.{Check, _when_, checked}
-use Rattle.limits.specs.declared.Lab.{Lab}
-use Rattle.lists.specs.Lists.{some}
-use Rattle.doubles.specs.NearestDouble.{unitsOf, NoneNearer}
-use Rattle.roots.specs.CubeRoot.{inRootRange, rootOf}
-use Rattle.doubles.specs.Finite.{unfit, unfitTriple}
-use Rattle.distances.specs.Nearest.{nearestOf, FirstNearest}
+use Rattle.base_limits.specs.Limits.{maxEntries, storage}
+use Rattle.base_limits.specs.Numbers.{badSheet, unfitLab, noSuchEntry, rootRange}
+use Rattle.base_limits.specs.Checks.{Check, _when_, checked}
+use Rattle.base_limits.specs.declared.Lab.{Lab}
+use Rattle.base_lists.specs.Lists.{some}
+use Rattle.color_doubles.specs.NearestDouble.{unitsOf, NoneNearer}
+use Rattle.color_root.specs.CubeRoot.{inRootRange, rootOf}
+use Rattle.color_doubles.specs.Finite.{unfit, unfitTriple}
+use Rattle.color_nearest.specs.Nearest.{nearestOf, FirstNearest}
 use Rattle.color.specs.declared.Root.{Root}
 use Rattle.color.specs.declared.Root.the-variants as root
 use Rattle.color.specs.declared.Found.{Found}

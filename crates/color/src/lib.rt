@@ -1,21 +1,21 @@
 // The calls of color.rs: each answers every input.
 //
 // They check what they are handed, in document 01's order, and leave the work to cielab.
-use limits::BAD_SHEET;
-use limits::Lab;
-use limits::MAX_ENTRIES;
-use limits::NO_SUCH_ENTRY;
-use limits::ROOT_RANGE;
-use limits::Rgb;
-use limits::STORAGE;
-use limits::UNFIT_LAB;
+use base_limits::BAD_SHEET;
+use base_limits::Lab;
+use base_limits::MAX_ENTRIES;
+use base_limits::NO_SUCH_ENTRY;
+use base_limits::ROOT_RANGE;
+use base_limits::Rgb;
+use base_limits::STORAGE;
+use base_limits::UNFIT_LAB;
 ghost use mathlib.Core.Path.{_≡_};
 ghost use mathlib.Core.Bool.{false};
-ghost use Rattle.lists.specs.Lists.{some};
-ghost use Rattle.cielab.specs.Curve.{Linear};
-ghost use Rattle.cielab.specs.Convert.{labOf, Converted};
-ghost use Rattle.doubles.specs.Finite.{unfit};
-ghost use Rattle.distances.specs.Nearest.{dist2Of};
+ghost use Rattle.base_lists.specs.Lists.{some};
+ghost use Rattle.color_lab.specs.Curve.{Linear};
+ghost use Rattle.color_lab.specs.Convert.{labOf, Converted};
+ghost use Rattle.color_doubles.specs.Finite.{unfit};
+ghost use Rattle.color_nearest.specs.Nearest.{dist2Of};
 ghost use Rattle.color.specs.Calls.{CubeRoot, NearestEntry};
 
 // What `cbrt` answers.
@@ -34,8 +34,8 @@ pub enum Found {
 pub fn linear(c: u8) -> f64
     ensures { λ r. ⌜ Linear c r ⌝ }
 {
-    let t = cielab::table();
-    cielab::linear_in(&t, c)
+    let t = color_lab::table();
+    color_lab::linear_in(&t, c)
 }
 
 // The cube root of t: the double nearest to the exact root. Outside 1/128..2, and for a NaN, 20.
@@ -44,7 +44,7 @@ pub fn cbrt(t: f64) -> Root
 {
     if t >= 0.0078125 {
         if t <= 2.0 {
-            return Root::Value(roots::root(t));
+            return Root::Value(color_root::root(t));
         }
     }
     Root::Refused(ROOT_RANGE)
@@ -54,15 +54,15 @@ pub fn cbrt(t: f64) -> Root
 pub fn rgb8_to_lab(rgb: Rgb) -> Lab
     ensures { λ r. ⌜ Converted r (labOf rgb) ⌝ }
 {
-    let t = cielab::table();
-    cielab::lab_in(&t, rgb)
+    let t = color_lab::table();
+    color_lab::lab_in(&t, rgb)
 }
 
 // The squared distance of two triples, as the source computes it; for numbers that are not finite too.
 pub fn dist2(p: Lab, q: Lab) -> f64
     ensures { λ r. ⌜ r ≡ dist2Of p q ⌝ }
 {
-    distances::dist2(p, q)
+    color_nearest::dist2(p, q)
 }
 
 // Whether some number of the entries is not finite. Where the sum of their distances from a target is
@@ -71,8 +71,8 @@ fn any_unfit_in(lab: &[f64], total: f64) -> bool
     requires { ⌜ (unfit total ≡ false → some unfit (now lab) ≡ false) ⌝ }
     ensures { λ r. ⌜ r ≡ some unfit (now (lab .entry)) ⌝ }
 {
-    if doubles::is_unfit(total) {
-        return doubles::any_unfit(lab);
+    if color_doubles::is_unfit(total) {
+        return color_doubles::any_unfit(lab);
     }
     false
 }
@@ -90,11 +90,11 @@ pub fn nearest_index(target: Lab, lab: &[f64], k: usize) -> Found
         return Found::Refused(BAD_SHEET);
     }
     let n = 3 * k;
-    let s = distances::search_in(target, lab, k);
+    let s = color_nearest::search_in(target, lab, k);
     if any_unfit_in(&lab[..n], s.total) {
         return Found::Refused(UNFIT_LAB);
     }
-    if doubles::unfit_triple(target) {
+    if color_doubles::unfit_triple(target) {
         return Found::Refused(UNFIT_LAB);
     }
     if k == 0 {

@@ -2,24 +2,24 @@
 use mathlib.Core.Path.{refl}
 use mathlib.Core.List.{flatMap}
 use lib.Ieee.{span, climb, odd, units, ofFields, ofBits, toBits, size}
-use Rattle.limits.specs.Checks.{firstOf, refusedOr}
-use Rattle.lists.specs.Lists as lists
-use Rattle.doubles.specs.Finite.{unfit}
-use Rattle.triples.specs.Triples.{labAt, rgbAt}
-use Rattle.ints.specs.Ints.{eqZ}
+use Rattle.base_limits.specs.Checks.{firstOf, refusedOr}
+use Rattle.base_lists.specs.Lists as lists
+use Rattle.color_doubles.specs.Finite.{unfit}
+use Rattle.base_storage.specs.Triples.{labAt, rgbAt}
+use Rattle.base_ints.specs.Ints.{eqZ}
 use Rattle.sheet.specs.Sheet.{view, stray}
 use Rattle.sheet.specs.Checks.{limitChecks, permittedChecks, indexChecks, labChecks, sheetChecks}
-use Rattle.edits.specs.Change.{unpacked, place, outside, painted, filledIn}
-use Rattle.edits.specs.Checks.{barred, pixelChecks, misdirected, remapChecks, named, leftFrom, ownChecks}
-use Rattle.edits.specs.Storage as storage
-use Rattle.edits.specs.Apply.{noPixels, filledEdit, filledChanges, redone, reverted, canRevert}
-use Rattle.records.specs.Bytes.{le, unle, leAt}
-use Rattle.records.specs.Record as record-forms
-use Rattle.recorded.specs.Sound.{undoable}
-use Rattle.ledger.specs.Handle.{clauses, sound, savedPosition}
-use Rattle.ledger.specs.Calls.{play}
-use Rattle.ledger.specs.Journal.{written, pushed, pushOf, over, undoOf, markOf}
-use Rattle.editing.specs.Editing.{tooLong, undoneBy}
+use Rattle.edit.specs.Change.{unpacked, place, outside, painted, filledIn}
+use Rattle.edit.specs.Checks.{barred, pixelChecks, misdirected, remapChecks, named, leftFrom, ownChecks}
+use Rattle.edit.specs.Storage as storage
+use Rattle.edit.specs.Apply.{noPixels, filledEdit, filledChanges, redone, reverted, canRevert}
+use Rattle.journal_record.specs.Bytes.{le, unle, leAt}
+use Rattle.journal_record.specs.Record as record-forms
+use Rattle.journal_read.specs.Sound.{undoable}
+use Rattle.history_ledger.specs.Handle.{clauses, sound, savedPosition}
+use Rattle.history_ledger.specs.Calls.{play}
+use Rattle.history_ledger.specs.Journal.{written, pushed, pushOf, over, undoOf, markOf}
+use Rattle.history_model.specs.Editing.{tooLong, undoneBy}
 use Rattle.history.specs.Examples.{Examples}
 
 pub examples : Examples

@@ -8,18 +8,18 @@ use Prim.Native.Nat.{ℕ}
 use lib.IntN.{ℤ, pos}
 use lib.Ieee.{Float, fin}
 use lib.ListN.{replicate}
-use Rattle.limits.specs.declared.Rgb.{Rgb}
-use Rattle.limits.specs.declared.Answer.the-variants.{Done, Refused}
+use Rattle.base_limits.specs.declared.Rgb.{Rgb}
+use Rattle.base_limits.specs.declared.Answer.the-variants.{Done, Refused}
 use Rattle.sheet.specs.Sheet.{Sheet, sheetOf}
-use Rattle.edits.specs.declared.Edit.{Edit}
-use Rattle.edits.specs.declared.Edit.the-variants.{Pixels, PaletteAdd, PaletteRemove}
-use Rattle.edits.specs.Change.{Change}
-use Rattle.edits.specs.Checks.{permittedOf}
-use Rattle.ledger.specs.Handle.{savedPosition}
-use Rattle.ledger.specs.Calls.{Outcome, Played, play}
-use Rattle.ledger.specs.Calls.Call.{push, undo, mark}
-use Rattle.ledger.specs.Journal.{State, opened, pushOf, undoOf, step}
-use Rattle.editing.specs.Editing.{Given, editing}
+use Rattle.edit.specs.declared.Edit.{Edit}
+use Rattle.edit.specs.declared.Edit.the-variants.{Pixels, PaletteAdd, PaletteRemove}
+use Rattle.edit.specs.Change.{Change}
+use Rattle.edit.specs.Checks.{permittedOf}
+use Rattle.history_ledger.specs.Handle.{savedPosition}
+use Rattle.history_ledger.specs.Calls.{Outcome, Played, play}
+use Rattle.history_ledger.specs.Calls.Call.{push, undo, mark}
+use Rattle.history_ledger.specs.Journal.{State, opened, pushOf, undoOf, step}
+use Rattle.history_model.specs.Editing.{Given, editing}
 
 -- a sheet of one row, its storage black; an empty journal of n bytes
 abbrev nought : Float

@@ -3,21 +3,21 @@
 // A sheet is lent as its size, its palette count and three slices; a list of changes as one number of 64 bits a
 // change. The handle and the palette count go in and come back by value.
 //
-// The crate editing's specs/Demand3.antt states what the calls do together, for every list of them: document 01's
+// The crate history_model's specs/Demand3.antt states what the calls do together, for every list of them: document 01's
 // demand 3.
 mod mark;
 mod op;
 
-pub use editing::Moved;
-pub use ledger::Handle;
-pub use ledger::NOWHERE;
-use limits::Answer;
+use base_limits::Answer;
+pub use history_ledger::Handle;
+pub use history_ledger::NOWHERE;
+pub use history_model::Moved;
+pub use history_push::push;
+pub use history_redo::redo;
+pub use history_undo::undo;
 pub use mark::fresh;
 pub use mark::mark_saved;
 pub use op::replay;
-pub use pushing::push;
-pub use stepping_back::undo;
-pub use stepping_forth::redo;
 
 // What `mark_saved` answers, and the handle that it leaves.
 pub struct Marked {

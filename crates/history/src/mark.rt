@@ -1,13 +1,13 @@
 // A history without records, and the saved mark. Neither looks at a sheet.
 use crate::Marked;
-use editing::handle_no;
-use ledger::Handle;
-use limits::Answer;
+use base_limits::Answer;
+use history_ledger::Handle;
+use history_model::handle_no;
 ghost use mathlib.Core.Path.{_≡_};
 ghost use lib.ListN.{length};
-ghost use Rattle.ledger.specs.Handle as handles;
-ghost use Rattle.ledger.specs.Journal.{markOf};
-ghost use Rattle.editing.specs.Calls.{outcomeOf};
+ghost use Rattle.history_ledger.specs.Handle as handles;
+ghost use Rattle.history_ledger.specs.Journal.{markOf};
+ghost use Rattle.history_model.specs.Calls.{outcomeOf};
 
 // The handle of a history without records, which is as it was saved.
 pub fn fresh() -> Handle

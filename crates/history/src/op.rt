@@ -1,23 +1,23 @@
 // An edit done to a sheet apart from any history, where the sheet is as the edit says that it was:
 // `replay` of op.rs.
 use crate::Replayed;
-use apply::redo_edit;
-use edits::Edit;
-use limits::Answer;
-use limits::LIST_TOO_LONG;
-use limits::MAX_CHANGES;
-use limits::NO_SPACE;
-use own_checks::own_no;
+use base_limits::Answer;
+use base_limits::LIST_TOO_LONG;
+use base_limits::MAX_CHANGES;
+use base_limits::NO_SPACE;
+use edit::Edit;
+use edit_apply::redo_edit;
+use edit_checks::own_no;
 use sheet::check;
 use sheet::permitted_no;
 ghost use mathlib.Core.Path.{_≡_};
 ghost use mathlib.Core.List.{map};
 ghost use lib.ListN.{length};
-ghost use Rattle.limits.specs.Checks.{firstOf};
+ghost use Rattle.base_limits.specs.Checks.{firstOf};
 ghost use Rattle.sheet.specs.Sheet.{sheetOf};
-ghost use Rattle.edits.specs.Change.{unpacked};
-ghost use Rattle.edits.specs.Checks.{permittedOf};
-ghost use Rattle.editing.specs.Replay.{replayChecks, replayed, replayOf};
+ghost use Rattle.edit.specs.Change.{unpacked};
+ghost use Rattle.edit.specs.Checks.{permittedOf};
+ghost use Rattle.history_model.specs.Replay.{replayChecks, replayed, replayOf};
 
 // The number of the first check that applies, or 0.
 fn replay_no(

@@ -5,10 +5,10 @@ use mathlib.Core.List.{List}
 use Prim.Native.Nat.{ℕ, _*_, _<_, _≤_}
 use borrow.Author.Tests.{le-ltb, lt-ltb}
 use lib.ListN.{length, take}
-use Rattle.limits.specs.Checks.{firstOf, refusedOr}
-use Rattle.lists.specs.Lists.{over}
+use Rattle.base_limits.specs.Checks.{firstOf, refusedOr}
+use Rattle.base_lists.specs.Lists.{over}
 use Rattle.sheet.specs.Sheet.{Sheet}
-use Rattle.edits.specs.Checks.{Permitted}
+use Rattle.edit.specs.Checks.{Permitted}
 use Rattle.palette.specs.declared.Choices.the-variants as choices
 use Rattle.palette.specs.Colours.{Opened, colourCount, usedOf, chosen, fixedChoicesOf}
 use Rattle.palette.proofs.Opening.{past-opened, refused-opened}

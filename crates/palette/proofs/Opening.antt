@@ -2,11 +2,11 @@
 use mathlib.Core.Path.{_≡_, sym, _∙_}
 use mathlib.Core.List.{List, [], _++_}
 use Prim.Native.Nat.{ℕ}
-use Rattle.limits.specs.Checks.{Check, firstOf, checked}
-use Rattle.limits.proofs.First.{first-past, first-here, refused-first}
+use Rattle.base_limits.specs.Checks.{Check, firstOf, checked}
+use Rattle.base_limits.proofs.First.{first-past, first-here, refused-first}
 use Rattle.sheet.specs.Sheet.{Sheet}
 use Rattle.sheet.specs.Checks.{permittedChecks, sheetChecks, Judged}
-use Rattle.edits.specs.Checks.{Permitted}
+use Rattle.edit.specs.Checks.{Permitted}
 use Rattle.palette.specs.Colours.{paletteChecks, Opened}
 
 module _ (s : Sheet) (p : Permitted) where

@@ -4,12 +4,12 @@ use mathlib.Core.List.{List, [], _∷_, _++_, map, map-append}
 use Prim.Native.Nat.{ℕ, _+_, _<_, _≤_}
 use native.Mathlib.Nat.{zero-add, le-antisymm}
 use lib.ListN.{length, set, length-map}
-use Rattle.lists.specs.Lists.{range, over}
-use Rattle.lists.proofs.Collect.{length-range, range-next}
-use Rattle.lists.proofs.Over.{over-none, over-set}
+use Rattle.base_lists.specs.Lists.{range, over}
+use Rattle.base_lists.proofs.Collect.{length-range, range-next}
+use Rattle.base_lists.proofs.Over.{over-none, over-set}
 use Rattle.sheet.specs.Document.{mark}
-use Rattle.triples.specs.Triples.{rgbAt}
-use Rattle.edits.specs.Checks.{listed}
+use Rattle.base_storage.specs.Triples.{rgbAt}
+use Rattle.edit.specs.Checks.{listed}
 use Rattle.palette.specs.Colours.{usedOf}
 
 module _ (entries colours : List ℕ) where

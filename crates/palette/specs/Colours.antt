@@ -5,20 +5,20 @@ use mathlib.Core.Bool.{_&&_, cond}
 use mathlib.Core.List.{List, [], _∷_, _++_, map}
 use lib.Dec.{ltb, leb}
 use lib.ListN.{length, take}
-use Rattle.limits.specs.Limits.{maxEntries}
-use Rattle.limits.specs.Numbers.{noSuchEntry, paletteFull, colourNotPermitted, noSpace}
-use Rattle.limits.specs.Checks.{Check, _when_, firstOf, checked}
-use Rattle.limits.specs.declared.Rgb.{Rgb}
-use Rattle.limits.specs.declared.Answer.{Answer}
-use Rattle.limits.specs.declared.Answer.the-variants as answer
-use Rattle.lists.specs.Lists.{range, over}
+use Rattle.base_limits.specs.Limits.{maxEntries}
+use Rattle.base_limits.specs.Numbers.{noSuchEntry, paletteFull, colourNotPermitted, noSpace}
+use Rattle.base_limits.specs.Checks.{Check, _when_, firstOf, checked}
+use Rattle.base_limits.specs.declared.Rgb.{Rgb}
+use Rattle.base_limits.specs.declared.Answer.{Answer}
+use Rattle.base_limits.specs.declared.Answer.the-variants as answer
+use Rattle.base_lists.specs.Lists.{range, over}
 use Rattle.sheet.specs.Sheet.{Sheet}
 use Rattle.sheet.specs.Checks.{permittedChecks, sheetChecks, WellFormed}
 use Rattle.sheet.specs.Document.{mark}
-use Rattle.triples.specs.Triples.{rgbAt}
-use Rattle.edits.specs.declared.Edit.the-variants.{PaletteSet, PaletteAdd}
-use Rattle.edits.specs.Checks.{Permitted, listed, barred}
-use Rattle.entries.specs.Unfilled.{noLab}
+use Rattle.base_storage.specs.Triples.{rgbAt}
+use Rattle.edit.specs.declared.Edit.the-variants.{PaletteSet, PaletteAdd}
+use Rattle.edit.specs.Checks.{Permitted, listed, barred}
+use Rattle.edit_entries.specs.Unfilled.{noLab}
 use Rattle.palette.specs.declared.Choices.{Choices}
 use Rattle.palette.specs.declared.Choices.the-variants as choices
 use Rattle.palette.specs.declared.Made.{Made}

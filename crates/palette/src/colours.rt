@@ -1,27 +1,27 @@
 // Colours that entries may take: `check_color`, `fixed_choices`, `set_color`, `add_color`.
 use crate::Choices;
 use crate::Made;
-use edits::Edit;
-use entries::is_listed;
-use entries::no_lab;
-use limits::Answer;
-use limits::COLOUR_NOT_PERMITTED;
-use limits::MAX_ENTRIES;
-use limits::NO_SPACE;
-use limits::NO_SUCH_ENTRY;
-use limits::PALETTE_FULL;
-use limits::Rgb;
+use base_limits::Answer;
+use base_limits::COLOUR_NOT_PERMITTED;
+use base_limits::MAX_ENTRIES;
+use base_limits::NO_SPACE;
+use base_limits::NO_SUCH_ENTRY;
+use base_limits::PALETTE_FULL;
+use base_limits::Rgb;
+use base_storage::rgb_at;
+use edit::Edit;
+use edit_entries::is_listed;
+use edit_entries::no_lab;
 use sheet::check;
 use sheet::permitted_no;
-use triples::rgb_at;
 ghost use mathlib.Core.Path.{_≡_};
 ghost use Prim.Native.Nat.{_+_, _*_, _/_, _≤_};
 ghost use lib.ListN.{length};
-ghost use Rattle.lists.specs.Lists.{over};
+ghost use Rattle.base_lists.specs.Lists.{over};
 ghost use Rattle.sheet.specs.Sheet.{sheetOf};
 ghost use Rattle.sheet.specs.Document.{mark};
-ghost use Rattle.triples.specs.Triples.{rgbAt};
-ghost use Rattle.edits.specs.Checks.{permittedOf, listed};
+ghost use Rattle.base_storage.specs.Triples.{rgbAt};
+ghost use Rattle.edit.specs.Checks.{permittedOf, listed};
 ghost use Rattle.palette.specs.Colours.{Opened, checkColorOf, usedOf, chosen, fixedChoicesOf, setColorOf, addColorOf};
 
 // The number of the first of 1 of the permitted colours and 1 to 3 of the sheet that applies, or 0.
@@ -52,7 +52,7 @@ pub fn check_color(limited: bool, permitted: &[u8], rgb: Rgb) -> Answer
     if no != 0 {
         return Answer::Refused(no);
     }
-    if entries::check_color(limited, permitted, rgb) {
+    if edit_entries::check_color(limited, permitted, rgb) {
         return Answer::Refused(COLOUR_NOT_PERMITTED);
     }
     Answer::Done
@@ -136,7 +136,7 @@ pub fn set_color(
     if k <= index {
         return Made::Refused(NO_SUCH_ENTRY);
     }
-    if entries::check_color(limited, permitted, rgb) {
+    if edit_entries::check_color(limited, permitted, rgb) {
         return Made::Refused(COLOUR_NOT_PERMITTED);
     }
     let old = rgb_at(palette, index);
@@ -170,7 +170,7 @@ pub fn add_color(
     if MAX_ENTRIES <= k {
         return Made::Refused(PALETTE_FULL);
     }
-    if entries::check_color(limited, permitted, rgb) {
+    if edit_entries::check_color(limited, permitted, rgb) {
         return Made::Refused(COLOUR_NOT_PERMITTED);
     }
     Made::Edit(Edit::PaletteAdd { rgb })

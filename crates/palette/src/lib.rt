@@ -4,7 +4,7 @@
 //
 // Permitted colours are lent as `limited` and their bytes, three a colour; not limited, the bytes are not
 // looked at.
-use edits::Edit;
+use edit::Edit;
 
 mod colours;
 
@@ -12,10 +12,10 @@ pub use colours::add_color;
 pub use colours::check_color;
 pub use colours::fixed_choices;
 pub use colours::set_color;
-pub use removals::Removal;
-pub use removals::merge_entries;
-pub use removals::nearest_other;
-pub use removals::remove_entry;
+pub use palette_remove::Removal;
+pub use palette_remove::merge_entries;
+pub use palette_remove::nearest_other;
+pub use palette_remove::remove_entry;
 
 // What `fixed_choices` answers: how many colours there are to choose from, or that all are free.
 pub enum Choices {

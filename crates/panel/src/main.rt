@@ -1,4 +1,4 @@
 // Document 01's program: reads frames from standard input, one a line, and prints a line for each.
 fn main() {
-    console::run();
+    panel_console::run();
 }

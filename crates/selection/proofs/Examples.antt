@@ -3,17 +3,17 @@ use mathlib.Core.Path.{_≡_, refl}
 use mathlib.Core.List.{[], _∷_, flatMap}
 use Prim.Native.Nat.{ℕ}
 use lib.IntN.{pos, negsuc}
-use Rattle.limits.specs.Checks.{firstOf, refusedOr}
-use Rattle.limits.specs.declared.Counted.the-variants as counted
-use Rattle.lists.specs.Lists.{range, over}
-use Rattle.ints.specs.Ints.{far, fromZero, minZ, maxZ}
-use Rattle.spans.specs.Spans.{first, last, between, movedFirst, movedLast, widened}
-use Rattle.spans.specs.Positions.{row, flat}
+use Rattle.base_limits.specs.Checks.{firstOf, refusedOr}
+use Rattle.base_limits.specs.declared.Counted.the-variants as counted
+use Rattle.base_lists.specs.Lists.{range, over}
+use Rattle.base_ints.specs.Ints.{far, fromZero, minZ, maxZ}
+use Rattle.selection_spans.specs.Spans.{first, last, between, movedFirst, movedLast, widened}
+use Rattle.selection_spans.specs.Positions.{row, flat}
 use Rattle.selection.specs.declared.Selection.{Selection}
 use Rattle.selection.specs.declared.Chosen.the-variants.{Part, Nothing, Refused}
 use Rattle.selection.specs.Selection.{inside, rectangle, fromCorners, translated, grown, positions}
 use Rattle.selection.specs.Calls.{tooLarge, farAway, cornerChecks, fromCornersOf, shiftChecks, translatedOf, marginChecks, grownOf, positionsOf}
-use Rattle.limits.specs.Answer.{filled}
+use Rattle.base_limits.specs.Answer.{filled}
 
 abbrev at : ℕ → ℕ → ℕ → ℕ → Selection
 at x y w h = record { x = x; y = y; w = w; h = h }

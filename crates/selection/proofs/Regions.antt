@@ -6,9 +6,9 @@ use native.Mathlib.Nat.{mul-comm, mul-le-mul-right, suc-mul}
 use native.Mathlib.Omega.{arith}
 use borrow.Author.Tests.{ltb-true, le-ltb, leb-true}
 use lib.Dec.{leb, ltb}
-use Rattle.limits.specs.Checks.{firstOf, refusedOr}
-use Rattle.lists.proofs.Bools.{and-left, and-right}
-use Rattle.spans.specs.Spans.{inSpan}
+use Rattle.base_limits.specs.Checks.{firstOf, refusedOr}
+use Rattle.base_lists.proofs.Bools.{and-left, and-right}
+use Rattle.selection_spans.specs.Spans.{inSpan}
 use Rattle.selection.specs.declared.Selection.{Selection}
 use Rattle.selection.specs.declared.Area.{Area}
 use Rattle.selection.specs.declared.Area.the-variants as area

@@ -3,7 +3,7 @@ use mathlib.Core.Path.{_≡_, _∙_}
 use Prim.Native.Nat.{_*_}
 use native.Mathlib.Nat.{mul-comm}
 use lib.ListN.{length}
-use Rattle.spans.proofs.Rows.{length-rows}
+use Rattle.selection_spans.proofs.Rows.{length-rows}
 use Rattle.selection.specs.declared.Selection.{Selection}
 use Rattle.selection.specs.Selection.{positions}
 

@@ -5,9 +5,9 @@ use Prim.Native.Nat.{ℕ, _^_, _<_, _≤_}
 use native.Mathlib.Omega.{arith}
 use lib.Dec.{eqb}
 use lib.IntN.{ℤ}
-use Rattle.spans.specs.declared.Span.{Span}
-use Rattle.spans.specs.Spans.{between, widened}
-use Rattle.spans.proofs.Spans.{none-is, half-open}
+use Rattle.selection_spans.specs.declared.Span.{Span}
+use Rattle.selection_spans.specs.Spans.{between, widened}
+use Rattle.selection_spans.proofs.Spans.{none-is, half-open}
 use Rattle.selection.specs.declared.Chosen.the-variants.{Part, Nothing}
 use Rattle.selection.specs.Asked.{Narrow}
 use Rattle.selection.specs.Selection.{rectangle, fromCorners}

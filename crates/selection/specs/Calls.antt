@@ -5,14 +5,14 @@ use Prim.Native.Nat.{ℕ, _/_}
 use lib.Dec.{ltb}
 use lib.IntN.{ℤ}
 use lib.ListN.{length}
-use Rattle.limits.specs.Limits.{maxSide, maxDistance}
-use Rattle.limits.specs.Numbers.{badSheet, offTheSheet, tooFar, noSpace}
-use Rattle.limits.specs.Checks.{Check, _when_, checked}
-use Rattle.limits.specs.Answer.{Filled, filled}
-use Rattle.limits.specs.declared.Counted.the-variants as counted
-use Rattle.lists.specs.Lists.{over}
-use Rattle.ints.specs.Ints.{far}
-use Rattle.spans.specs.Positions.{flat}
+use Rattle.base_limits.specs.Limits.{maxSide, maxDistance}
+use Rattle.base_limits.specs.Numbers.{badSheet, offTheSheet, tooFar, noSpace}
+use Rattle.base_limits.specs.Checks.{Check, _when_, checked}
+use Rattle.base_limits.specs.Answer.{Filled, filled}
+use Rattle.base_limits.specs.declared.Counted.the-variants as counted
+use Rattle.base_lists.specs.Lists.{over}
+use Rattle.base_ints.specs.Ints.{far}
+use Rattle.selection_spans.specs.Positions.{flat}
 use Rattle.selection.specs.declared.Selection.{Selection}
 use Rattle.selection.specs.declared.Area.{Area}
 use Rattle.selection.specs.declared.Area.the-variants as area

@@ -1,13 +1,13 @@
--- The rectangles of selection.rs, on whole numbers and as the Rust writes them; the crate spans has one axis, and rows. Definitions only. Assumes nothing.
+-- The rectangles of selection.rs, on whole numbers and as the Rust writes them; the crate selection_spans has one axis, and rows. Definitions only. Assumes nothing.
 use mathlib.Core.Bool.{Bool, cond, _&&_, _||_}
 use mathlib.Core.List.{List}
 use Prim.Native.Nat.{ℕ, _+_}
 use lib.Dec.{leb}
 use lib.IntN.{ℤ, natAbs}
 use lib.Signed.{ltZ, nonNeg}
-use Rattle.spans.specs.declared.Span.{Span}
-use Rattle.spans.specs.Spans.{first, last, between, inSpan, movedFirst, movedLast, widened}
-use Rattle.spans.specs.Positions.{Position, rows}
+use Rattle.selection_spans.specs.declared.Span.{Span}
+use Rattle.selection_spans.specs.Spans.{first, last, between, inSpan, movedFirst, movedLast, widened}
+use Rattle.selection_spans.specs.Positions.{Position, rows}
 use Rattle.selection.specs.declared.Selection.{Selection}
 use Rattle.selection.specs.declared.Chosen.{Chosen}
 use Rattle.selection.specs.declared.Chosen.the-variants.{Part, Nothing}

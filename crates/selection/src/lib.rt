@@ -2,28 +2,28 @@
 // may lie anywhere; a call that is given an image's size asks that it lies inside.
 //
 // Each axis is worked out by itself, as a span of places (crate spans), and two spans make a rectangle.
-use ints::from_zero;
-use ints::is_far;
-use limits::BAD_SHEET;
-use limits::Counted;
-use limits::MAX_DISTANCE;
-use limits::MAX_SIDE;
-use limits::NO_SPACE;
-use limits::OFF_THE_SHEET;
-use limits::TOO_FAR;
-use spans::Span;
-use spans::between;
-use spans::in_span;
-use spans::shifted;
-use spans::widened;
-use spans::write_rows;
+use base_ints::from_zero;
+use base_ints::is_far;
+use base_limits::BAD_SHEET;
+use base_limits::Counted;
+use base_limits::MAX_DISTANCE;
+use base_limits::MAX_SIDE;
+use base_limits::NO_SPACE;
+use base_limits::OFF_THE_SHEET;
+use base_limits::TOO_FAR;
+use selection_spans::Span;
+use selection_spans::between;
+use selection_spans::in_span;
+use selection_spans::shifted;
+use selection_spans::widened;
+use selection_spans::write_rows;
 ghost use mathlib.Core.Path.{_≡_};
 ghost use mathlib.Core.Bool.{cond, _||_};
 ghost use Prim.Native.Nat.{_<_};
 ghost use lib.Dec.{eqb};
 ghost use Rattle.selection.specs.Selection.{inside, rectangle, contains};
 ghost use Rattle.selection.specs.Calls.{chosenNumber, heldNumber, tooLarge, farAway, allOf, fromCornersOf, containsIOf, translatedOf, grownOf, positionsOf, regionOf};
-ghost use Rattle.limits.specs.Answer.{filled};
+ghost use Rattle.base_limits.specs.Answer.{filled};
 ghost use Rattle.selection.specs.Asked.{Narrow};
 
 // The same limit of a margin, which has no sign.

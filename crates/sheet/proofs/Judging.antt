@@ -8,12 +8,12 @@ use native.Mathlib.Omega.{arith}
 use borrow.Author.Tests.{le-ltb, ltb-false, eq-eqb, eqb-true, not-false}
 use lib.Dec.{ltb, eqb}
 use lib.ListN.{length, take}
-use Rattle.limits.specs.Checks.{Check, _when_, firstOf, checked}
-use Rattle.limits.specs.Numbers.{strayIndex, unfitLab}
-use Rattle.limits.proofs.First.{first-past, first-here, refused-first, past, past-both}
-use Rattle.lists.specs.Lists.{some}
-use Rattle.lists.proofs.Scan.{or-left, or-right}
-use Rattle.doubles.specs.Finite.{unfit}
+use Rattle.base_limits.specs.Checks.{Check, _when_, firstOf, checked}
+use Rattle.base_limits.specs.Numbers.{strayIndex, unfitLab}
+use Rattle.base_limits.proofs.First.{first-past, first-here, refused-first, past, past-both}
+use Rattle.base_lists.specs.Lists.{some}
+use Rattle.base_lists.proofs.Scan.{or-left, or-right}
+use Rattle.color_doubles.specs.Finite.{unfit}
 use Rattle.sheet.specs.Sheet.{Sheet, stray}
 use Rattle.sheet.specs.Checks.{limitChecks, indexChecks, labChecks, sheetChecks, Limits, Limited, WellFormed, Judged}
 

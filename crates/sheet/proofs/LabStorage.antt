@@ -7,13 +7,13 @@ use native.Mathlib.Numerals.{add-one, add-two}
 use lib.Ieee.{Float}
 use lib.ListN.{length, take, drop}
 use lib.Seq.{length-take-le, take-add}
-use Rattle.limits.specs.declared.Rgb.{Rgb}
-use Rattle.limits.specs.declared.Lab.{Lab}
-use Rattle.cielab.specs.Convert.{labOf}
-use Rattle.lists.specs.Lists.{over}
-use Rattle.lists.proofs.Over.{over-is}
+use Rattle.base_limits.specs.declared.Rgb.{Rgb}
+use Rattle.base_limits.specs.declared.Lab.{Lab}
+use Rattle.color_lab.specs.Convert.{labOf}
+use Rattle.base_lists.specs.Lists.{over}
+use Rattle.base_lists.proofs.Over.{over-is}
 use Rattle.sheet.specs.Document.{labsOf}
-use Rattle.triples.specs.Triples.{rgbAt, withLab}
+use Rattle.base_storage.specs.Triples.{rgbAt, withLab}
 use Rattle.sheet.proofs.Front.{written}
 use Rattle.sheet.proofs.Entries.{bytesOf, entry}
 

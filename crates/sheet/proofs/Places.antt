@@ -8,7 +8,7 @@ use native.Mathlib.Omega.{arith}
 use lib.Dec.{T, ltb, ltb→lt}
 use lib.IntN.{ℤ, pos, negsuc}
 use lib.ListN.{getD}
-use Rattle.ints.specs.Ints.{onAxis}
+use Rattle.base_ints.specs.Ints.{onAxis}
 use Rattle.sheet.specs.declared.Got.the-variants.{Index, Outside}
 use Rattle.sheet.specs.Document.{indexAt}
 

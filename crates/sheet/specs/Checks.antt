@@ -5,11 +5,11 @@ use mathlib.Core.Bool.{Bool, false, not, _&&_, _||_}
 use mathlib.Core.List.{List, [], _∷_, _++_}
 use lib.Dec.{ltb, eqb}
 use lib.ListN.{length, take}
-use Rattle.limits.specs.Limits.{maxSide, maxEntries, storage, maxPermitted}
-use Rattle.limits.specs.Numbers.{badSheet, strayIndex, unfitLab}
-use Rattle.limits.specs.Checks.{Check, _when_, firstOf}
-use Rattle.lists.specs.Lists.{some}
-use Rattle.doubles.specs.Finite.{unfit}
+use Rattle.base_limits.specs.Limits.{maxSide, maxEntries, storage, maxPermitted}
+use Rattle.base_limits.specs.Numbers.{badSheet, strayIndex, unfitLab}
+use Rattle.base_limits.specs.Checks.{Check, _when_, firstOf}
+use Rattle.base_lists.specs.Lists.{some}
+use Rattle.color_doubles.specs.Finite.{unfit}
 use Rattle.sheet.specs.Sheet.{Sheet, stray}
 
 -- 1: "w and h 0 to 1,024; k palette entries, 0 to 255; w × h signed 16-bit indices .. Palette storage is 765 bytes, LAB storage 765 doubles"

@@ -6,13 +6,13 @@ use lib.Dec.{ltb}
 use lib.IntN.{ℤ, pos, negsuc}
 use lib.Ieee.{Float}
 use lib.ListN.{getD, take}
-use Rattle.limits.specs.Numbers.{tooFar}
-use Rattle.limits.specs.Checks.{_when_, checked}
-use Rattle.limits.specs.declared.Answer.{Answer}
-use Rattle.limits.specs.declared.Answer.the-variants as answer
-use Rattle.lists.specs.Lists.{over}
-use Rattle.ints.specs.Ints.{far}
-use Rattle.cielab.specs.Convert.{labOf}
+use Rattle.base_limits.specs.Numbers.{tooFar}
+use Rattle.base_limits.specs.Checks.{_when_, checked}
+use Rattle.base_limits.specs.declared.Answer.{Answer}
+use Rattle.base_limits.specs.declared.Answer.the-variants as answer
+use Rattle.base_lists.specs.Lists.{over}
+use Rattle.base_ints.specs.Ints.{far}
+use Rattle.color_lab.specs.Convert.{labOf}
 use Rattle.sheet.specs.declared.Got.{Got}
 use Rattle.sheet.specs.declared.Got.the-variants as got
 use Rattle.sheet.specs.Sheet.{Sheet}

@@ -8,9 +8,9 @@ use native.Mathlib.Omega.{arith}
 use lib.IntN.{ℤ}
 use lib.ListN.{length, getD, set, take, length-set}
 use lib.Seq.{getD-set-same, getD-set-other, getD-take, length-take-le, ext-getD}
-use Rattle.tiling.specs.Cells.{cellCount, orderOf, firstCell, codeOf, firstCells}
-use Rattle.tiling.proofs.Rows.{first-at, length-first}
-use Rattle.tiling.proofs.Firsts.{first-le, first-flip, first-same, code-self}
+use Rattle.tile_cells.specs.Cells.{cellCount, orderOf, firstCell, codeOf, firstCells}
+use Rattle.tile_cells.proofs.Rows.{first-at, length-first}
+use Rattle.tile_cells.proofs.Firsts.{first-le, first-flip, first-same, code-self}
 use Rattle.tile_classes.specs.Places.{classIn}
 use Rattle.tile_classes.specs.Ranks.{numberAt, Written}
 use Rattle.tile_classes.specs.Firsts.{FirstBelow, Grouped, Entered}

@@ -7,10 +7,10 @@ use native.Mathlib.Omega.{arith}
 use lib.IntN.{ℤ, pos}
 use lib.ListN.{length, getD, set}
 use lib.Seq.{ext-getD}
-use Rattle.tiling.specs.Tile.{turnedBy}
-use Rattle.tiling.specs.Seen.{tileAt}
-use Rattle.tiling.specs.Cells.{cellOf, cornerOf}
-use Rattle.tiling.proofs.Corners.{cell-seen}
+use Rattle.tile_cells.specs.Tile.{turnedBy}
+use Rattle.tile_cells.specs.Seen.{tileAt}
+use Rattle.tile_cells.specs.Cells.{cellOf, cornerOf}
+use Rattle.tile_cells.proofs.Corners.{cell-seen}
 use Rattle.tile_least.specs.Least.{leastOf, Digit}
 use Rattle.tile_least.proofs.Bits.{digit-same}
 use Rattle.tile_least.proofs.Leasts.{length-least, alike-least, least-alike}

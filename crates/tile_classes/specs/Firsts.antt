@@ -5,7 +5,7 @@ use mathlib.Core.Path.{_≡_}
 use mathlib.Core.List.{List}
 use lib.IntN.{ℤ}
 use lib.ListN.{length, getD}
-use Rattle.tiling.specs.Cells.{orderOf, firstCell, codeOf}
+use Rattle.tile_cells.specs.Cells.{orderOf, firstCell, codeOf}
 use Rattle.tile_classes.specs.Places.{classIn}
 use Rattle.tile_classes.specs.Ranks.{numberAt}
 

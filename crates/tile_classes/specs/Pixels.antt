@@ -4,8 +4,8 @@ use mathlib.Core.Path.{_≡_}
 use mathlib.Core.List.{List}
 use lib.IntN.{ℤ, pos}
 use lib.ListN.{getD}
-use Rattle.tiling.specs.Tile.{turnedBy}
-use Rattle.tiling.specs.Cells.{cellOf}
+use Rattle.tile_cells.specs.Tile.{turnedBy}
+use Rattle.tile_cells.specs.Cells.{cellOf}
 use Rattle.tile_least.specs.Least.{leastOf}
 use Rattle.tile_classes.specs.Places.{orderIn}
 use Rattle.tile_classes.specs.Classes.{Classed}

@@ -1,10 +1,10 @@
 // The first cell of each class, by a table: a place a class, where the numbers were.
-use tiling::corner_of;
-use tiling::order_to;
+use tile_cells::corner_of;
+use tile_cells::order_to;
 ghost use mathlib.Core.Path.{_≡_};
 ghost use Prim.Native.Nat.{_+_, _≤_, _<_};
 ghost use lib.ListN.{length, take};
-ghost use Rattle.tiling.specs.Cells.{Tiled, cellCount, codeOf, firstCells};
+ghost use Rattle.tile_cells.specs.Cells.{Tiled, cellCount, codeOf, firstCells};
 ghost use Rattle.tile_classes.specs.Places.{classIn};
 ghost use Rattle.tile_classes.specs.Ranks.{Written};
 ghost use Rattle.tile_classes.specs.Firsts.{FirstBelow, Entered};

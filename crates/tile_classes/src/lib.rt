@@ -11,7 +11,7 @@ use rounds::tell_apart;
 ghost use mathlib.Core.Path.{_≡_};
 ghost use Prim.Native.Nat.{_+_, _≤_, _<_};
 ghost use lib.ListN.{length, take};
-ghost use Rattle.tiling.specs.Cells.{Tiled, cellCount, firstCells};
+ghost use Rattle.tile_cells.specs.Cells.{Tiled, cellCount, firstCells};
 
 // For each cell, in order, the first cell that it is a flip of, times 4, and the first of the flips none, h, v, both
 // (0 to 3) by which it is: left at the front of the scratch, which has two places a cell.

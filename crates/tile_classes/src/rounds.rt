@@ -1,13 +1,13 @@
 // The rounds: cells are told apart by one pixel of their least flip after the other.
 use crate::ranking::rank;
-use sorting::sort;
+use base_sort::sort;
+use tile_cells::corner_of;
 use tile_least::digit;
 use tile_least::least_order;
-use tiling::corner_of;
 ghost use mathlib.Core.Path.{_≡_};
 ghost use Prim.Native.Nat.{_+_, _*_, _≤_, _<_, _^_};
 ghost use lib.ListN.{length};
-ghost use Rattle.tiling.specs.Cells.{Tiled, cellCount};
+ghost use Rattle.tile_cells.specs.Cells.{Tiled, cellCount};
 ghost use Rattle.tile_least.specs.Least.{Digit};
 ghost use Rattle.tile_classes.specs.Places.{classIn, orderIn};
 ghost use Rattle.tile_classes.specs.Classes.{NumberOf, Numbered};

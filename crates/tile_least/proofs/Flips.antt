@@ -3,7 +3,7 @@ use Prim.Native.Nat.{ℕ, zero, suc, _%_, _<_}
 use mathlib.Core.Path.{_≡_, refl}
 use native.Mathlib.Omega.{arith}
 use lib.Dec.{eqb, ltb}
-use Rattle.tiling.specs.Tile.{flips, flipAt}
+use Rattle.tile_cells.specs.Tile.{flips, flipAt}
 
 pub h-bit : (o : ℕ) → o < 4 → eqb (o % 2) 1 ≡ flipAt o .h
 unfolding flips flipAt

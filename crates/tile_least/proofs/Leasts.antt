@@ -7,13 +7,13 @@ use borrow.Author.Tests.{lt-ltb, ltb-true}
 use lib.Dec.{eqb}
 use lib.IntN.{ℤ, pos}
 use lib.ListN.{length, getD}
-use Rattle.tiling.specs.Tile.{flipped, flips, flipAt, turnedBy, orderTo, isFlipOf}
-use Rattle.tiling.specs.Cells.{cellOf, cornerOf, orderOf}
-use Rattle.tiling.specs.Seen.{tileAt}
-use Rattle.tiling.proofs.Flipping.{joint, flipped-twice, length-flipped}
-use Rattle.tiling.proofs.Orders.{FlipOf, order-flip, flip-order, flip-trans, flip-sym}
-use Rattle.tiling.proofs.Corners.{length-cell, cell-seen}
-use Rattle.tiling.proofs.Positions.{cases}
+use Rattle.tile_cells.specs.Tile.{flipped, flips, flipAt, turnedBy, orderTo, isFlipOf}
+use Rattle.tile_cells.specs.Cells.{cellOf, cornerOf, orderOf}
+use Rattle.tile_cells.specs.Seen.{tileAt}
+use Rattle.tile_cells.proofs.Flipping.{joint, flipped-twice, length-flipped}
+use Rattle.tile_cells.proofs.Orders.{FlipOf, order-flip, flip-order, flip-trans, flip-sym}
+use Rattle.tile_cells.proofs.Corners.{length-cell, cell-seen}
+use Rattle.tile_cells.proofs.Positions.{cases}
 use Rattle.tile_least.specs.Least.{compared, lesser, seenIn, leastOf, Digit}
 use Rattle.tile_least.proofs.Comparing.{lesser-swap}
 

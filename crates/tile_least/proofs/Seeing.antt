@@ -7,12 +7,12 @@ use native.Mathlib.Nat.{mod-lt, div-add-mod', div-lt-iff-lt-mul}
 use native.Mathlib.Omega.{arith}
 use lib.IntN.{ℤ, pos}
 use lib.ListN.{getD}
-use Rattle.lists.specs.Lists.{range}
-use Rattle.tiling.specs.Tile.{grid, turned, flipAt, turnedBy}
-use Rattle.tiling.specs.Seen.{inRow, rowSeen, rowOf, tileSeen}
-use Rattle.tiling.proofs.Grids.{grid-at}
-use Rattle.tiling.proofs.Lying.{length-row-seen}
-use Rattle.tiling.proofs.Flipping.{seen-flipped}
+use Rattle.base_lists.specs.Lists.{range}
+use Rattle.tile_cells.specs.Tile.{grid, turned, flipAt, turnedBy}
+use Rattle.tile_cells.specs.Seen.{inRow, rowSeen, rowOf, tileSeen}
+use Rattle.tile_cells.proofs.Grids.{grid-at}
+use Rattle.tile_cells.proofs.Lying.{length-row-seen}
+use Rattle.tile_cells.proofs.Flipping.{seen-flipped}
 use Rattle.tile_least.specs.Least.{comparedZ, orElse, compared, seenIn}
 use Rattle.tile_least.proofs.Comparing.{still-same, decides, row-grows, rows-grow}
 

@@ -8,8 +8,8 @@ use lib.IntN.{ℤ}
 use lib.Signed.{ltZ}
 use mir.Syntax.{w16}
 use mir.Val.{ofZ, SFits}
-use Rattle.tiling.specs.Tile.{turnedBy}
-use Rattle.tiling.specs.Seen.{tileAt}
+use Rattle.tile_cells.specs.Tile.{turnedBy}
+use Rattle.tile_cells.specs.Seen.{tileAt}
 
 -- ---- two readings compared: 0 where they are the same, 1 where the first is less, 2 where the second is
 unfoldable pub comparedZ : ℤ → ℤ → ℕ

@@ -1,12 +1,12 @@
 // The indices of a tile, seen in an order, one at a time and as numbers.
-use pixels::bits_of;
-use tiling::turn;
+use edit_pixels::bits_of;
+use tile_cells::turn;
 ghost use mathlib.Core.Path.{_≡_};
 ghost use Prim.Native.Nat.{_*_, _<_};
 ghost use lib.IntN.{pos};
 ghost use lib.ListN.{length, getD};
-ghost use Rattle.tiling.specs.Tile.{flipAt};
-ghost use Rattle.tiling.specs.Seen.{Lies};
+ghost use Rattle.tile_cells.specs.Tile.{flipAt};
+ghost use Rattle.tile_cells.specs.Seen.{Lies};
 ghost use Rattle.tile_least.specs.Least.{seenIn, Digit};
 
 // The flips of an order.

@@ -1,11 +1,11 @@
 // The flip in which a tile reads least, by three comparisons of two flips of the tile where it lies.
 use crate::digits::flip_h;
 use crate::digits::flip_v;
-use tiling::turn;
+use tile_cells::turn;
 ghost use mathlib.Core.Path.{_≡_};
 ghost use Prim.Native.Nat.{_+_, _≤_, _<_};
 ghost use lib.ListN.{length};
-ghost use Rattle.tiling.specs.Seen.{rowSeen, tileSeen, tileAt, Lies};
+ghost use Rattle.tile_cells.specs.Seen.{rowSeen, tileSeen, tileAt, Lies};
 ghost use Rattle.tile_least.specs.Least.{comparedZ, compared, lesser, seenIn, leastOf};
 
 // 1 where a is less, 2 where b is, 0 where they are the same.

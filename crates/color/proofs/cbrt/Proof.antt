@@ -4,10 +4,10 @@ use mathlib.Core.Bool.{true, false}
 use Prim.Native.Nat.{_^_}
 use lib.Dec.{T}
 use lib.Ieee.{Float, binary64, le, ofBits, toBits, round}
-use Rattle.limits.specs.Checks.{firstOf, refusedOr}
-use Rattle.doubles.specs.Arithmetic.{decimal}
-use Rattle.doubles.specs.NearestDouble.{unitsOf, NoneNearer}
-use Rattle.roots.specs.CubeRoot.{inRootRange}
+use Rattle.base_limits.specs.Checks.{firstOf, refusedOr}
+use Rattle.color_doubles.specs.Arithmetic.{decimal}
+use Rattle.color_doubles.specs.NearestDouble.{unitsOf, NoneNearer}
+use Rattle.color_root.specs.CubeRoot.{inRootRange}
 use Rattle.color.specs.declared.Root.the-variants.{Value, Refused}
 use Rattle.color.specs.Calls.{rootChecks, cbrtOf, CubeRoot}
 use Rattle.color.proofs.cbrt.Statement.{statement}

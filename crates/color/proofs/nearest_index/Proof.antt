@@ -10,13 +10,13 @@ use lib.Dec.{ltb, eqb}
 use lib.ListN.{length, take}
 use lib.Seq.{length-take-le}
 use lib.Ieee.{Float}
-use Rattle.limits.specs.Checks.{firstOf, refusedOr}
-use Rattle.limits.specs.declared.Lab.{Lab}
-use Rattle.lists.specs.Lists.{some}
-use Rattle.doubles.specs.Finite.{unfit, unfitTriple}
-use Rattle.distances.specs.Nearest.{FirstNearest}
-use Rattle.distances.specs.declared.Near.{Near}
-use Rattle.distances.proofs.FirstNearest.{first-nearest}
+use Rattle.base_limits.specs.Checks.{firstOf, refusedOr}
+use Rattle.base_limits.specs.declared.Lab.{Lab}
+use Rattle.base_lists.specs.Lists.{some}
+use Rattle.color_doubles.specs.Finite.{unfit, unfitTriple}
+use Rattle.color_nearest.specs.Nearest.{FirstNearest}
+use Rattle.color_nearest.specs.declared.Near.{Near}
+use Rattle.color_nearest.proofs.FirstNearest.{first-nearest}
 use Rattle.color.specs.declared.Found.the-variants.{Entry, Refused}
 use Rattle.color.specs.Calls.{nearestChecks, nearestIndexOf, NearestEntry}
 use Rattle.color.proofs.nearest_index.Statement.{statement}

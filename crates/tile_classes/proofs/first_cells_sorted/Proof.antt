@@ -1,8 +1,8 @@
 -- `first_cells_sorted`: the classes, an empty table, and the first cell of each class. Assumes nothing.
 use mathlib.Core.Path.{refl}
 use native.Mathlib.Omega.{arith}
-use Rattle.tiling.specs.Cells.{cellCount}
-use Rattle.tiling.proofs.Corners.{count-small, area}
+use Rattle.tile_cells.specs.Cells.{cellCount}
+use Rattle.tile_cells.proofs.Corners.{count-small, area}
 use Rattle.tile_classes.proofs.Pixels.{told-all}
 use Rattle.tile_classes.proofs.Entering.{entered-none}
 use borrow.Author.Needs.{needs}

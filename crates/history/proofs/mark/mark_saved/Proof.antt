@@ -1,8 +1,8 @@
 -- `mark_saved`: 1 and 4, then the standing position is saved. Assumes nothing.
 use mathlib.Core.Path.{sym, _∙_}
-use Rattle.limits.proofs.First.{refused-first, result-first}
-use Rattle.ledger.specs.Journal.{markOf}
-use Rattle.ledger.specs.Calls.{refused}
+use Rattle.base_limits.proofs.First.{refused-first, result-first}
+use Rattle.history_ledger.specs.Journal.{markOf}
+use Rattle.history_ledger.specs.Calls.{refused}
 use borrow.Author.Needs.{needs}
 use Rattle.history.proofs.mark.mark_saved.Statement.{statement}
 use Rattle.history.proofs.mark.mark_saved.Tie as tie

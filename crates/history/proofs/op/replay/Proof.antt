@@ -2,15 +2,15 @@
 use mathlib.Core.Path.{_≡_, sym, ap, _∙_}
 use mathlib.Core.List.{map}
 use lib.ListN.{length}
-use Rattle.limits.specs.Checks.{firstOf}
-use Rattle.limits.specs.declared.Answer.the-variants.{Done}
-use Rattle.limits.proofs.First.{refused-first, result-first}
+use Rattle.base_limits.specs.Checks.{firstOf}
+use Rattle.base_limits.specs.declared.Answer.the-variants.{Done}
+use Rattle.base_limits.proofs.First.{refused-first, result-first}
 use Rattle.sheet.specs.Sheet.{sheetOf}
-use Rattle.edits.specs.Change.{unpacked}
-use Rattle.edits.specs.Checks.{permittedOf}
-use Rattle.ledger.specs.Calls.{refused}
-use Rattle.editing.specs.Replay.{replayChecks, replayed, replayOf}
-use Rattle.editing.proofs.ReplayChecks.{redoable}
+use Rattle.edit.specs.Change.{unpacked}
+use Rattle.edit.specs.Checks.{permittedOf}
+use Rattle.history_ledger.specs.Calls.{refused}
+use Rattle.history_model.specs.Replay.{replayChecks, replayed, replayOf}
+use Rattle.history_model.proofs.ReplayChecks.{redoable}
 use borrow.Author.Needs.{needs}
 use Rattle.history.proofs.op.replay.Statement.{statement}
 use Rattle.history.proofs.op.replay.Tie as tie

@@ -4,12 +4,12 @@ use mathlib.Core.List.{map}
 use Prim.Native.Nat.{_≤_}
 use native.Mathlib.Omega.{arith}
 use lib.ListN.{length, length-map}
-use Rattle.limits.specs.Limits.{maxChanges}
-use Rattle.limits.specs.Checks.{firstOf}
+use Rattle.base_limits.specs.Limits.{maxChanges}
+use Rattle.base_limits.specs.Checks.{firstOf}
 use Rattle.sheet.specs.Sheet.{sheetOf}
 use Rattle.sheet.specs.Checks.{permittedChecks, WellFormed}
-use Rattle.edits.specs.Change.{unpacked}
-use Rattle.editing.proofs.ReplayChecks.{given-refused, sheet-refused, too-long, no-space, own-decides}
+use Rattle.edit.specs.Change.{unpacked}
+use Rattle.history_model.proofs.ReplayChecks.{given-refused, sheet-refused, too-long, no-space, own-decides}
 use borrow.Author.Needs.{needs}
 use Rattle.history.proofs.op.replay_no.Statement.{statement}
 use Rattle.history.proofs.op.replay_no.Tie as tie

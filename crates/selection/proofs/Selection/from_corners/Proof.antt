@@ -2,9 +2,9 @@
 use mathlib.Core.Path.{_≡_, sym, _∙_}
 use mathlib.Core.Bool.{false}
 use borrow.Author.Needs.{needs}
-use Rattle.limits.specs.Checks.{firstOf, refusedOr}
-use Rattle.ints.proofs.Back.{by-values}
-use Rattle.spans.specs.Spans.{between}
+use Rattle.base_limits.specs.Checks.{firstOf, refusedOr}
+use Rattle.base_ints.proofs.Back.{by-values}
+use Rattle.selection_spans.specs.Spans.{between}
 use Rattle.selection.specs.Calls.{tooLarge, farAway, cornerChecks, fromCornersOf}
 use Rattle.selection.proofs.Checks.{sides}
 use Rattle.selection.proofs.Spans.{narrow, clipped}

@@ -5,7 +5,7 @@ use Prim.Native.Nat.{_<_, _^_}
 use native.Mathlib.Omega.{arith}
 use borrow.Author.Needs.{needs}
 use borrow.Author.Tests.{lt-ltb, le-ltb}
-use Rattle.limits.specs.Checks.{firstOf, refusedOr}
+use Rattle.base_limits.specs.Checks.{firstOf, refusedOr}
 use Rattle.selection.specs.declared.Chosen.the-variants.{Part}
 use Rattle.selection.specs.Selection.{grown, inside}
 use Rattle.selection.specs.Calls.{tooLarge, marginChecks, grownOf}

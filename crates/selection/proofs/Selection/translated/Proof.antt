@@ -3,9 +3,9 @@ use mathlib.Core.Path.{_≡_, sym, _∙_}
 use mathlib.Core.Bool.{false}
 use borrow.Author.Needs.{needs}
 use mir.Facts.{toZ-ofZ}
-use Rattle.limits.specs.Checks.{firstOf, refusedOr}
-use Rattle.ints.proofs.Back.{by-value, by-values}
-use Rattle.spans.specs.Spans.{moved}
+use Rattle.base_limits.specs.Checks.{firstOf, refusedOr}
+use Rattle.base_ints.proofs.Back.{by-value, by-values}
+use Rattle.selection_spans.specs.Spans.{moved}
 use Rattle.selection.specs.Selection.{translated}
 use Rattle.selection.specs.Calls.{tooLarge, farAway, shiftChecks, translatedOf}
 use Rattle.selection.proofs.Checks.{sides, near}

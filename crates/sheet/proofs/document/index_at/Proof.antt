@@ -7,8 +7,8 @@ use lib.IntN.{pos}
 use lib.ListN.{length, getD}
 use mir.Syntax.{w16}
 use mir.Facts.{toZ-ofZ}
-use Rattle.ints.specs.Ints.{onAxis}
-use Rattle.ints.proofs.Back.{back}
+use Rattle.base_ints.specs.Ints.{onAxis}
+use Rattle.base_ints.proofs.Back.{back}
 use Rattle.sheet.specs.declared.Got.the-variants.{Index}
 use Rattle.sheet.proofs.Places.{place, index-inside, off-column, off-row}
 use Rattle.sheet.proofs.document.index_at.Statement.{statement}

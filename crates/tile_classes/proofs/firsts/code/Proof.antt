@@ -2,9 +2,9 @@
 use mathlib.Core.Path.{_≡_}
 use Prim.Native.Nat.{_+_, _-_, _*_, _<_}
 use native.Mathlib.Omega.{arith}
-use Rattle.tiling.specs.Cells.{cellCount, codeOf}
-use Rattle.tiling.proofs.Corners.{fits, corner-small, corner-lies, count-small, area, order-is}
-use Rattle.tiling.proofs.Firsts.{code-small}
+use Rattle.tile_cells.specs.Cells.{cellCount, codeOf}
+use Rattle.tile_cells.proofs.Corners.{fits, corner-small, corner-lies, count-small, area, order-is}
+use Rattle.tile_cells.proofs.Firsts.{code-small}
 use Rattle.tile_classes.proofs.Entering.{code-none, code-some, some-inside}
 use borrow.Author.Needs.{needs}
 use Rattle.tile_classes.proofs.firsts.code.Statement.{statement}

@@ -1,7 +1,7 @@
 -- `number`: the pixel where the cell lies, and the sums. Assumes nothing.
 use Prim.Native.Nat.{_<_, _^_}
 use native.Mathlib.Omega.{arith}
-use Rattle.tiling.proofs.Corners.{fits, corner-small, corner-lies, count-small, area}
+use Rattle.tile_cells.proofs.Corners.{fits, corner-small, corner-lies, count-small, area}
 use Rattle.tile_classes.specs.Places.{classIn}
 use Rattle.tile_classes.proofs.Pixels.{pixel-digit, number-is}
 use borrow.Author.Needs.{needs}

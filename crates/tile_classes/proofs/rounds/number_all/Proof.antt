@@ -3,7 +3,7 @@ use mathlib.Core.Path.{_≡_}
 use Prim.Native.Nat.{_+_, _≤_, _-_, _<_, _^_}
 use native.Mathlib.Omega.{arith}
 use lib.ListN.{length, getD}
-use Rattle.tiling.proofs.Corners.{count-small, area}
+use Rattle.tile_cells.proofs.Corners.{count-small, area}
 use Rattle.tile_least.specs.Least.{Digit}
 use Rattle.tile_classes.specs.Places.{classIn}
 use Rattle.tile_classes.specs.Classes.{Numbered}

@@ -1,5 +1,5 @@
 -- `place`: the cell where it lies. Assumes nothing.
-use Rattle.tiling.proofs.Corners.{fits, corner-small, corner-lies}
+use Rattle.tile_cells.proofs.Corners.{fits, corner-small, corner-lies}
 use Rattle.tile_classes.proofs.Pixels.{order-least}
 use Rattle.tile_classes.proofs.rounds.place.Statement.{statement}
 use Rattle.tile_classes.proofs.rounds.place.Tie as tie

@@ -3,7 +3,7 @@ use mathlib.Core.Path.{refl}
 use Prim.Native.Nat.{_+_, _-_}
 use native.Mathlib.Omega.{arith}
 use borrow.Rule.Slice.PartMut.{putMid}
-use Rattle.tiling.proofs.Corners.{count-small, area}
+use Rattle.tile_cells.proofs.Corners.{count-small, area}
 use Rattle.tile_classes.proofs.Shuffles.{Shuffled, shuffled}
 use Rattle.tile_classes.proofs.Pixels.{round-listed, told-next}
 use borrow.Author.Needs.{needs}

@@ -4,7 +4,7 @@ use Prim.Native.Nat.{_*_, _≤_, _-_}
 use native.Mathlib.Nat.{mul-le-mul}
 use native.Mathlib.Omega.{arith}
 use lib.ListN.{length}
-use Rattle.tiling.proofs.Corners.{fits}
+use Rattle.tile_cells.proofs.Corners.{fits}
 use Rattle.tile_classes.specs.Pixels.{Told}
 use borrow.Author.Needs.{needs}
 use Rattle.tile_classes.proofs.rounds.tell_apart.Statement.{statement}

@@ -4,8 +4,8 @@ use native.Mathlib.Nat.{mod-lt, div-lt-iff-lt-mul}
 use native.Mathlib.Omega.{arith}
 use borrow.Author.Needs.{needs}
 use lib.ListN.{length}
-use Rattle.tiling.proofs.Corners.{right-positive}
-use Rattle.tiling.proofs.Lying.{row-lies}
+use Rattle.tile_cells.proofs.Corners.{right-positive}
+use Rattle.tile_cells.proofs.Lying.{row-lies}
 use Rattle.tile_least.proofs.Seeing.{index-at}
 use Rattle.tile_least.proofs.Bits.{digit-is}
 use Rattle.tile_least.proofs.digits.digit.Statement.{statement}

@@ -6,9 +6,9 @@ use native.Mathlib.Omega.{arith}
 use borrow.Author.Needs.{needs}
 use lib.IntN.{ℤ}
 use lib.ListN.{length}
-use Rattle.lists.specs.Lists.{range}
-use Rattle.tiling.specs.Seen.{rowOf, tileSeen}
-use Rattle.tiling.proofs.Lying.{row-lies}
+use Rattle.base_lists.specs.Lists.{range}
+use Rattle.tile_cells.specs.Seen.{rowOf, tileSeen}
+use Rattle.tile_cells.proofs.Lying.{row-lies}
 use Rattle.tile_least.specs.Least.{compared}
 use Rattle.tile_least.proofs.Seeing.{rows-are, row-same, row-decides}
 use Rattle.tile_least.proofs.least.compare_flips.Statement.{statement}

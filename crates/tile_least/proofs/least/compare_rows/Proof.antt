@@ -6,10 +6,10 @@ use native.Mathlib.Omega.{arith}
 use borrow.Author.Needs.{needs}
 use lib.IntN.{ℤ}
 use mir.Syntax.{w16}
-use Rattle.ints.proofs.Back.{back}
-use Rattle.lists.specs.Lists.{range}
-use Rattle.tiling.specs.Seen.{inRow, rowSeen}
-use Rattle.tiling.proofs.Lying.{in-row}
+use Rattle.base_ints.proofs.Back.{back}
+use Rattle.base_lists.specs.Lists.{range}
+use Rattle.tile_cells.specs.Seen.{inRow, rowSeen}
+use Rattle.tile_cells.proofs.Lying.{in-row}
 use Rattle.tile_least.specs.Least.{comparedZ, compared}
 use Rattle.tile_least.proofs.Seeing.{indices-are, index-same, index-decides}
 use Rattle.tile_least.proofs.least.compare_rows.Statement.{statement}

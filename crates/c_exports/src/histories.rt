@@ -1,0 +1,267 @@
+// The calls of `history`. The palette count and the handle's five numbers go in and come back in a list of six.
+use crate::flat::NO_EDIT;
+use crate::flat::NONE;
+use crate::flat::edit_of;
+use crate::flat::is_edit;
+use crate::flat::tell_edit;
+use history::Handle;
+use history::Moved;
+use history_queries::Next;
+use history_queries::Truth;
+
+fn handle_of(state: &[usize; 6]) -> Handle {
+    Handle {
+        offset: state[1],
+        end: state[2],
+        position: state[3],
+        count: state[4],
+        saved: state[5],
+    }
+}
+
+fn tell_handle(handle: Handle, state: &mut [usize; 6]) {
+    state[1] = handle.offset;
+    state[2] = handle.end;
+    state[3] = handle.position;
+    state[4] = handle.count;
+    state[5] = handle.saved;
+}
+
+fn tell_moved(m: Moved, state: &mut [usize; 6]) -> u8 {
+    let handle = m.handle;
+    let answer = m.answer;
+    state[0] = m.k;
+    tell_handle(handle, state);
+    answer.number()
+}
+
+#[no_mangle]
+pub extern "C" fn call_fresh(state: &mut [usize; 6]) {
+    tell_handle(history::fresh(), state);
+}
+
+#[no_mangle]
+pub extern "C" fn call_push(
+    w: usize,
+    h: usize,
+    palette: &mut [u8],
+    lab: &mut [f64],
+    indices: &mut [i16],
+    limited: bool,
+    permitted: &[u8],
+    bytes: &[u8; 8],
+    index: usize,
+    doubles: &[f64; 3],
+    list: &[u64],
+    journal: &mut [u8],
+    scratch: &mut [u8],
+    state: &mut [usize; 6],
+) -> u8 {
+    if !is_edit(bytes) {
+        return NO_EDIT;
+    }
+    let k = state[0];
+    let edit = edit_of(bytes, index, doubles);
+    let handle = handle_of(state);
+    tell_moved(
+        history::push(
+            w,
+            h,
+            k,
+            palette,
+            lab,
+            indices,
+            limited,
+            permitted,
+            edit,
+            list,
+            journal,
+            handle,
+            scratch,
+        ),
+        state,
+    )
+}
+
+#[no_mangle]
+pub extern "C" fn call_undo(
+    w: usize,
+    h: usize,
+    palette: &mut [u8],
+    lab: &mut [f64],
+    indices: &mut [i16],
+    journal: &[u8],
+    state: &mut [usize; 6],
+) -> u8 {
+    let k = state[0];
+    let handle = handle_of(state);
+    tell_moved(
+        history::undo(w, h, k, palette, lab, indices, journal, handle),
+        state,
+    )
+}
+
+#[no_mangle]
+pub extern "C" fn call_redo(
+    w: usize,
+    h: usize,
+    palette: &mut [u8],
+    lab: &mut [f64],
+    indices: &mut [i16],
+    journal: &[u8],
+    scratch: &mut [u8],
+    state: &mut [usize; 6],
+) -> u8 {
+    let k = state[0];
+    let handle = handle_of(state);
+    tell_moved(
+        history::redo(w, h, k, palette, lab, indices, journal, handle, scratch),
+        state,
+    )
+}
+
+#[no_mangle]
+pub extern "C" fn call_mark_saved(journal: &[u8], state: &mut [usize; 6]) -> u8 {
+    let m = history::mark_saved(journal, handle_of(state));
+    let handle = m.handle;
+    let answer = m.answer;
+    tell_handle(handle, state);
+    answer.number()
+}
+
+// r[0] is 1 for true.
+fn tell_truth(t: Truth, r: &mut [usize; 5]) -> u8 {
+    match t {
+        Truth::Is(b) => {
+            r[0] = if b { 1 } else { 0 };
+            0
+        }
+        Truth::Refused(n) => n,
+    }
+}
+
+#[no_mangle]
+pub extern "C" fn call_is_dirty(journal: &[u8], state: &[usize; 6], r: &mut [usize; 5]) -> u8 {
+    tell_truth(history_queries::is_dirty(journal, handle_of(state)), r)
+}
+
+#[no_mangle]
+pub extern "C" fn call_can_undo(journal: &[u8], state: &[usize; 6], r: &mut [usize; 5]) -> u8 {
+    tell_truth(history_queries::can_undo(journal, handle_of(state)), r)
+}
+
+#[no_mangle]
+pub extern "C" fn call_can_redo(journal: &[u8], state: &[usize; 6], r: &mut [usize; 5]) -> u8 {
+    tell_truth(history_queries::can_redo(journal, handle_of(state)), r)
+}
+
+// The edit as `tell_edit` writes it, and in r[1] to r[4] the record's start and length, where its list starts, and its count.
+fn tell_next(n: Next, bytes: &mut [u8; 8], doubles: &mut [f64; 3], r: &mut [usize; 5]) -> u8 {
+    match n {
+        Next::Record {
+            edit,
+            start,
+            length,
+            list,
+            count,
+        } => {
+            tell_edit(edit, bytes, doubles, r);
+            r[1] = start;
+            r[2] = length;
+            r[3] = list;
+            r[4] = count;
+            0
+        }
+        Next::Nothing => NONE,
+        Next::Refused(n) => n,
+    }
+}
+
+#[no_mangle]
+pub extern "C" fn call_next_undo(
+    journal: &[u8],
+    state: &[usize; 6],
+    bytes: &mut [u8; 8],
+    doubles: &mut [f64; 3],
+    r: &mut [usize; 5],
+) -> u8 {
+    tell_next(
+        history_queries::next_undo(journal, handle_of(state)),
+        bytes,
+        doubles,
+        r,
+    )
+}
+
+#[no_mangle]
+pub extern "C" fn call_next_redo(
+    journal: &[u8],
+    state: &[usize; 6],
+    bytes: &mut [u8; 8],
+    doubles: &mut [f64; 3],
+    r: &mut [usize; 5],
+) -> u8 {
+    tell_next(
+        history_queries::next_redo(journal, handle_of(state)),
+        bytes,
+        doubles,
+        r,
+    )
+}
+
+#[no_mangle]
+pub extern "C" fn call_applied(
+    journal: &[u8],
+    state: &[usize; 6],
+    number: usize,
+    bytes: &mut [u8; 8],
+    doubles: &mut [f64; 3],
+    r: &mut [usize; 5],
+) -> u8 {
+    tell_next(
+        history_queries::applied(journal, handle_of(state), number),
+        bytes,
+        doubles,
+        r,
+    )
+}
+
+// The palette count goes in and comes back in state[0].
+#[no_mangle]
+pub extern "C" fn call_replay(
+    w: usize,
+    h: usize,
+    palette: &mut [u8],
+    lab: &mut [f64],
+    indices: &mut [i16],
+    limited: bool,
+    permitted: &[u8],
+    bytes: &[u8; 8],
+    index: usize,
+    doubles: &[f64; 3],
+    list: &[u64],
+    scratch: &mut [u8],
+    state: &mut [usize; 6],
+) -> u8 {
+    if !is_edit(bytes) {
+        return NO_EDIT;
+    }
+    let k = state[0];
+    let edit = edit_of(bytes, index, doubles);
+    let m = history::replay(
+        w,
+        h,
+        k,
+        palette,
+        lab,
+        indices,
+        limited,
+        permitted,
+        edit,
+        list,
+        scratch,
+    );
+    let answer = m.answer;
+    state[0] = m.k;
+    answer.number()
+}

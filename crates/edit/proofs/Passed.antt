@@ -1,0 +1,129 @@
+-- What an edit has passed where none of its checks applies, as facts. Assumes nothing.
+use mathlib.Core.Path.{_≡_, refl, sym, _∙_}
+use mathlib.Core.Bool.{Bool, true, false, not}
+use mathlib.Core.List.{List, [], _∷_, map, flatMap}
+use Prim.Native.Nat.{ℕ, _≤_, _<_}
+use native.Mathlib.Omega.{arith}
+use borrow.Author.Tests.{not-false, leb-false, ltb-false}
+use lib.Dec.{leb, ltb}
+use lib.IntN.{pos, negsuc}
+use Rattle.base_limits.specs.Limits.{maxEntries}
+use Rattle.base_limits.specs.Numbers.{offTheSheet, noSuchIndex, noSuchEntry, paletteFull, lastEntry, badRemap, stillUsed}
+use Rattle.base_limits.specs.Checks.{_when_, firstOf}
+use Rattle.base_lists.specs.Lists.{some}
+use Rattle.base_lists.proofs.Scan.{or-left, or-right}
+use Rattle.base_ints.proofs.Back.{same-index}
+use Rattle.base_ints.specs.Ints.{eqZ}
+use Rattle.sheet.specs.Sheet.{Sheet, stray}
+use Rattle.edit.specs.declared.Edit.{Edit}
+use Rattle.edit.specs.declared.Edit.the-variants.{Pixels, PaletteSet, PaletteAdd, PaletteRemove}
+use Rattle.edit.specs.Change.{Change, outside, newOf, filledIn}
+use Rattle.edit.specs.Checks.{Permitted, pixel, pixelChecks, misdirected, remapChecks, leftFrom, ownChecks}
+use Rattle.base_lists.proofs.Nowhere.{or-both}
+use Rattle.base_limits.proofs.First.{past, skip, past-both}
+
+-- ---- pixels: 5 and 6
+pub record PixelsFit (s : Sheet) (cs : List Change) : Type 0 where
+  pub inside : some (outside (s .w) (s .h)) cs ≡ false
+  pub in-range : some (λ c. stray (s .k) (newOf c)) cs ≡ false
+
+pixels-fit : (replay : Bool) (s : Sheet) (cs : List Change) → firstOf (flatMap (pixelChecks replay s) cs) ≡ 0 → PixelsFit s cs
+unfolding pixelChecks flatMap some
+pixels-fit replay s [] e = record { inside = refl; in-range = refl }
+pixels-fit replay s (c ∷ cs) e =
+    let a = past (offTheSheet when outside (s .w) (s .h) c) _ (omega arith) e in
+    let b = past (noSuchIndex when stray (s .k) (c .new)) _ (omega arith) (a .rest) in
+    let r = pixels-fit replay s cs (past _ _ (omega arith) (b .rest) .rest) in
+    record { inside = or-both (a .off) (r .inside); in-range = or-both (b .off) (r .in-range) }
+
+-- ---- a removal's changes: 5 and 12
+pub record Remap (s : Sheet) (i : ℕ) (cs : List Change) : Type 0 where
+  pub inside : some (outside (s .w) (s .h)) cs ≡ false
+  pub filled : map (filledIn (s .w) (s .indices)) cs ≡ cs
+  pub others : some (λ c. eqZ (newOf c) (pos i)) cs ≡ false
+  pub in-range : some (λ c. stray (s .k) (newOf c)) cs ≡ false
+
+-- one change that 12 does not refuse
+record Directed (s : Sheet) (i : ℕ) (c : Change) : Type 0 where
+  pub filled : pixel s c ≡ c .old
+  pub other : eqZ (c .new) (pos i) ≡ false
+  pub in-range : stray (s .k) (c .new) ≡ false
+
+directed : (s : Sheet) (i : ℕ) (c : Change) → misdirected s i c ≡ false → Directed s i c
+unfolding misdirected
+directed s i c e =
+    let e2 = or-right (not (eqZ (pixel s c) (pos i))) _ e in
+    let e3 = or-right (not (eqZ (c .old) (pos i))) _ e2 in
+    let e4 = or-right (eqZ (c .new) (pos i)) _ e3 in
+    record {
+      filled = same-index (pixel s c) (pos i) (not-false _ (or-left _ _ e)) ∙ sym (same-index (c .old) (pos i) (not-false _ (or-left _ _ e2)));
+      other = or-left _ _ e3;
+      in-range = or-right (eqZ (c .new) (negsuc 0)) _ e4;
+    }
+
+remap : (s : Sheet) (i : ℕ) (cs : List Change) → firstOf (flatMap (remapChecks s i) cs) ≡ 0 → Remap s i cs
+unfolding remapChecks flatMap some filledIn
+remap s i [] e = record { inside = refl; filled = refl; others = refl; in-range = refl }
+remap s i (c ∷ cs) e =
+    let a = past (offTheSheet when outside (s .w) (s .h) c) _ (omega arith) e in
+    let b = past (badRemap when misdirected s i c) _ (omega arith) (a .rest) in
+    let d = directed s i c (b .off) in
+    let r = remap s i cs (b .rest) in
+    record {
+      inside = or-both (a .off) (r .inside);
+      filled = λ j. record { x = c .x; y = c .y; old = d .filled j; new = c .new } ∷ r .filled j;
+      others = or-both (d .other) (r .others);
+      in-range = or-both (d .in-range) (r .in-range);
+    }
+
+-- ---- a removal: 7, 9, then its changes, then 13
+pub record RemoveFits (s : Sheet) (i : ℕ) (cs : List Change) : Type 0 where
+  pub entry : i < s .k
+  pub two : 2 ≤ s .k
+  pub remap : Remap s i cs
+  pub none-left : leftFrom (s .w) i cs 0 (s .indices) ≡ false
+
+-- ---- every edit
+abbrev pub Passed : Sheet → Edit → List Change → Type 0
+Passed s (Pixels tool) cs = PixelsFit s cs
+Passed s (PaletteSet i old new lab) cs = i < s .k
+Passed s (PaletteAdd c) cs = s .k < maxEntries
+Passed s (PaletteRemove i c lab) cs = RemoveFits s i cs
+
+pub passed : (replay : Bool) (s : Sheet) (p : Permitted) (e : Edit) (cs : List Change) → firstOf (ownChecks replay s p e cs) ≡ 0 → Passed s e cs
+unfolding ownChecks
+passed replay s p (Pixels tool) cs e = pixels-fit replay s cs e
+passed replay s p (PaletteSet i old new lab) cs e = leb-false (s .k) i (past (noSuchEntry when leb (s .k) i) _ (omega arith) e .off)
+passed replay s p (PaletteAdd c) cs e = leb-false maxEntries (s .k) (past (paletteFull when leb maxEntries (s .k)) _ (omega arith) e .off)
+passed replay s p (PaletteRemove i c lab) cs e =
+    let a = past (noSuchEntry when leb (s .k) i) _ (omega arith) e in
+    let b = past (lastEntry when ltb (s .k) 2) _ (omega arith) (a .rest) in
+    let d = past-both (flatMap (remapChecks s i) cs) _ (past _ _ (omega arith) (b .rest) .rest) in
+    record {
+      entry = leb-false (s .k) i (a .off);
+      two = ltb-false (s .k) 2 (b .off);
+      remap = remap s i cs (d .left);
+      none-left = past (stillUsed when leftFrom (s .w) i cs 0 (s .indices)) [] (omega arith) (d .right) .off;
+    }
+
+-- ---- what replay accepts, where it looks at the olds, push accepts
+replayed : (s : Sheet) (cs : List Change) → firstOf (flatMap (pixelChecks true s) cs) ≡ 0 → firstOf (flatMap (pixelChecks false s) cs) ≡ 0
+unfolding pixelChecks flatMap
+replayed s [] e = e
+replayed s (c ∷ cs) e =
+    let a = past (offTheSheet when outside (s .w) (s .h) c) _ (omega arith) e in
+    let b = past (noSuchIndex when stray (s .k) (c .new)) _ (omega arith) (a .rest) in
+    skip _ _ (a .off) ∙ skip _ _ (b .off) ∙ skip _ _ refl ∙ replayed s cs (past _ _ (omega arith) (b .rest) .rest)
+
+pub replay-unrefused : (s : Sheet) (p : Permitted) (e : Edit) (cs : List Change)
+    → firstOf (ownChecks true s p e cs) ≡ 0 → firstOf (ownChecks false s p e cs) ≡ 0
+unfolding ownChecks
+replay-unrefused s p (Pixels tool) cs e = replayed s cs e
+replay-unrefused s p (PaletteSet i old new lab) cs e =
+    let a = past (noSuchEntry when leb (s .k) i) _ (omega arith) e in
+    skip _ _ (a .off) ∙ skip _ _ refl ∙ past _ _ (omega arith) (a .rest) .rest
+replay-unrefused s p (PaletteAdd c) cs e = e
+replay-unrefused s p (PaletteRemove i c lab) cs e =
+    let a = past (noSuchEntry when leb (s .k) i) _ (omega arith) e in
+    let b = past (lastEntry when ltb (s .k) 2) _ (omega arith) (a .rest) in
+    skip _ _ (a .off) ∙ skip _ _ (b .off) ∙ skip _ _ refl ∙ past _ _ (omega arith) (b .rest) .rest

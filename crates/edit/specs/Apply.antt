@@ -1,0 +1,88 @@
+-- What `redo` and `revert` of op.rs make of a sheet, and the picture that the ledger appends. Definitions only. Assumes nothing.
+use Prim.Native.Nat.{ℕ, suc, _-_, _*_}
+use mathlib.Core.Bool.{Bool, false, not, _&&_}
+use mathlib.Core.List.{List, _++_, map}
+use lib.Dec.{ltb, leb, eqb}
+use lib.IntN.{ℤ}
+use lib.Ieee.{Float}
+use lib.ListN.{length}
+use Rattle.base_limits.specs.declared.Rgb.{Rgb}
+use Rattle.base_limits.specs.declared.Lab.{Lab}
+use Rattle.base_lists.specs.Lists.{some}
+use Rattle.sheet.specs.Sheet.{Sheet, Picture, sheetOf}
+use Rattle.base_storage.specs.Triples.{rgbAt, labAt}
+use Rattle.edit.specs.declared.Edit.{Edit}
+use Rattle.edit.specs.declared.Edit.the-variants.{Pixels, PaletteSet, PaletteAdd, PaletteRemove}
+use Rattle.edit.specs.Change.{Change, outside, painted, newOf, oldOf, filledIn}
+use Rattle.edit.specs.Storage.{bytesOf, numbersOf, stored, closed, opened, cut, lowered, raised}
+
+-- ---- "an empty pixel list"; "a removal with no remap is not empty"
+unfoldable pub noPixels : Edit → List Change → Bool
+noPixels (Pixels tool) cs = eqb (length cs) 0
+noPixels (PaletteSet i old new lab) cs = false
+noPixels (PaletteAdd c) cs = false
+noPixels (PaletteRemove i c lab) cs = false
+
+-- the sheet with other indices; with another palette count, palette and LAB
+abbrev pub withIndices : Sheet → List ℤ → Sheet
+withIndices s l = sheetOf (s .w) (s .h) (s .k) (s .palette) (s .lab) l
+
+abbrev pub withEntries : Sheet → ℕ → List ℕ → List Float → Sheet
+withEntries s k palette lab = sheetOf (s .w) (s .h) k palette lab (s .indices)
+
+-- `apply`: "fills old values in the record (the caller's list is only read)"; a removal's olds are the caller's, the index by 12
+unfoldable pub filledEdit : Sheet → Edit → Edit
+filledEdit s (Pixels tool) = Pixels tool
+filledEdit s (PaletteSet i old new lab) = PaletteSet i (rgbAt (s .palette) i) new (labAt (s .lab) i)
+filledEdit s (PaletteAdd c) = PaletteAdd c
+filledEdit s (PaletteRemove i c lab) = PaletteRemove i (rgbAt (s .palette) i) (labAt (s .lab) i)
+
+unfoldable pub filledChanges : Sheet → Edit → List Change → List Change
+filledChanges s (Pixels tool) cs = map (filledIn (s .w) (s .indices)) cs
+filledChanges s (PaletteSet i old new lab) cs = cs
+filledChanges s (PaletteAdd c) cs = cs
+filledChanges s (PaletteRemove i c lab) cs = cs
+
+module _ (curve : Rgb → Lab) where
+  -- `redo`. "Remove repaints the remap, lowers every index above the entry by one, closes the palette gap."
+  unfoldable pub redone : Sheet → Edit → List Change → Sheet
+  redone s (Pixels tool) cs = withIndices s (painted newOf (s .w) cs (s .indices))
+  redone s (PaletteSet i old new lab) cs = withEntries s (s .k) (stored (3 * i) (bytesOf new) (s .palette)) (stored (3 * i) (numbersOf (curve new)) (s .lab))
+  redone s (PaletteAdd c) cs =
+      withEntries s (suc (s .k)) (stored (3 * s .k) (bytesOf c) (s .palette)) (stored (3 * s .k) (numbersOf (curve c)) (s .lab))
+  redone s (PaletteRemove i c lab) cs =
+      withEntries (withIndices s (map (lowered i) (painted newOf (s .w) cs (s .indices)))) (s .k - 1) (closed (3 * i) (3 * s .k) (s .palette)) (closed (3 * i) (3 * s .k) (s .lab))
+
+  -- the ledger: "pixels paint each new at its place, in list order; set gives the entry the colour and its LAB; add appends both; remove paints likewise,
+  -- lowers every index above the entry by one, takes the entry out"
+  unfoldable pub nextPicture : Picture → Edit → List Change → Picture
+  nextPicture p (Pixels tool) cs =
+      record { w = p .w; h = p .h; k = p .k; indices = painted newOf (p .w) cs (p .indices); colours = p .colours; labs = p .labs }
+  nextPicture p (PaletteSet i old new lab) cs =
+      record { w = p .w; h = p .h; k = p .k; indices = p .indices; colours = stored (3 * i) (bytesOf new) (p .colours); labs = stored (3 * i) (numbersOf (curve new)) (p .labs) }
+  nextPicture p (PaletteAdd c) cs =
+      record { w = p .w; h = p .h; k = suc (p .k); indices = p .indices; colours = p .colours ++ bytesOf c; labs = p .labs ++ numbersOf (curve c) }
+  nextPicture p (PaletteRemove i c lab) cs =
+      record {
+        w = p .w;
+        h = p .h;
+        k = p .k - 1;
+        indices = map (lowered i) (painted newOf (p .w) cs (p .indices));
+        colours = cut (3 * i) (p .colours);
+        labs = cut (3 * i) (p .labs);
+      }
+
+-- `revert` raises indices ≥ the entry, paints olds, reinserts colour and stored LAB bits
+unfoldable pub reverted : Sheet → Edit → List Change → Sheet
+reverted s (Pixels tool) cs = withIndices s (painted oldOf (s .w) cs (s .indices))
+reverted s (PaletteSet i old new lab) cs = withEntries s (s .k) (stored (3 * i) (bytesOf old) (s .palette)) (stored (3 * i) (numbersOf lab) (s .lab))
+reverted s (PaletteAdd c) cs = withEntries s (s .k - 1) (s .palette) (s .lab)
+reverted s (PaletteRemove i c lab) cs =
+    withEntries (withIndices s (painted oldOf (s .w) cs (map (raised i) (s .indices)))) (suc (s .k)) (opened (3 * i) (3 * s .k) (bytesOf c) (s .palette)) (opened (3 * i) (3 * s .k) (numbersOf lab) (s .lab))
+
+-- `can_revert` of document.rs
+unfoldable pub canRevert : Sheet → Edit → List Change → Bool
+canRevert s (Pixels tool) cs = not (some (outside (s .w) (s .h)) cs)
+canRevert s (PaletteSet i old new lab) cs = ltb i (s .k)
+canRevert s (PaletteAdd c) cs = ltb 0 (s .k)
+canRevert s (PaletteRemove i c lab) cs = leb i (s .k) && not (some (outside (s .w) (s .h)) cs)

@@ -1,0 +1,35 @@
+-- `store_entry`: two stores. Assumes nothing.
+use borrow.Author.Needs.{needs}
+use Rattle.edit_apply.proofs.redo.store_entry.Statement.{statement}
+use Rattle.edit_apply.proofs.redo.store_entry.Tie as tie
+
+store-rgb-requires : tie.Need-store-rgb-requires
+store-rgb-requires c κs = search needs
+
+rgb8-to-lab-requires : tie.Need-rgb8-to-lab-requires
+rgb8-to-lab-requires c κs = search needs
+
+store-lab-requires : tie.Need-store-lab-requires
+store-lab-requires c κs = search needs
+
+same-length : tie.Need-same-length
+same-length c = search needs
+
+same-length-2 : tie.Need-same-length-2
+same-length-2 c = search needs
+
+returns : tie.Need-returns
+returns c =
+    let lab = c .before .before in
+    (lab .before .before .before .before .before .store-rgb .ensures, rw (lab .before .rgb8-to-lab .ensures .value) at (lab .store-lab .ensures))
+
+pub store-entry-spec : {M : Type 1} → statement M
+store-entry-spec =
+    tie.close
+    (tie.spec
+    store-rgb-requires
+    rgb8-to-lab-requires
+    store-lab-requires
+    same-length
+    same-length-2
+    returns)

@@ -1,0 +1,33 @@
+-- What filling an edit in and redoing it ask of their callers. Definitions only. Assumes nothing.
+use mathlib.Core.Path.{_≡_}
+use mathlib.Core.Bool.{Bool}
+use mathlib.Core.List.{List}
+use Prim.Native.Nat.{ℕ, _+_, _*_, _≤_}
+use lib.IntN.{ℤ}
+use lib.Ieee.{Float}
+use Rattle.base_limits.specs.Checks.{firstOf}
+use Rattle.sheet.specs.Sheet.{Sheet, sheetOf}
+use Rattle.sheet.specs.Checks.{Limits}
+use Rattle.edit.specs.declared.Edit.{Edit}
+use Rattle.edit.specs.declared.Edit.the-variants.{Pixels, PaletteSet, PaletteAdd, PaletteRemove}
+use Rattle.edit.specs.Change.{Change}
+use Rattle.edit.specs.Checks.{Permitted, ownChecks}
+
+-- the entry that an edit names, where it names one, lies in storage of n numbers
+unfoldable pub EntryIn : ℕ → Edit → Type 0
+EntryIn n (Pixels tool) = Unit {0}
+EntryIn n (PaletteSet i old new lab) = 3 * i + 3 ≤ n
+EntryIn n (PaletteAdd c) = Unit {0}
+EntryIn n (PaletteRemove i c lab) = 3 * i + 3 ≤ n
+
+-- an edit that its own checks do not refuse: push's or replay's, with any colours permitted
+pub record Unrefused (s : Sheet) (e : Edit) (cs : List Change) : Type 0 where
+  pub replay : Bool
+  pub permitted : Permitted
+  pub passes : firstOf (ownChecks replay s permitted e cs) ≡ 0
+
+-- such an edit of a sheet that keeps to the limits; its height is not handed on, since no step looks at it
+pub record Redoable (w k : ℕ) (palette : List ℕ) (lab : List Float) (indices : List ℤ) (e : Edit) (cs : List Change) : Type 0 where
+  pub h : ℕ
+  pub limits : Limits (sheetOf w h k palette lab indices)
+  pub unrefused : Unrefused (sheetOf w h k palette lab indices) e cs

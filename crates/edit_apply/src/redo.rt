@@ -1,0 +1,139 @@
+// An edit that no check refuses: its record filled in, and the edit done.
+use base_limits::Rgb;
+use base_storage::lab_at;
+use base_storage::rgb_at;
+use color::rgb8_to_lab;
+use edit::Edit;
+use edit_entries::close_lab_gap;
+use edit_entries::close_palette_gap;
+use edit_entries::store_lab;
+use edit_entries::store_rgb;
+use edit_pixels::paint_news;
+use edit_renumber::lower_above;
+ghost use mathlib.Core.Path.{_≡_};
+ghost use mathlib.Core.Bool.{false};
+ghost use mathlib.Core.List.{List, map};
+ghost use Prim.Native.Nat.{ℕ, _+_, _*_, _<_, _≤_};
+ghost use lib.IntN.{ℤ};
+ghost use lib.ListN.{length};
+ghost use Rattle.base_lists.specs.Lists.{some};
+ghost use Rattle.color_lab.specs.Convert.{labOf};
+ghost use Rattle.sheet.specs.Sheet.{sheetOf};
+ghost use Rattle.edit.specs.Change.{unpacked, painted, newOf};
+ghost use Rattle.edit.specs.Storage.{bytesOf, numbersOf, stored, closed, lowered};
+ghost use Rattle.edit.specs.Apply.{filledEdit, redone};
+ghost use Rattle.edit_pixels.specs.Inside.{past};
+ghost use Rattle.edit_apply.specs.Redoable.{EntryIn, Redoable};
+
+// The edit with the colour and the LAB that its entry has now, as the journal keeps it.
+pub fn fill_edit(palette: &[u8], lab: &[f64], edit: Edit) -> Edit
+    requires { ⌜ EntryIn (length (now palette)) edit × EntryIn (length (now lab)) edit ⌝ }
+    ensures { λ r. ⌜ ((w h k : ℕ) (indices : List ℤ) → r ≡ filledEdit (sheetOf w h k (now (palette .entry)) (now (lab .entry)) indices) edit) ⌝ }
+{
+    match edit {
+        Edit::Pixels { tool: _ } => edit,
+        Edit::PaletteSet {
+            index,
+            old: _,
+            new,
+            old_lab: _,
+        } => {
+            let old = rgb_at(palette, index);
+            let old_lab = lab_at(lab, index);
+            Edit::PaletteSet {
+                index,
+                old,
+                new,
+                old_lab,
+            }
+        }
+        Edit::PaletteAdd { rgb: _ } => edit,
+        Edit::PaletteRemove {
+            index,
+            rgb: _,
+            lab: _,
+        } => {
+            let rgb = rgb_at(palette, index);
+            let old_lab = lab_at(lab, index);
+            Edit::PaletteRemove {
+                index,
+                rgb,
+                lab: old_lab,
+            }
+        }
+    }
+}
+
+// Gives entry i a colour, and the LAB of that colour.
+pub fn store_entry(palette: &mut [u8], lab: &mut [f64], i: usize, c: Rgb)
+    requires { ⌜ (3 * i + 3 ≤ length (now palette)) × (3 * i + 3 ≤ length (now lab)) ⌝ }
+    ensures { λ _. ⌜ now (palette .exit) ≡ stored (3 * i) (bytesOf c) (now (palette .entry)) ⌝ }
+    ensures { λ _. ⌜ now (lab .exit) ≡ stored (3 * i) (numbersOf (labOf c)) (now (lab .entry)) ⌝ }
+{
+    store_rgb(palette, i, c);
+    store_lab(lab, i, rgb8_to_lab(c));
+}
+
+// Paints the remap, lowers every index above the entry by one, and takes the entry out of k.
+fn remove_entry(
+    w: usize,
+    k: usize,
+    palette: &mut [u8],
+    lab: &mut [f64],
+    indices: &mut [i16],
+    index: usize,
+    list: &[u64],
+)
+    requires { ⌜ (index < k) × (k ≤ 255) × (3 * k ≤ length (now palette)) × (3 * k ≤ length (now lab)) ⌝ }
+    requires { ⌜ some (past w (length (now indices))) (map unpacked (now list)) ≡ false ⌝ }
+    ensures { λ _. ⌜ now (palette .exit) ≡ closed (3 * index) (3 * k) (now (palette .entry)) ⌝ }
+    ensures { λ _. ⌜ now (lab .exit) ≡ closed (3 * index) (3 * k) (now (lab .entry)) ⌝ }
+    ensures { λ _. ⌜ now (indices .exit) ≡ map (lowered index) (painted newOf w (map unpacked (now (list .entry))) (now (indices .entry))) ⌝ }
+{
+    paint_news(indices, w, list);
+    lower_above(indices, index);
+    close_palette_gap(palette, index, k);
+    close_lab_gap(lab, index, k);
+}
+
+// Does an edit to a sheet of any height, and answers the palette count after it.
+pub fn redo_edit(
+    w: usize,
+    k: usize,
+    palette: &mut [u8],
+    lab: &mut [f64],
+    indices: &mut [i16],
+    edit: Edit,
+    list: &[u64],
+) -> usize
+    requires { ⌜ Redoable w k (now palette) (now lab) (now indices) edit (map unpacked (now list)) ⌝ }
+    ensures { λ r. ⌜ ((h : ℕ) → sheetOf w h r (now (palette .exit)) (now (lab .exit)) (now (indices .exit)) ≡ redone labOf (sheetOf w h k (now (palette .entry)) (now (lab .entry)) (now (indices .entry))) edit (map unpacked (now (list .entry)))) ⌝ }
+{
+    match edit {
+        Edit::Pixels { tool: _ } => {
+            paint_news(indices, w, list);
+            k
+        }
+        Edit::PaletteSet {
+            index,
+            old: _,
+            new,
+            old_lab: _,
+        } => {
+            store_entry(palette, lab, index, new);
+            k
+        }
+        Edit::PaletteAdd { rgb } => {
+            store_entry(palette, lab, k, rgb);
+            k + 1
+        }
+        Edit::PaletteRemove {
+            index,
+            rgb: _,
+            lab: _,
+        } => {
+            remove_entry(w, k, palette, lab, indices, index, list);
+            k - 1
+        }
+    }
+}

@@ -1,0 +1,148 @@
+// The checks of an edit, in document 01's order: one function a kind.
+use base_limits::COLOUR_NOT_PERMITTED;
+use base_limits::LAST_ENTRY;
+use base_limits::MAX_ENTRIES;
+use base_limits::NO_SUCH_ENTRY;
+use base_limits::PALETTE_FULL;
+use base_limits::Rgb;
+use base_limits::STALE;
+use edit::Edit;
+use edit_entries::check_color;
+use edit_entries::has_rgb;
+use edit_pixels::both;
+use edit_pixels::pixels_no;
+use edit_remap::removal_no;
+ghost use mathlib.Core.Path.{_≡_};
+ghost use mathlib.Core.Bool.{Bool, not, _&&_};
+ghost use mathlib.Core.List.{List, map};
+ghost use Prim.Native.Nat.{ℕ, _+_, _*_, _≤_};
+ghost use lib.IntN.{ℤ};
+ghost use lib.Ieee.{Float};
+ghost use lib.ListN.{length};
+ghost use Rattle.base_limits.specs.Checks.{firstOf};
+ghost use Rattle.base_limits.specs.declared.Lab.{Lab};
+ghost use Rattle.sheet.specs.Sheet.{sheetOf};
+ghost use Rattle.base_storage.specs.Triples.{rgbAt};
+ghost use Rattle.edit.specs.declared.Edit.the-variants.{PaletteSet, PaletteAdd, PaletteRemove};
+ghost use Rattle.edit.specs.Change.{Change, unpacked};
+ghost use Rattle.edit.specs.Checks.{Permitted, permittedOf, sameRgb, ownChecks};
+
+// Number 11 of an entry: on replay, whether its colour is not the one that the edit says.
+pub fn is_stale(palette: &[u8], index: usize, c: Rgb, replay: bool) -> bool
+    requires { ⌜ 3 * index + 3 ≤ length (now palette) ⌝ }
+    ensures { λ r. ⌜ r ≡ replay && not (sameRgb (rgbAt (now (palette .entry)) index) c) ⌝ }
+{
+    both(replay, !has_rgb(palette, index, c))
+}
+
+// The number of the first check that applies to a set, or 0: "7, 11, 10".
+pub fn set_no(
+    k: usize,
+    palette: &[u8],
+    limited: bool,
+    permitted: &[u8],
+    index: usize,
+    old: Rgb,
+    new: Rgb,
+    replay: bool,
+) -> u8
+    requires { ⌜ (k ≤ 255) × (length (now palette) ≡ 765) ⌝ }
+    ensures { λ r. ⌜ ((w h : ℕ) (lab : List Float) (indices : List ℤ) (x : Lab) (cs : List Change) → r ≡ firstOf (ownChecks replay (sheetOf w h k (now (palette .entry)) lab indices) (permittedOf limited (now (permitted .entry))) (PaletteSet index old new x) cs)) ⌝ }
+{
+    if k <= index {
+        return NO_SUCH_ENTRY;
+    }
+    if is_stale(palette, index, old, replay) {
+        return STALE;
+    }
+    if check_color(limited, permitted, new) {
+        return COLOUR_NOT_PERMITTED;
+    }
+    0
+}
+
+// The number of the first check that applies to an add, or 0: "8, 10".
+pub fn add_no(k: usize, limited: bool, permitted: &[u8], c: Rgb) -> u8
+    ensures { λ r. ⌜ ((w h : ℕ) (palette : List ℕ) (lab : List Float) (indices : List ℤ) (replay : Bool) (cs : List Change) → r ≡ firstOf (ownChecks replay (sheetOf w h k palette lab indices) (permittedOf limited (now (permitted .entry))) (PaletteAdd c) cs)) ⌝ }
+{
+    if MAX_ENTRIES <= k {
+        return PALETTE_FULL;
+    }
+    if check_color(limited, permitted, c) {
+        return COLOUR_NOT_PERMITTED;
+    }
+    0
+}
+
+// The number of the first check that applies to a removal, or 0: "7, 9, 11, per change 5, 12, then 13".
+fn remove_no(
+    w: usize,
+    h: usize,
+    k: usize,
+    palette: &[u8],
+    indices: &[i16],
+    index: usize,
+    c: Rgb,
+    list: &[u64],
+    marks: &mut [u8],
+    replay: bool,
+) -> u8
+    requires { ⌜ (k ≤ 255) × (length (now palette) ≡ 765) ⌝ }
+    requires { ⌜ (length (now indices) ≡ w * h) × (w * h ≤ length (now marks)) ⌝ }
+    ensures { λ r. ⌜ ((lab : List Float) (p : Permitted) (x : Lab) → r ≡ firstOf (ownChecks replay (sheetOf w h k (now (palette .entry)) lab (now (indices .entry))) p (PaletteRemove index c x) (map unpacked (now (list .entry))))) ⌝ }
+{
+    if k <= index {
+        return NO_SUCH_ENTRY;
+    }
+    if k < 2 {
+        return LAST_ENTRY;
+    }
+    if is_stale(palette, index, c, replay) {
+        return STALE;
+    }
+    let n = indices.len();
+    removal_no(w, h, k, index, indices, list, &mut marks[..n])
+}
+
+// The number of the first check that applies to an edit and its list, or 0. The olds are looked at on
+// replay alone. The marks are scratch, at least a byte a pixel.
+pub fn own_no(
+    w: usize,
+    h: usize,
+    k: usize,
+    palette: &[u8],
+    indices: &[i16],
+    limited: bool,
+    permitted: &[u8],
+    edit: Edit,
+    list: &[u64],
+    marks: &mut [u8],
+    replay: bool,
+) -> u8
+    requires { ⌜ (k ≤ 255) × (length (now palette) ≡ 765) ⌝ }
+    requires { ⌜ (length (now indices) ≡ w * h) × (w * h ≤ length (now marks)) ⌝ }
+    ensures { λ r. ⌜ ((lab : List Float) → r ≡ firstOf (ownChecks replay (sheetOf w h k (now (palette .entry)) lab (now (indices .entry))) (permittedOf limited (now (permitted .entry))) edit (map unpacked (now (list .entry))))) ⌝ }
+{
+    match edit {
+        Edit::Pixels { tool: _ } => pixels_no(w, h, k, indices, list, replay),
+        Edit::PaletteSet {
+            index,
+            old,
+            new,
+            old_lab: _,
+        } => set_no(k, palette, limited, permitted, index, old, new, replay),
+        Edit::PaletteAdd { rgb } => add_no(k, limited, permitted, rgb),
+        Edit::PaletteRemove { index, rgb, lab: _ } => remove_no(
+            w,
+            h,
+            k,
+            palette,
+            indices,
+            index,
+            rgb,
+            list,
+            marks,
+            replay,
+        ),
+    }
+}

@@ -1,0 +1,53 @@
+-- Entries stored, taken out and put back, where a callee did its part on `&mut l[at..]`. Assumes nothing.
+use mathlib.Core.Path.{_≡_, sym, ap, _∙_}
+use mathlib.Core.List.{List, [], _∷_, _++_, append-assoc, append-nil}
+use Prim.Native.Nat.{ℕ, _+_, _-_, _≤_}
+use native.Mathlib.Omega.{arith}
+use native.Mathlib.Numerals.{add-one, add-two}
+use borrow.Rule.Slice.PartMut.{putMid}
+use lib.ListN.{length, take, drop, set, length-drop, length-take, drop-of-length-le}
+use lib.Seq.{drop-drop, take-all, take-at, drop-at, drop-append-add, length-take-le, sets-eq}
+use Rattle.edit.specs.Storage.{stored, closed, opened}
+use Rattle.edit_entries.proofs.Gaps.{drop-take}
+
+module _ {A : Type 0} where
+  -- three stores
+  pub stored-is : (l : List A) (at : ℕ) (a b c : A) → at + 3 ≤ length l → set (set (set l at a) (at + 1) b) (at + 2) c ≡ stored at (a ∷ b ∷ c ∷ []) l
+  unfolding stored
+  stored-is l at a b c h = rw (add-one, add-two) (sets-eq (a ∷ b ∷ c ∷ []) l at h ∙ append-assoc (take at l) (a ∷ b ∷ c ∷ []) (drop (at + 3) l))
+
+  -- an entry stored where one was put in
+  pub stored-opened : (l m u v : List A) (at n : ℕ) → at ≤ length l → length u ≡ 3 → m ≡ opened at n u l → stored at v m ≡ opened at n v l
+  unfolding stored opened
+  stored-opened l m u v at n h e q =
+      let S : List A = drop at (take n l) ++ drop (n + 3) l in
+      let k : length (take at l) ≡ at = length-take-le at l h in
+      let front : take at (take at l ++ (u ++ S)) ≡ take at l = take-at (take at l) (u ++ S) at k in
+      let rest : drop (at + 3) (take at l ++ (u ++ S)) ≡ S =
+      ap (λ (i : ℕ). drop (i + 3) (take at l ++ (u ++ S))) (sym k) ∙ drop-append-add (take at l) (u ++ S) 3 ∙ drop-at u S 3 e in
+      rw (q, front, rest)
+
+  module _ (l : List A) (at : ℕ) (h : at ≤ length l) where
+    -- the part that is lent is all from `at` on
+    lent : take (length l - at) (drop at l) ≡ drop at l
+    lent = take-all (length l - at) (drop at l) (simp length-drop (omega arith))
+
+    given-back : (ys : List A) → putMid at (length l - at) l ys ≡ take at l ++ ys
+    given-back ys =
+        let none : drop (length l - at) (drop at l) ≡ [] = drop-of-length-le (drop at l) {i = length l - at} (simp length-drop (omega arith)) in
+        rw (none, append-nil ys)
+
+    pub closed-part : (n : ℕ) (ys : List A) → at + 3 ≤ n → ys ≡ closed 0 (n - at) (take (length l - at) (drop at l)) → putMid at (length l - at) l ys ≡ closed at n l
+    unfolding closed
+    closed-part n ys k e =
+        let q : at + (n - at - 3) ≡ n - 3 = omega arith in
+        given-back ys ∙ rw (e, lent, ← drop-take at n l, drop-drop 3 at (take n l), drop-drop (n - at - 3) at l, q)
+
+    pub opened-part : (n : ℕ) (ys : List A) → at ≤ n → (let d = take (length l - at) (drop at l) in ys ≡ opened 0 (n - at) (take 3 d) d) → putMid at (length l - at) l ys ≡ opened at n (take 3 (drop at l)) l
+    unfolding opened
+    opened-part n ys k e =
+        let q : at + (n - at + 3) ≡ n + 3 = omega arith in
+        given-back ys ∙ rw (e, lent, ← drop-take at n l, drop-drop (n - at + 3) at l, q)
+
+    pub three : at + 3 ≤ length l → length (take 3 (drop at l)) ≡ 3
+    three k = simp (length-take, length-drop) (omega arith)

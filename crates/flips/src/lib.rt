@@ -1,4 +1,0 @@
-// `flip` of tiles.rs, which the crate tiles offers: a tile flipped over the front of a buffer.
-mod flips;
-
-pub use flips::flip;

@@ -1,0 +1,89 @@
+-- A call is answered "journal full" exactly where it is a push and 14 is the first check to apply. Assumes nothing.
+use mathlib.Core.Path.{_≡_}
+use mathlib.Core.Bool.{Bool, cond}
+use mathlib.Core.List.{[], _∷_}
+use mathlib.Core.Option.{Option, none, some}
+use Prim.Native.Nat.{ℕ}
+use lib.ListN.{length}
+use lib.Dec.{ltb, eqb}
+use borrow.Author.Tests.{lt-ltb, le-ltb, ltb-true, ltb-false, not-false}
+use Rattle.base_limits.specs.Numbers.{journalDamaged, journalFull, noSpace, listTooLong}
+use Rattle.base_limits.specs.Checks.{firstOf, refusedOr}
+use Rattle.base_limits.specs.declared.Answer.the-variants.{Refused}
+use Rattle.history_ledger.specs.declared.Handle.{Handle}
+use Rattle.history_ledger.specs.Calls.{Outcome, guarded}
+use Rattle.history_ledger.specs.Calls.Call.{push, undo, redo, mark}
+use Rattle.history_ledger.specs.Algebra.{Algebra, Reading}
+use Rattle.history_ledger.specs.Laws.{Laws}
+use Rattle.history_ledger.specs.Journal.{State, shortScratch, entryChecks, pushChecks, pushOf, over, moveChecks, undoOf, redoOf, markOf}
+use Rattle.history_ledger.specs.Demand.{FullFirst, FullExactly}
+use Rattle.history_ledger.proofs.Refusals.{one, four, sixteen, twenty-one, when-other, when-passes, when-full, first-other, each-passes, done-other, same-number, still-full, guarded-full, done-full}
+
+module _ (A : Algebra) (L : Laws A) where
+  open Algebra A using (Sheet, Edit, view, places, ownCheck, isEmpty, isLong)
+
+  to-first : (room : ℕ) (st : State A) (e : Edit) → pushOf A room st e .answer ≡ Refused journalFull → FullFirst A room st e
+  unfolding pushOf firstOf
+  to-first room st e p =
+      let a = guarded-full st (entryChecks A st e) _ (one, (L .given-not-full e, (L .sheet-not-full (st .sheet), (four, tt)))) p in
+      let b = still-full st (isEmpty e) _ (a .1) in
+      let c = done-full _ (pushChecks A room st e) _ (b .1) in
+      let entry = each-passes (entryChecks A st e) (a .0) in
+      let long = first-other (cond (isLong e) listTooLong 0) _ (when-other listTooLong (isLong e) twenty-one) c in
+      let scratch = first-other (cond (ltb room (places (view (st .sheet)))) noSpace 0) _ (when-other noSpace (ltb room (places (view (st .sheet)))) sixteen) (long .1) in
+      let own = first-other (ownCheck (view (st .sheet)) e) _ (L .own-not-full (view (st .sheet)) e) (scratch .1) in
+      record {
+        permitted = ltb-false _ _ (when-passes _ _ (entry .0));
+        given-passes = entry .1 .0;
+        sheet-passes = entry .1 .1 .0;
+        handle-sound = not-false _ (when-passes _ _ (entry .1 .1 .1 .0));
+        not-empty = b .0;
+        not-long = when-passes _ _ (long .0);
+        scratch = ltb-false _ _ (when-passes _ _ (scratch .0));
+        own-passes = own .0;
+        does-not-fit = ltb-true _ _ (when-full _ (own .1));
+      }
+
+  from-first : (room : ℕ) (st : State A) (e : Edit) → FullFirst A room st e → pushOf A room st e .answer ≡ Refused journalFull
+  unfolding pushOf firstOf refusedOr
+  from-first room st e f =
+      rw (
+        le-ltb _ _ (f .permitted),
+        f .given-passes,
+        f .sheet-passes,
+        f .handle-sound,
+        f .not-empty,
+        f .not-long,
+        le-ltb _ _ (f .scratch),
+        f .own-passes,
+        lt-ltb _ _ (f .does-not-fit),
+      )
+
+  over-other : (st : State A) (reading : Option (Reading Sheet)) (inside : ℕ → Bool) (stepped : ℕ → Handle → Handle)
+      → ¬ (over A st reading inside stepped .answer ≡ Refused journalFull)
+  unfolding over
+  over-other st none inside stepped e = four (same-number journalDamaged journalFull e)
+  over-other st (some r) inside stepped e = done-other (guarded-full st _ _ (four, (four, tt)) e .1)
+
+  move-full : (st : State A) (o : Outcome (State A)) → guarded st (moveChecks A st) o .answer ≡ Refused journalFull → o .answer ≡ Refused journalFull
+  move-full st o e = guarded-full st _ o (one, (L .sheet-not-full (st .sheet), (four, tt))) e .1
+
+  undo-other : (st : State A) → ¬ (undoOf A st .answer ≡ Refused journalFull)
+  unfolding undoOf
+  undo-other st e = over-other st _ _ _ (still-full st (eqb (st .handle .position) 0) _ (move-full st _ e) .1)
+
+  redo-other : (room : ℕ) (st : State A) → ¬ (redoOf A room st .answer ≡ Refused journalFull)
+  unfolding redoOf
+  redo-other room st e =
+      let a = still-full st (eqb (st .handle .position) (st .handle .count)) _ (move-full st _ e) in
+      over-other st _ _ _ (guarded-full st (shortScratch A room st ∷ []) _ (sixteen, tt) (a .1) .1)
+
+  mark-other : (n : ℕ) (h : Handle) → ¬ (markOf n h .answer ≡ Refused journalFull)
+  unfolding markOf
+  mark-other n h e = done-other (guarded-full h _ _ (one, (four, tt)) e .1)
+
+  pub full-exactly : FullExactly A
+  full-exactly room st (push e) = (to-first room st e, from-first room st e)
+  full-exactly room st undo = (undo-other st, λ z. absurd z)
+  full-exactly room st redo = (redo-other room st, λ z. absurd z)
+  full-exactly room st mark = (mark-other (length (st .journal)) (st .handle), λ z. absurd z)

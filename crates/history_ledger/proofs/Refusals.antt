@@ -1,0 +1,108 @@
+-- Where an answer "journal full" comes from: from the first check that applies, or from what comes after the checks. Assumes nothing.
+use mathlib.Core.Path.{_≡_, refl, ap}
+use mathlib.Core.Bool.{Bool, true, false, cond}
+use mathlib.Core.List.{List, [], _∷_}
+use mathlib.Core.Logic.{_⊎_, inl, inr, ⊎-elim}
+use Prim.Native.Nat.{ℕ, zero, suc}
+use native.Mathlib.Omega.{arith}
+use borrow.Author.Tests.{ne-eqb}
+use Rattle.base_limits.specs.Numbers.{badSheet, journalDamaged, journalFull, noSpace, listTooLong}
+use Rattle.base_limits.specs.Checks.{Check, orElse, firstOf, refusedOr}
+use Rattle.base_limits.specs.declared.Answer.{Answer}
+use Rattle.base_limits.specs.declared.Answer.the-variants.{Done, Still, Refused}
+use Rattle.base_limits.proofs.First.{first-passes}
+use Rattle.history_ledger.specs.Calls.{Outcome, done, still, refused, guarded}
+use Rattle.history_ledger.specs.Demand.{isFull}
+
+-- ---- numbers
+-- the numbers that the calls give by themselves are other ones
+pub one : ¬ (badSheet ≡ journalFull)
+one e = omega arith
+
+pub four : ¬ (journalDamaged ≡ journalFull)
+four e = omega arith
+
+pub sixteen : ¬ (noSpace ≡ journalFull)
+sixteen e = omega arith
+
+pub twenty-one : ¬ (listTooLong ≡ journalFull)
+twenty-one e = omega arith
+
+-- the number of a check, 0 where it does not apply
+abbrev pub numberOf : Check → ℕ
+numberOf c = cond (c .applies) (c .number) 0
+
+pub when-other : (n : ℕ) (b : Bool) → ¬ (n ≡ journalFull) → ¬ (cond b n 0 ≡ journalFull)
+when-other n true h e = h e
+when-other n false h e = omega arith
+
+pub when-passes : (n : ℕ) (b : Bool) → cond b (suc n) 0 ≡ 0 → b ≡ false
+when-passes n true e = absurd (omega arith)
+when-passes n false e = refl
+
+pub when-full : (b : Bool) → orElse (cond b journalFull 0) 0 ≡ journalFull → b ≡ true
+when-full true e = refl
+when-full false e = absurd (omega arith)
+
+-- a first number that is not 14 leaves it to the second
+pub first-other : (a b : ℕ) → ¬ (a ≡ journalFull) → orElse a b ≡ journalFull → (a ≡ 0) × (b ≡ journalFull)
+first-other zero b h e = (refl, e)
+first-other (suc a) b h e = absurd (h e)
+
+-- ---- lists of checks
+-- all have another number than 14
+abbrev pub NoneFull : List Check → Type 0
+NoneFull [] = Unit {0}
+NoneFull (c ∷ cs) = (¬ (c .number ≡ journalFull)) × NoneFull cs
+
+none-full : (cs : List Check) → NoneFull cs → ¬ (firstOf cs ≡ journalFull)
+unfolding firstOf
+none-full [] t e = omega arith
+none-full (c ∷ cs) t e = none-full cs (t .1) (first-other (numberOf c) (firstOf cs) (when-other (c .number) (c .applies) (t .0)) e .1)
+
+-- where none applies, each does not
+abbrev pub Each : List Check → Type 0
+Each [] = Unit {0}
+Each (c ∷ cs) = (numberOf c ≡ 0) × Each cs
+
+pub each-passes : (cs : List Check) → firstOf cs ≡ 0 → Each cs
+unfolding firstOf
+each-passes [] e = tt
+each-passes (c ∷ cs) e = let both = first-passes (numberOf c) (firstOf cs) e in (both .0, each-passes cs (both .1))
+
+-- ---- answers
+pub same-number : (m n : ℕ) → Refused m ≡ Refused n → m ≡ n
+same-number m n e = cc
+
+pub done-other : ¬ (Done ≡ Refused journalFull)
+done-other e = let z : _≡_ {A = ℕ} 0 1 = cc in omega arith
+
+still-other : ¬ (Still ≡ Refused journalFull)
+still-other e = let z : _≡_ {A = ℕ} 0 1 = cc in omega arith
+
+pub not-full : (a : Answer) → ¬ (a ≡ Refused journalFull) → isFull a ≡ false
+not-full Done h = refl
+not-full Still h = refl
+not-full (Refused n) h = ne-eqb n journalFull (λ e. h (ap Refused e))
+
+-- ---- outcomes
+module _ {S : Type 0} (s : S) where
+  pub still-full : (b : Bool) (o : Outcome S) → cond b (still s) o .answer ≡ Refused journalFull → (b ≡ false) × (o .answer ≡ Refused journalFull)
+  still-full true o e = absurd (still-other e)
+  still-full false o e = (refl, e)
+
+  guarded-either : (cs : List Check) (o : Outcome S) → guarded s cs o .answer ≡ Refused journalFull
+      → (firstOf cs ≡ journalFull) ⊎ ((firstOf cs ≡ 0) × (o .answer ≡ Refused journalFull))
+  unfolding refusedOr
+  guarded-either cs o e = go (firstOf cs) e
+    where
+      go : (m : ℕ) → refusedOr m (refused s) o .answer ≡ Refused journalFull → (m ≡ journalFull) ⊎ ((m ≡ 0) × (o .answer ≡ Refused journalFull))
+      go zero e = inr (refl, e)
+      go (suc m) e = inl (same-number (suc m) journalFull e)
+
+  pub guarded-full : (cs : List Check) (o : Outcome S) → NoneFull cs → guarded s cs o .answer ≡ Refused journalFull
+      → (firstOf cs ≡ 0) × (o .answer ≡ Refused journalFull)
+  guarded-full cs o t e = ⊎-elim (λ z. absurd (none-full cs t z)) (λ z. z) (guarded-either cs o e)
+
+  pub done-full : (cs : List Check) (s′ : S) → guarded s cs (done s′) .answer ≡ Refused journalFull → firstOf cs ≡ journalFull
+  done-full cs s′ e = ⊎-elim (λ z. z) (λ z. absurd (done-other (z .1))) (guarded-either cs (done s′) e)

@@ -1,0 +1,111 @@
+-- Checks 1 to 4 in order, and what each answer of push is. Assumes nothing.
+use mathlib.Core.Path.{_≡_, refl, sym, _∙_}
+use mathlib.Core.Bool.{Bool, true, false, not, _&&_, _||_, cond}
+use mathlib.Core.List.{List, [], _∷_}
+use Prim.Native.Nat.{ℕ, zero, suc, _*_, _%_, _≤_, _<_}
+use native.Mathlib.Omega.{arith}
+use borrow.Author.Tests.{lt-ltb, le-ltb}
+use lib.Dec.{ltb, eqb}
+use lib.IntN.{ℤ}
+use lib.Ieee.{Float}
+use lib.ListN.{length}
+use Rattle.base_limits.specs.Limits.{maxPermitted, maxJournal}
+use Rattle.base_limits.specs.Checks.{Check, orElse, firstOf}
+use Rattle.base_limits.proofs.First.{refused-first, result-first}
+use Rattle.base_limits.specs.declared.Answer.the-variants.{Still, Refused}
+use Rattle.sheet.specs.Sheet.{sheetOf}
+use Rattle.sheet.specs.Checks.{permittedChecks, Judged}
+use Rattle.history_ledger.specs.declared.Handle.{Handle}
+use Rattle.history_ledger.specs.Calls.{refused, still, done, group}
+use Rattle.history_ledger.specs.Handle.{sound}
+use Rattle.history_ledger.specs.Journal.{State, unsound, entryChecks, pushChecks, pushed, pushOf}
+use Rattle.history_model.specs.Editing.{Given, editing}
+use Rattle.history_model.specs.declared.Moved.{Moved}
+use Rattle.history_model.specs.Calls.{stateOf, leaves, Moves, Enters, Pushes}
+
+one-no : _≡_ {A = ℕ} 1 0 → ⊥
+one-no e = omega arith
+
+four-no : _≡_ {A = ℕ} 4 0 → ⊥
+four-no e = omega arith
+
+pub here : (n : ℕ) (cs : List Check) → (n ≡ 0 → ⊥) → n ≡ firstOf (group n ∷ cs)
+unfolding firstOf
+here zero cs h = absurd (h refl)
+here (suc n) cs h = refl
+
+module _ (st : State editing) where
+  pub moves-long : maxJournal < length (st .journal) → Moves st 1
+  unfolding firstOf
+  moves-long h = record { value = rw (lt-ltb maxJournal (length (st .journal)) h); fine = λ e. absurd (one-no e) }
+
+  module _ (short : length (st .journal) ≤ maxJournal) (n : ℕ) (j : Judged (st .sheet) n) where
+    pub moves-sheet : (n ≡ 0 → ⊥) → Moves st n
+    unfolding firstOf
+    moves-sheet h = record { value = rw (le-ltb maxJournal (length (st .journal)) short, ← j .value) (here n (unsound (length (st .journal)) (st .handle) ∷ []) h); fine = λ e. absurd (h e) }
+
+    pub moves-unsound : n ≡ 0 → sound (length (st .journal)) (st .handle) ≡ false → Moves st 4
+    unfolding firstOf
+    moves-unsound e s = record { value = rw (le-ltb maxJournal (length (st .journal)) short, ← j .value, e, s); fine = λ e. absurd (four-no e) }
+
+    pub moves-fine : n ≡ 0 → sound (length (st .journal)) (st .handle) ≡ true → Moves st 0
+    unfolding firstOf
+    moves-fine e s =
+        record {
+          value = rw (le-ltb maxJournal (length (st .journal)) short, ← j .value, e, s);
+          fine = λ _. record { fits = j .fine e; permitted = short; is-sound = s };
+        }
+
+  -- ---- push: the permitted colours' number is 1, as that of a journal that is too long
+  module _ (g : Given) where
+    pub enters-given : (n : ℕ) → n ≡ editing .givenCheck g → (n ≡ 0 → ⊥) → Enters st g n
+    unfolding firstOf permittedChecks
+    enters-given n e h =
+        let colours = g .permitted .colours in
+        record {
+          value = go (ltb maxJournal (length (st .journal))) (g .permitted .limited && (not (eqb (length colours % 3) 0) || ltb (3 * maxPermitted) (length colours))) _ e;
+          fine = λ z. absurd (h z);
+        }
+      where
+        go : (a b : Bool) (rest : ℕ) → n ≡ orElse (cond b 1 0) 0 → n ≡ orElse (cond a 1 0) (orElse (orElse (cond b 1 0) 0) rest)
+        go true true rest e = e
+        go false true rest e = e
+        go true false rest e = absurd (h e)
+        go false false rest e = absurd (h e)
+
+    pub enters-moves : editing .givenCheck g ≡ 0 → (n : ℕ) → Moves st n → Enters st g n
+    unfolding firstOf
+    enters-moves e n m = record { value = m .value ∙ rw e; fine = m .fine }
+
+    -- ---- the answers
+    module _ (room : ℕ) where
+      pub push-refused : (n : ℕ) → Enters st g n → (n ≡ 0 → ⊥) → refused st n ≡ pushOf editing room st g
+      unfolding pushOf
+      push-refused n e h = refused-first (entryChecks editing st g) (refused st) _ n (e .value) h
+
+      module _ (n : ℕ) (e : Enters st g n) (z : n ≡ 0) where
+        pub push-still : editing .isEmpty g ≡ true → still st ≡ pushOf editing room st g
+        unfolding pushOf
+        push-still b = rw b (result-first (entryChecks editing st g) (refused st) (still st) (sym (e .value) ∙ z))
+
+        pub push-checked : editing .isEmpty g ≡ false → (m : ℕ) → Pushes room st g m → (m ≡ 0 → ⊥) → refused st m ≡ pushOf editing room st g
+        unfolding pushOf
+        push-checked b m p h =
+            refused-first (pushChecks editing room st g) (refused st) (done (pushed editing st g)) m (p .value) h
+            ∙ rw b (result-first (entryChecks editing st g) (refused st) _ (sym (e .value) ∙ z))
+
+        pub push-done : editing .isEmpty g ≡ false → (m : ℕ) → Pushes room st g m → m ≡ 0 → done (pushed editing st g) ≡ pushOf editing room st g
+        unfolding pushOf
+        push-done b m p h =
+            result-first (pushChecks editing room st g) (refused st) (done (pushed editing st g)) (sym (p .value) ∙ h)
+            ∙ rw b (result-first (entryChecks editing st g) (refused st) _ (sym (e .value) ∙ z))
+
+-- ---- an answer that leaves everything as it was
+module _ (m : Moved) (w h k : ℕ) (palette : List ℕ) (lab : List Float) (indices : List ℤ) (journal : List ℕ) (handle : Handle) where
+  pub leaves-refused : (n : ℕ) → (m .answer ≡ Refused n) × (m .k ≡ k) × (m .handle ≡ handle)
+      → leaves m w h palette lab indices journal ≡ refused (stateOf (sheetOf w h k palette lab indices) journal handle) n
+  leaves-refused n e i = record { answer = e .0 i; leaves = stateOf (sheetOf w h (e .1 i) palette lab indices) journal (e .2 i) }
+
+  pub leaves-still : (m .answer ≡ Still) × (m .k ≡ k) × (m .handle ≡ handle)
+      → leaves m w h palette lab indices journal ≡ still (stateOf (sheetOf w h k palette lab indices) journal handle)
+  leaves-still e i = record { answer = e .0 i; leaves = stateOf (sheetOf w h (e .1 i) palette lab indices) journal (e .2 i) }

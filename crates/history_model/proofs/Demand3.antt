@@ -1,0 +1,99 @@
+-- Demand 3 for the calls of this crate. Assumes nothing.
+use mathlib.Core.Path.{_≡_, refl}
+use mathlib.Core.Bool.{Bool, true, false, not}
+use mathlib.Core.List.{List, [], _∷_, map}
+use Prim.Native.Nat.{ℕ, _/_, _^_, _<_}
+use native.Mathlib.Nat.{mod-lt}
+use native.Mathlib.Omega.{arith}
+use mir.Facts.{sfits-toZ}
+use borrow.Author.Tests.{lt-leb}
+use lib.Dec.{T, lit<, leb}
+use lib.Ieee.{Float, binary64, fits}
+use Rattle.base_limits.specs.declared.Rgb.{Rgb}
+use Rattle.base_lists.specs.Lists.{some}
+use Rattle.color_lab.specs.Convert.{labOf}
+use Rattle.color_lab.proofs.Bytes.{lab-of-bytes, lab-fits}
+use Rattle.edit.specs.Change.{unpacked}
+use Rattle.edit.specs.Storage.{numbersOf}
+use Rattle.edit.specs.Accepted.{Bytes, NewBytes}
+use Rattle.journal_write.specs.Fit.{FitChange, FitChanges}
+use Rattle.sheet.specs.Sheet.{view}
+use Rattle.history_ledger.proofs.Whole.{whole-history}
+use Rattle.history_ledger.proofs.Full.{full-exactly}
+use Rattle.history_ledger.specs.Calls.{Call}
+use Rattle.history_ledger.specs.Calls.Call.{push, undo, redo, mark}
+use Rattle.history_ledger.specs.Demand.{TypedCalls}
+use Rattle.history_model.specs.Editing.{editing}
+use Rattle.history_model.specs.Handed.{Byte, Double, Colour, rgbOf, HandedEdit, HandedPush, sheetBy, editBy, callBy}
+use Rattle.history_model.specs.Handed.HandedEdit.{pixels, set, add, remove}
+use Rattle.history_model.specs.Demand3.{Demand3}
+use Rattle.history_model.proofs.Keeps.{Curve, keeps}
+
+double : (b : Bool) → T b → not b ≡ false
+double true h = refl
+double false h = absurd h
+
+doubles : (c : Rgb) → some (λ (v : Float). not (fits binary64 v)) (numbersOf (labOf c)) ≡ false
+unfolding some
+doubles c = let f = lab-fits c in rw (double (fits binary64 (labOf c .l)) (f .l), double (fits binary64 (labOf c .a)) (f .a), double (fits binary64 (labOf c .b)) (f .b))
+
+-- document 01's curve
+curve : Curve labOf
+curve = record { finite = λ c h. lab-of-bytes c (omega (arith, h .r-byte)) (omega (arith, h .g-byte)) (omega (arith, h .b-byte)); doubles = doubles }
+
+-- ---- what the types give: a change of 64 bits has 16 bits for each of its numbers, and bytes are bytes
+byte : (b : Byte) → b .value < 256
+byte b = omega (arith, b .in-8-bits)
+
+colour-bytes : (c : Colour) → Bytes (rgbOf c)
+colour-bytes c = record { r-byte = byte (c .r); g-byte = byte (c .g); b-byte = byte (c .b) }
+
+unpacked-fits : (c : ℕ) → FitChange (unpacked c)
+unfolding unpacked
+unpacked-fits c =
+    record {
+      x-fits = mod-lt c (lit< tt);
+      y-fits = mod-lt (c / 2 ^ 16) (lit< tt);
+      old-fits = sfits-toZ (record { fits = mod-lt (c / 2 ^ 32) (lit< tt) });
+      new-fits = sfits-toZ (record { fits = mod-lt (c / 2 ^ 48) (lit< tt) });
+    }
+
+all-fit : (list : List ℕ) → FitChanges (map unpacked list)
+unfolding FitChanges
+all-fit [] = tt
+all-fit (c ∷ list) = (unpacked-fits c, all-fit list)
+
+new-bytes : (e : HandedEdit) → NewBytes (editBy e)
+new-bytes (pixels tool) = tt
+new-bytes (set i old c lab) = colour-bytes c
+new-bytes (add c) = colour-bytes c
+new-bytes (remove i c lab) = tt
+
+calls-typed : (calls : List (Call HandedPush)) → TypedCalls editing (map callBy calls)
+calls-typed [] = tt
+calls-typed (push p ∷ calls) = (record { new-bytes = new-bytes (p .edit); changes-fit = all-fit (p .list) }, calls-typed calls)
+calls-typed (undo ∷ calls) = (tt, calls-typed calls)
+calls-typed (redo ∷ calls) = (tt, calls-typed calls)
+calls-typed (mark ∷ calls) = (tt, calls-typed calls)
+
+bytes-typed : (l : List Byte) → some (leb 256) (map (λ (b : Byte). b .value) l) ≡ false
+unfolding some
+bytes-typed [] = refl
+bytes-typed (b ∷ l) = rw (lt-leb 256 (b .value) (byte b), bytes-typed l)
+
+doubles-typed : (l : List Double) → some (λ (v : Float). not (fits binary64 v)) (map (λ (d : Double). d .value) l) ≡ false
+unfolding some
+doubles-typed [] = refl
+doubles-typed (d ∷ l) = rw (double _ (d .in-64-bits), doubles-typed l)
+
+pub demand-3 : Demand3
+unfolding view
+demand-3 =
+    record {
+      whole-history =
+          λ lent passes shorter longer b b′ scratch scratch′ c c′ handed.
+          whole-history editing (keeps labOf curve) (sheetBy lent)
+          (record { typed = record { palette = bytes-typed (lent .palette); lab = doubles-typed (lent .lab) }; passes = passes })
+          shorter longer b b′ scratch scratch′ c c′ (map callBy handed) (calls-typed handed);
+      journal-full = full-exactly editing (keeps labOf curve);
+    }

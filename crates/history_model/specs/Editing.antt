@@ -1,0 +1,107 @@
+-- Document 01's sheet, edits and records as the algebra that `history_ledger` speaks of: its functions are those that the contracts of this crate's calls name.
+-- Definitions only. Assumes nothing.
+use mathlib.Core.Path.{_≡_}
+use mathlib.Core.Bool.{Bool, false, not, cond}
+use mathlib.Core.List.{List, [], _∷_, map}
+use mathlib.Core.Option.{Option, none, some}
+use Prim.Native.Nat.{ℕ, _*_}
+use lib.Dec.{ltb, leb, eqb}
+use lib.Ieee.{Float, binary64, fits}
+use lib.ListN.{length}
+use Rattle.base_limits.specs.Limits.{maxSide, maxEntries, maxChanges}
+use Rattle.base_limits.specs.Numbers.{badSheet, strayIndex, unfitLab}
+use Rattle.base_limits.specs.Checks.{Check, _when_, firstOf}
+use Rattle.base_limits.specs.declared.Rgb.{Rgb}
+use Rattle.base_limits.specs.declared.Lab.{Lab}
+use Rattle.base_lists.specs.Lists as lists
+use Rattle.color_doubles.specs.Finite.{unfit}
+use Rattle.color_lab.specs.Convert.{labOf}
+use Rattle.sheet.specs.Sheet.{Sheet, Picture, view, stray}
+use Rattle.sheet.specs.Checks.{permittedChecks, sheetChecks}
+use Rattle.edit.specs.declared.Edit.{Edit}
+use Rattle.edit.specs.Change.{Change, unpacked}
+use Rattle.edit.specs.Checks.{Permitted, permittedOf, ownChecks, asSheet}
+use Rattle.edit.specs.Accepted.{NewBytes}
+use Rattle.edit.specs.Apply.{noPixels, filledEdit, filledChanges, redone, nextPicture, reverted}
+use Rattle.journal_write.specs.Fit.{FitChanges}
+use Rattle.journal_record.specs.Record as records
+use Rattle.journal_record.specs.Record.{recordLength, recordOf, readForth, readBack}
+use Rattle.journal_read.specs.Sound.{undoable, redoable}
+use Rattle.history_ledger.specs.Algebra.{Algebra, Reading}
+
+-- ---- what a push is given: "edit, permitted colours", the edit beside its list
+pub record Given : Type 0 where
+  pub permitted : Permitted
+  pub edit : Edit
+  pub changes : List Change
+
+abbrev pub givenOf : Bool → List ℕ → Edit → List ℕ → Given
+givenOf limited permitted edit list = record { permitted = permittedOf limited permitted; edit = edit; changes = map unpacked list }
+
+-- ---- numbers in the range of their types: bytes and doubles of 64 bits in storage, bytes in a new colour, 16 bits in a change
+pub record TypedSheet (s : Sheet) : Type 0 where
+  pub palette : lists.some (leb 256) (s .palette) ≡ false
+  pub lab : lists.some (λ (v : Float). not (fits binary64 v)) (s .lab) ≡ false
+
+pub record TypedGiven (g : Given) : Type 0 where
+  pub new-bytes : NewBytes (g .edit)
+  pub changes-fit : FitChanges (g .changes)
+
+-- ---- 1 to 3 of a picture, as the ledger has them: "A sheet is well-formed where none of 1 to 3 applies"
+unfoldable pub pictureChecks : Picture → List Check
+pictureChecks p =
+    badSheet when ltb maxSide (p .w)
+    ∷ badSheet when ltb maxSide (p .h)
+    ∷ badSheet when ltb maxEntries (p .k)
+    ∷ badSheet when not (eqb (length (p .colours)) (3 * p .k))
+    ∷ badSheet when not (eqb (length (p .labs)) (3 * p .k))
+    ∷ badSheet when not (eqb (length (p .indices)) (p .w * p .h))
+    ∷ strayIndex when lists.some (stray (p .k)) (p .indices)
+    ∷ unfitLab when lists.some unfit (p .labs)
+    ∷ []
+
+-- 21: "list too long: over the limit"
+unfoldable pub tooLong : List Change → Bool
+tooLong cs = ltb maxChanges (length cs)
+
+-- ---- a record that was read, where undo or redo takes it: its length, and the sheet on its other side
+abbrev pub taken : Bool → ℕ → Sheet → Option (Reading Sheet)
+taken ok n s = cond ok (some (record { length = n; sheet = s })) none
+
+unfoldable pub undoneBy : Sheet → records.Reading → Option (Reading Sheet)
+undoneBy s none = none
+undoneBy s (some r) = taken (undoable s (r .1) (r .2)) (r .0) (reverted s (r .1) (r .2))
+
+module _ (curve : Rgb → Lab) where
+  unfoldable pub redoneBy : Sheet → records.Reading → Option (Reading Sheet)
+  redoneBy s none = none
+  redoneBy s (some r) = taken (redoable s (r .1) (r .2)) (r .0) (redone curve s (r .1) (r .2))
+
+  -- with `curve` for the LAB of a colour
+  abbrev pub editingBy : Algebra
+  editingBy =
+      record {
+        Sheet = Sheet;
+        Picture = Picture;
+        Edit = Given;
+        SheetTyped = TypedSheet;
+        EditTyped = TypedGiven;
+        view = view;
+        places = λ p. p .w * p .h;
+        sheetCheck = λ s. firstOf (sheetChecks [] s);
+        pictureCheck = λ p. firstOf (pictureChecks p);
+        givenCheck = λ g. firstOf (permittedChecks (g .permitted .limited) (g .permitted .colours));
+        ownCheck = λ p g. firstOf (ownChecks false (asSheet p) (g .permitted) (g .edit) (g .changes));
+        isEmpty = λ g. noPixels (g .edit) (g .changes);
+        isLong = λ g. tooLong (g .changes);
+        make = λ s g. redone curve s (g .edit) (g .changes);
+        encode = λ s g. recordOf (filledEdit s (g .edit)) (filledChanges s (g .edit) (g .changes));
+        size = λ g. recordLength (g .edit) (length (g .changes));
+        back = λ bytes s. undoneBy s (readBack bytes);
+        forth = λ bytes s. redoneBy s (readForth bytes);
+        paint = λ p g. nextPicture curve p (g .edit) (g .changes);
+      }
+
+-- with document 01's
+abbrev pub editing : Algebra
+editing = editingBy labOf

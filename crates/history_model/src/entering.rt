@@ -1,0 +1,76 @@
+// Checks 1 to 4, which the calls on a history begin with.
+use base_limits::BAD_SHEET;
+use base_limits::JOURNAL_DAMAGED;
+use base_limits::MAX_JOURNAL;
+use history_ledger::Handle;
+use sheet::check;
+use sheet::permitted_no;
+ghost use mathlib.Core.Path.{_≡_};
+ghost use mathlib.Core.List.{List};
+ghost use Prim.Native.Nat.{ℕ};
+ghost use Rattle.base_limits.specs.Checks.{firstOf};
+ghost use Rattle.edit.specs.declared.Edit.{Edit};
+ghost use Rattle.sheet.specs.Sheet.{sheetOf};
+ghost use Rattle.history_model.specs.Editing.{givenOf};
+ghost use Rattle.history_model.specs.Calls.{stateOf, handleChecks, Moves, Enters};
+
+// The number of the first of 1 and 4 that applies to a handle in a journal of so many bytes, or 0.
+pub fn handle_no(size: usize, handle: Handle) -> u8
+    ensures { λ r. ⌜ r ≡ firstOf (handleChecks size handle) ⌝ }
+{
+    if MAX_JOURNAL < size {
+        return BAD_SHEET;
+    }
+    if !handle.sound(size) {
+        return JOURNAL_DAMAGED;
+    }
+    0
+}
+
+// The number of the first of 1 to 4 that applies to a sheet, a journal and a handle, or 0.
+pub fn move_no(
+    w: usize,
+    h: usize,
+    k: usize,
+    palette: &[u8],
+    lab: &[f64],
+    indices: &[i16],
+    journal: &[u8],
+    handle: Handle,
+) -> u8
+    ensures { λ r. ⌜ Moves (stateOf (sheetOf w h k (now (palette .entry)) (now (lab .entry)) (now (indices .entry))) (now (journal .entry)) handle) r ⌝ }
+{
+    if MAX_JOURNAL < journal.len() {
+        return BAD_SHEET;
+    }
+    let no = check(w, h, k, palette, lab, indices);
+    if no != 0 {
+        return no;
+    }
+    if !handle.sound(journal.len()) {
+        return JOURNAL_DAMAGED;
+    }
+    0
+}
+
+// The same of a push, with its permitted colours: a list that is too long is number 1, too.
+pub fn entry_no(
+    w: usize,
+    h: usize,
+    k: usize,
+    palette: &[u8],
+    lab: &[f64],
+    indices: &[i16],
+    limited: bool,
+    permitted: &[u8],
+    journal: &[u8],
+    handle: Handle,
+) -> u8
+    ensures { λ r. ⌜ ((e : Edit) (l : List ℕ) → Enters (stateOf (sheetOf w h k (now (palette .entry)) (now (lab .entry)) (now (indices .entry))) (now (journal .entry)) handle) (givenOf limited (now (permitted .entry)) e l) r) ⌝ }
+{
+    let no = permitted_no(limited, permitted);
+    if no != 0 {
+        return no;
+    }
+    move_no(w, h, k, palette, lab, indices, journal, handle)
+}

@@ -1,0 +1,28 @@
+// How long a record is.
+use edit::Edit;
+ghost use mathlib.Core.Path.{_≡_};
+ghost use Prim.Native.Nat.{_≤_};
+ghost use Rattle.base_limits.specs.Limits.{maxChanges};
+ghost use Rattle.journal_record.specs.Record.{recordLength};
+
+// The bytes of an edit's record with n changes.
+pub fn record_length(edit: Edit, n: usize) -> usize
+    requires { ⌜ n ≤ maxChanges ⌝ }
+    ensures { λ r. ⌜ r ≡ recordLength edit n ⌝ }
+{
+    match edit {
+        Edit::Pixels { tool: _ } => 10 + 8 * n,
+        Edit::PaletteSet {
+            index: _,
+            old: _,
+            new: _,
+            old_lab: _,
+        } => 36,
+        Edit::PaletteAdd { rgb: _ } => 8,
+        Edit::PaletteRemove {
+            index: _,
+            rgb: _,
+            lab: _,
+        } => 37 + 8 * n,
+    }
+}

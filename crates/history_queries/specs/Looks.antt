@@ -1,0 +1,87 @@
+-- What a maker asks of a history without changing its sheet: history.rs, `is_dirty`, `can_undo`, `can_redo`, `next_undo`, `next_redo` and `applied`. Each looks
+-- at the journal's length (1) and the handle (4), at no sheet. Definitions only. Assumes nothing.
+use mathlib.Core.Path.{_≡_}
+use mathlib.Core.Bool.{Bool, not, cond}
+use mathlib.Core.List.{List, [], _∷_}
+use mathlib.Core.Option.{none, some}
+use Prim.Native.Nat.{ℕ, zero, suc, _+_, _-_, _*_}
+use lib.Dec.{leb, eqb}
+use lib.ListN.{length, take, drop}
+use Rattle.base_limits.specs.Numbers.{journalDamaged}
+use Rattle.base_limits.specs.Checks.{_when_, checked}
+use Rattle.edit.specs.declared.Edit.{Edit}
+use Rattle.edit.specs.Change.{Change}
+use Rattle.journal_record.specs.Record.{Reading, readForth, readBack}
+use Rattle.history_ledger.specs.declared.Handle.{Handle}
+use Rattle.history_ledger.specs.Handle.{steppedBack, steppedForth}
+use Rattle.history_ledger.specs.Journal.{unsound}
+use Rattle.history_model.specs.Calls.{handleChecks}
+use Rattle.history_queries.specs.declared.Truth.{Truth}
+use Rattle.history_queries.specs.declared.Truth.the-variants as truth
+use Rattle.history_queries.specs.declared.Next.{Next}
+use Rattle.history_queries.specs.declared.Next.the-variants as next
+
+-- ---- questions
+unfoldable pub asked : ℕ → Handle → Bool → Truth
+asked n h b = checked (handleChecks n h) truth.Refused (truth.Is b)
+
+-- "Undo: at 0 "still"", "Redo: at the last "still"": else there is a record
+abbrev pub undoLeft : Handle → Bool
+undoLeft h = not (eqb (h .position) 0)
+
+abbrev pub redoLeft : Handle → Bool
+redoLeft h = not (eqb (h .position) (h .count))
+
+-- ---- a record that was read from `start` on: its edit, where it lies, and where its changes lie, which stand before the last 4 bytes
+unfoldable pub shown : ℕ → ℕ × Edit × List Change → Next
+shown start r = let n = length (r .2) in next.Record (r .1) start (r .0) (start + r .0 - 4 - 8 * n) n
+
+-- the record that one step goes over: "A record is sound if it is inside the used part .., the handle after the step is sound", as `over`
+-- (history_ledger/specs/Journal.antt) tests it; what it holds is judged by undo and redo, on a sheet
+unfoldable pub stepShown : ℕ → Handle → Reading → (ℕ → ℕ) → (ℕ → Bool) → (ℕ → Handle → Handle) → Next
+stepShown n h none start inside stepped = next.Refused journalDamaged
+stepShown n h (some r) start inside stepped =
+    checked (journalDamaged when not (inside (r .0)) ∷ unsound n (stepped (r .0) h) ∷ []) next.Refused (shown (start (r .0)) r)
+
+-- ---- `next_undo`: "The op undo would revert", `next_redo`: "The op redo would apply"
+unfoldable pub nextUndoOf : List ℕ → Handle → Next
+nextUndoOf journal h =
+    let offset = h .offset in
+    checked (handleChecks (length journal) h) next.Refused
+    (cond (eqb (h .position) 0) next.Nothing
+    (stepShown (length journal) h (readBack (take offset journal)) (λ n. offset - n) (λ n. leb n offset) steppedBack))
+
+unfoldable pub nextRedoOf : List ℕ → Handle → Next
+nextRedoOf journal h =
+    let offset = h .offset in
+    let end = h .end in
+    checked (handleChecks (length journal) h) next.Refused
+    (cond (eqb (h .position) (h .count)) next.Nothing
+    (stepShown (length journal) h (readForth (take (end - offset) (drop offset journal))) (λ n. offset) (λ n. leb (offset + n) end) steppedForth))
+
+-- ---- `applied`: "The applied ops, oldest first", by number: what `next_redo` would show after that many steps, were every applied record undone and none past them
+-- there. So the journal is read from its first byte, record by record
+abbrev pub rewound : Handle → Handle
+rewound h = record { offset = 0; end = h .offset; position = 0; count = h .position; saved = 0 }
+
+-- what comes after a record that is shown, by its length
+unfoldable pub past : Next → (ℕ → Next) → Next
+past (next.Record e start n list count) more = more n
+past next.Nothing more = next.Nothing
+past (next.Refused number) more = next.Refused number
+
+unfoldable pub shownAfter : List ℕ → ℕ → Handle → Next
+shownAfter journal zero h = nextRedoOf journal h
+shownAfter journal (suc n) h = past (nextRedoOf journal h) (λ m. shownAfter journal n (steppedForth m h))
+
+unfoldable pub appliedOf : List ℕ → Handle → ℕ → Next
+appliedOf journal h number =
+    checked (handleChecks (length journal) h) next.Refused
+    (cond (leb (h .position) number) next.Nothing
+    (shownAfter journal number (rewound h)))
+
+-- the chain of the records that end before `end` or at it: the oldest starts at 0, each next one where the one before ends. `applied` shows a record of it
+-- (`applied-chained` in proofs/Chained), in a history that was pushed the pushed ones (`applied-pushed` in proofs/Pushed)
+pub data Starts (journal : List ℕ) (end : ℕ) : ℕ → ℕ → Type 0 where
+  oldest : Starts journal end 0 0
+  after : {n at : ℕ} (r : ℕ × Edit × List Change) → Starts journal end n at → readForth (take (end - at) (drop at journal)) ≡ some r → Starts journal end (suc n) (at + r .0)

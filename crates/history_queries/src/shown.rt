@@ -1,0 +1,178 @@
+// The records of a history, looked at: the one that undo would revert, the one that redo would apply, and
+// the applied ones, oldest first. What is read is the edit and where its changes lie; the changes stay in
+// the journal. proofs/NextTold says that they are the ones that undo and redo read.
+use crate::Next;
+use base_limits::JOURNAL_DAMAGED;
+use edit::Edit;
+use history_ledger::Handle;
+use history_ledger::stepped_back;
+use history_ledger::stepped_forth;
+use history_model::handle_no;
+use journal_read::entry_at;
+use journal_read::get_rgb;
+use journal_read::lab_in;
+use journal_record::Found;
+use journal_record::find_back;
+use journal_record::find_forth;
+ghost use mathlib.Core.Path.{_≡_};
+ghost use Prim.Native.Nat.{_+_, _-_, _*_, _≤_};
+ghost use lib.ListN.{length};
+ghost use Rattle.journal_read.specs.Lies.{editAt, Lies};
+ghost use Rattle.history_queries.specs.declared.Next.the-variants as next;
+ghost use Rattle.history_queries.specs.Looks.{nextUndoOf, nextRedoOf, shownAfter, rewound, appliedOf};
+
+// The edit of a record that lies in the journal.
+fn edit_at(journal: &[u8], kind: u8, start: usize) -> Edit
+    requires { ⌜ Lies (now journal) kind start 0 ⌝ }
+    ensures { λ r. ⌜ r ≡ editAt (now (journal .entry)) kind start ⌝ }
+{
+    if kind == 1 {
+        return Edit::Pixels {
+            tool: journal[start + 1],
+        };
+    }
+    if kind == 2 {
+        let index = entry_at(journal, start);
+        let old = get_rgb(journal, start + 2);
+        let new = get_rgb(journal, start + 5);
+        let old_lab = lab_in(journal, start + 8);
+        return Edit::PaletteSet {
+            index,
+            old,
+            new,
+            old_lab,
+        };
+    }
+    if kind == 3 {
+        return Edit::PaletteAdd {
+            rgb: get_rgb(journal, start + 1),
+        };
+    }
+    let index = entry_at(journal, start);
+    let rgb = get_rgb(journal, start + 2);
+    let lab = lab_in(journal, start + 5);
+    Edit::PaletteRemove { index, rgb, lab }
+}
+
+// What is shown of a record of n bytes that lies in the journal.
+fn record_at(journal: &[u8], kind: u8, start: usize, n: usize, count: usize) -> Next
+    requires { ⌜ Lies (now journal) kind start count × (start + n ≤ length (now journal)) × (4 + 8 * count ≤ n) ⌝ }
+    ensures { λ r. ⌜ r ≡ next.Record (editAt (now (journal .entry)) kind start) start n (start + n - 4 - 8 * count) count ⌝ }
+{
+    let edit = edit_at(journal, kind, start);
+    let list = start + n - 4 - 8 * count;
+    Next::Record {
+        edit,
+        start,
+        length: n,
+        list,
+        count,
+    }
+}
+
+// The record that undo would revert: the one that ends at the standing offset.
+pub fn next_undo(journal: &[u8], handle: Handle) -> Next
+    ensures { λ r. ⌜ r ≡ nextUndoOf (now (journal .entry)) handle ⌝ }
+{
+    let size = journal.len();
+    let no = handle_no(size, handle);
+    if no != 0 {
+        return Next::Refused(no);
+    }
+    if handle.position == 0 {
+        return Next::Nothing;
+    }
+    match find_back(journal, handle.offset) {
+        Found::Record {
+            kind,
+            start,
+            length,
+            count,
+        } => {
+            if !stepped_back(handle, length).sound(size) {
+                return Next::Refused(JOURNAL_DAMAGED);
+            }
+            record_at(journal, kind, start, length, count)
+        }
+        Found::Unsound => Next::Refused(JOURNAL_DAMAGED),
+    }
+}
+
+// The record that redo would apply: the one that starts at the standing offset, inside the used part.
+pub fn next_redo(journal: &[u8], handle: Handle) -> Next
+    ensures { λ r. ⌜ r ≡ nextRedoOf (now (journal .entry)) handle ⌝ }
+{
+    let size = journal.len();
+    let no = handle_no(size, handle);
+    if no != 0 {
+        return Next::Refused(no);
+    }
+    if handle.position == handle.count {
+        return Next::Nothing;
+    }
+    match find_forth(journal, handle.offset, handle.end) {
+        Found::Record {
+            kind,
+            start,
+            length,
+            count,
+        } => {
+            if !stepped_forth(handle, length).sound(size) {
+                return Next::Refused(JOURNAL_DAMAGED);
+            }
+            record_at(journal, kind, start, length, count)
+        }
+        Found::Unsound => Next::Refused(JOURNAL_DAMAGED),
+    }
+}
+
+// What `next_redo` shows after n steps forth, each over the record that it shows.
+fn shown_after(journal: &[u8], handle: Handle, n: usize) -> Next
+    ensures { λ r. ⌜ r ≡ shownAfter (now (journal .entry)) n handle ⌝ }
+{
+    let mut cursor = handle;
+    let mut left = n;
+    while left != 0 {
+        match next_redo(journal, cursor) {
+            Next::Record {
+                edit: _,
+                start: _,
+                length,
+                list: _,
+                count: _,
+            } => cursor = stepped_forth(cursor, length),
+            Next::Nothing => return Next::Nothing,
+            Next::Refused(no) => return Next::Refused(no),
+        }
+        left -= 1;
+    }
+    next_redo(journal, cursor)
+}
+
+// The applied records as a history of their own, none of them redone.
+fn rewound(handle: Handle) -> Handle
+    ensures { λ r. ⌜ r ≡ rewound handle ⌝ }
+{
+    Handle {
+        offset: 0,
+        end: handle.offset,
+        position: 0,
+        count: handle.position,
+        saved: 0,
+    }
+}
+
+// An applied record by its number, 0 for the oldest. The journal is read from its first byte, record by record: what
+// lies inside a record is never taken for one, and where one on the way is unsound the answer is 4.
+pub fn applied(journal: &[u8], handle: Handle, number: usize) -> Next
+    ensures { λ r. ⌜ r ≡ appliedOf (now (journal .entry)) handle number ⌝ }
+{
+    let no = handle_no(journal.len(), handle);
+    if no != 0 {
+        return Next::Refused(no);
+    }
+    if handle.position <= number {
+        return Next::Nothing;
+    }
+    shown_after(journal, rewound(handle), number)
+}

@@ -1,0 +1,146 @@
+// `redo`: one step over the record after the standing offset. It does not write the journal.
+use base_limits::Answer;
+use base_limits::JOURNAL_DAMAGED;
+use base_limits::NO_SPACE;
+use history_ledger::Handle;
+use history_ledger::stepped_forth;
+use history_model::Moved;
+use history_model::move_no;
+use journal_record::Found;
+use journal_record::find_forth;
+use journal_redo::can_redo;
+use journal_redo::redo_record;
+ghost use mathlib.Core.Path.{_≡_};
+ghost use Prim.Native.Nat.{_+_, _-_, _≤_, _<_};
+ghost use lib.Dec.{leb};
+ghost use lib.ListN.{length, take, drop};
+ghost use Rattle.color_lab.specs.Convert.{labOf};
+ghost use Rattle.sheet.specs.Sheet.{sheetOf};
+ghost use Rattle.journal_record.specs.declared.Found.the-variants.{Record};
+ghost use Rattle.journal_record.specs.Record.{readForth};
+ghost use Rattle.journal_record.specs.Found.{foundAt};
+ghost use Rattle.history_ledger.specs.Handle.{steppedForth};
+ghost use Rattle.history_ledger.specs.Journal.{over, redoOf};
+ghost use Rattle.history_model.specs.Editing.{redoneBy, editing};
+ghost use Rattle.history_model.specs.Calls.{stateOf, leaves, Standing};
+
+// One step forth over a record of n bytes that was found: where push's checks refuse it, or the handle would be unsound
+// after it, the journal is damaged.
+fn redo_at(
+    w: usize,
+    h: usize,
+    k: usize,
+    palette: &mut [u8],
+    lab: &mut [f64],
+    indices: &mut [i16],
+    journal: &[u8],
+    handle: Handle,
+    kind: u8,
+    start: usize,
+    n: usize,
+    count: usize,
+    scratch: &mut [u8],
+) -> Moved
+    requires { ⌜ Standing (stateOf (sheetOf w h k (now palette) (now lab) (now indices)) (now journal) handle) ⌝ }
+    requires { ⌜ (handle .position < handle .count) × (length (now indices) ≤ length (now scratch)) ⌝ }
+    requires { ⌜ foundAt (handle .offset) (readForth (take (handle .end - handle .offset) (drop (handle .offset) (now journal)))) ≡ Record kind start n count ⌝ }
+    ensures { λ r. ⌜ leaves r w h (now (palette .exit)) (now (lab .exit)) (now (indices .exit)) (now (journal .entry)) ≡ over editing (stateOf (sheetOf w h k (now (palette .entry)) (now (lab .entry)) (now (indices .entry))) (now (journal .entry)) handle) (redoneBy labOf (sheetOf w h k (now (palette .entry)) (now (lab .entry)) (now (indices .entry))) (readForth (take (handle .end - handle .offset) (drop (handle .offset) (now (journal .entry)))))) (λ m. leb (handle .offset + m) (handle .end)) steppedForth ⌝ }
+{
+    let next = stepped_forth(handle, n);
+    if !next.sound(journal.len()) {
+        return Moved::refused(JOURNAL_DAMAGED, k, handle);
+    }
+    if !can_redo(w, h, k, indices, journal, kind, start, count, scratch) {
+        return Moved::refused(JOURNAL_DAMAGED, k, handle);
+    }
+    let k = redo_record(w, k, palette, lab, indices, journal, kind, start, count);
+    Moved {
+        answer: Answer::Done,
+        k,
+        handle: next,
+    }
+}
+
+// One step forth over what the search answered.
+fn redo_found(
+    w: usize,
+    h: usize,
+    k: usize,
+    palette: &mut [u8],
+    lab: &mut [f64],
+    indices: &mut [i16],
+    journal: &[u8],
+    handle: Handle,
+    found: Found,
+    scratch: &mut [u8],
+) -> Moved
+    requires { ⌜ Standing (stateOf (sheetOf w h k (now palette) (now lab) (now indices)) (now journal) handle) ⌝ }
+    requires { ⌜ (handle .position < handle .count) × (length (now indices) ≤ length (now scratch)) ⌝ }
+    requires { ⌜ found ≡ foundAt (handle .offset) (readForth (take (handle .end - handle .offset) (drop (handle .offset) (now journal)))) ⌝ }
+    ensures { λ r. ⌜ leaves r w h (now (palette .exit)) (now (lab .exit)) (now (indices .exit)) (now (journal .entry)) ≡ over editing (stateOf (sheetOf w h k (now (palette .entry)) (now (lab .entry)) (now (indices .entry))) (now (journal .entry)) handle) (redoneBy labOf (sheetOf w h k (now (palette .entry)) (now (lab .entry)) (now (indices .entry))) (readForth (take (handle .end - handle .offset) (drop (handle .offset) (now (journal .entry)))))) (λ m. leb (handle .offset + m) (handle .end)) steppedForth ⌝ }
+{
+    match found {
+        Found::Record {
+            kind,
+            start,
+            length,
+            count,
+        } => redo_at(
+            w,
+            h,
+            k,
+            palette,
+            lab,
+            indices,
+            journal,
+            handle,
+            kind,
+            start,
+            length,
+            count,
+            scratch,
+        ),
+        Found::Unsound => Moved::refused(JOURNAL_DAMAGED, k, handle),
+    }
+}
+
+// Redoes the edit that the last undo took back. At the last "still"; 16 where the scratch has fewer places than the
+// sheet; 4 where the record is not sound. What the scratch holds after the call is free.
+pub fn redo(
+    w: usize,
+    h: usize,
+    k: usize,
+    palette: &mut [u8],
+    lab: &mut [f64],
+    indices: &mut [i16],
+    journal: &[u8],
+    handle: Handle,
+    scratch: &mut [u8],
+) -> Moved
+    ensures { λ r. ⌜ leaves r w h (now (palette .exit)) (now (lab .exit)) (now (indices .exit)) (now (journal .entry)) ≡ redoOf editing (length (now (scratch .entry))) (stateOf (sheetOf w h k (now (palette .entry)) (now (lab .entry)) (now (indices .entry))) (now (journal .entry)) handle) ⌝ }
+    ensures { λ _. ⌜ length (now (scratch .exit)) ≡ length (now (scratch .entry)) ⌝ }
+{
+    let no = move_no(w, h, k, palette, lab, indices, journal, handle);
+    if no != 0 {
+        return Moved::refused(no, k, handle);
+    }
+    if handle.position == handle.count {
+        return Moved::still(k, handle);
+    }
+    if scratch.len() < indices.len() {
+        return Moved::refused(NO_SPACE, k, handle);
+    }
+    let found = find_forth(journal, handle.offset, handle.end);
+    redo_found(
+        w,
+        h,
+        k,
+        palette,
+        lab,
+        indices,
+        journal,
+        handle,
+        found,
+        scratch,
+    )
+}

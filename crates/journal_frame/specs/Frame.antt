@@ -1,0 +1,24 @@
+-- A record whose changes stand in the journal already: what is written around them. Definitions only. Assumes nothing.
+use Prim.Native.Nat.{ℕ, _+_, _*_, _<_}
+use mathlib.Core.List.{List, [], _∷_, _++_}
+use Rattle.base_lists.specs.Lists.{over}
+use Rattle.edit.specs.declared.Edit.{Edit}
+use Rattle.edit.specs.declared.Edit.the-variants.{Pixels, PaletteSet, PaletteAdd, PaletteRemove}
+use Rattle.edit.specs.Storage.{bytesOf}
+use Rattle.journal_record.specs.Bytes.{le, splice}
+use Rattle.journal_record.specs.Record.{labBytes, recordOf}
+use Rattle.journal_write.specs.Fit.{Numbers}
+
+-- the rest of a record with n changes: "kind first, whole length (4 bytes) last"
+unfoldable pub around : Edit → ℕ → List ℕ → List ℕ
+around (Pixels tool) n part = splice (over (1 ∷ tool ∷ le 4 n) part) (6 + 8 * n) (le 4 (10 + 8 * n))
+around (PaletteSet i old new lab) n part = over (recordOf (PaletteSet i old new lab) []) part
+around (PaletteAdd c) n part = over (recordOf (PaletteAdd c) []) part
+around (PaletteRemove i c lab) n part = splice (over (4 ∷ i ∷ bytesOf c ++ (labBytes lab ++ le 4 n)) part) (33 + 8 * n) (le 4 (37 + 8 * n))
+
+-- what its writer asks of an edit: an index is a byte, LAB is numbers
+unfoldable pub Framed : Edit → Type 0
+Framed (Pixels tool) = Unit {0}
+Framed (PaletteSet i old new lab) = (i < 256) × Numbers lab
+Framed (PaletteAdd c) = Unit {0}
+Framed (PaletteRemove i c lab) = (i < 256) × Numbers lab

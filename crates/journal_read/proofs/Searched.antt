@@ -1,0 +1,155 @@
+-- What a search found lies in the journal: its edit and its changes are those that stand there by its kind, its start and its count. Assumes nothing.
+use Prim.Native.Nat.{ℕ, _+_, _-_, _≤_}
+use mathlib.Core.Path.{_≡_, refl, sym, ap, ap₂, _∙_}
+use mathlib.Core.Bool.{Bool, true, false, cond}
+use mathlib.Core.List.{List}
+use mathlib.Core.Option.{none, some, Option·some-injective}
+use native.Mathlib.Omega.{arith}
+use borrow.Author.Tests.{leb-true, eqb-true}
+use lib.Dec.{leb, eqb}
+use lib.ListN.{length, take, drop, length-drop}
+use lib.Seq.{length-take-le}
+use Rattle.edit.specs.declared.Edit.{Edit}
+use Rattle.edit.specs.declared.Edit.the-variants.{Pixels, PaletteSet, PaletteAdd, PaletteRemove}
+use Rattle.edit.specs.Change.{Change}
+use Rattle.journal_record.specs.declared.Found.the-variants.{Record}
+use Rattle.journal_record.specs.Bytes.{leAt}
+use Rattle.journal_record.specs.Record.{recordLength, Reading, byKind, readForth, ofLength, readBack}
+use Rattle.journal_record.specs.Found.{kindOf, foundAt, foundBefore}
+use Rattle.journal_record.proofs.LittleEndian.{drop-take}
+use Rattle.journal_record.proofs.Holds.{Tells, tells-at, tells-before, Holds, Held, read-holds}
+use Rattle.journal_record.proofs.Parts.{part, byte-part, rgb-part, lab-part, changes-part}
+use Rattle.journal_read.specs.Lies.{editAt, changesAt, Lies}
+
+-- ---- what a part of the journal holds at its front stands in the journal from the part's start on
+module _ (journal : List ℕ) (start size : ℕ) where
+  edit-part : (e : Edit) (cs : List Change) → Holds (part journal start size) e cs → recordLength e (length cs) ≤ size → e ≡ editAt journal (kindOf e) start
+  unfolding Holds editAt byKind kindOf recordLength
+  edit-part (Pixels tool) cs h k = ap Pixels (h .0 ∙ byte-part journal start size 1 (omega arith))
+  edit-part (PaletteSet i old new lab) cs h k =
+      rw (
+        h .0 ∙ byte-part journal start size 1 (omega arith),
+        h .1 ∙ rgb-part journal start size 2 (omega arith),
+        h .2 ∙ rgb-part journal start size 5 (omega arith),
+        h .3 ∙ lab-part journal start size 8 (omega arith),
+      )
+  edit-part (PaletteAdd c) cs h k = ap PaletteAdd (h .0 ∙ rgb-part journal start size 1 (omega arith))
+  edit-part (PaletteRemove i c lab) cs h k =
+      rw (
+        h .0 ∙ byte-part journal start size 1 (omega arith),
+        h .1 ∙ rgb-part journal start size 2 (omega arith),
+        h .2 ∙ lab-part journal start size 5 (omega arith),
+      )
+
+  changes-there : (e : Edit) (cs : List Change) → Holds (part journal start size) e cs → recordLength e (length cs) ≤ size → cs ≡ changesAt journal (kindOf e) start (length cs)
+  unfolding Holds changesAt byKind kindOf recordLength
+  changes-there (Pixels tool) cs h k = h .1 ∙ changes-part journal start size (length cs) 6 (omega arith)
+  changes-there (PaletteSet i old new lab) cs h k = h .4
+  changes-there (PaletteAdd c) cs h k = h .1
+  changes-there (PaletteRemove i c lab) cs h k = h .3 ∙ changes-part journal start size (length cs) 33 (omega arith)
+
+least-kind : (e : Edit) → 1 ≤ kindOf e
+unfolding kindOf
+least-kind (Pixels tool) = omega arith
+least-kind (PaletteSet i old new lab) = omega arith
+least-kind (PaletteAdd c) = omega arith
+least-kind (PaletteRemove i c lab) = omega arith
+
+most-kind : (e : Edit) → kindOf e ≤ 4
+unfolding kindOf
+most-kind (Pixels tool) = omega arith
+most-kind (PaletteSet i old new lab) = omega arith
+most-kind (PaletteAdd c) = omega arith
+most-kind (PaletteRemove i c lab) = omega arith
+
+-- ---- a reading whose record lies in the journal
+pub record Searched (journal : List ℕ) (reading : Reading) (kind start n count : ℕ) : Type 0 where
+  pub reads : reading ≡ some (n, editAt journal kind start, changesAt journal kind start count)
+  pub lies : Lies journal kind start count
+  pub length-is : n ≡ recordLength (editAt journal kind start) count
+
+module _ (journal : List ℕ) (start size n : ℕ) (room : start + size ≤ length journal) where
+  long-part : length (part journal start size) ≡ size
+  long-part = length-take-le size (drop start journal) (rw length-drop (omega arith))
+
+  searched-by : (e : Edit) (cs : List Change) (r : Reading) → r ≡ some (n, e, cs) → Held (part journal start size) n e cs → Searched journal r (kindOf e) start n (length cs)
+  searched-by e cs r q h =
+      let fits : recordLength e (length cs) ≤ size = omega (arith, h .within, h .length-is, long-part) in
+      let edit : e ≡ editAt journal (kindOf e) start = edit-part journal start size e cs (h .holds) fits in
+      let changes : cs ≡ changesAt journal (kindOf e) start (length cs) = changes-there journal start size e cs (h .holds) fits in
+      let long : recordLength (editAt journal (kindOf e) start) (length cs) ≡ recordLength e (length cs) = ap (λ (x : Edit). recordLength x (length cs)) (sym edit) in
+      record {
+        reads = q ∙ ap₂ (λ (x : Edit) (l : List Change). some (n, x, l)) edit changes;
+        lies = record { least = least-kind e; most = most-kind e; inside = omega arith };
+        length-is = h .length-is ∙ sym long;
+      }
+
+  searched : (kind count : ℕ) (r : Reading) (t : Tells r kind n count) → Held (part journal start size) n (t .edit) (t .changes) → Searched journal r kind start n count
+  searched kind count r t h = rw (t .kind-is, t .count-is) at (searched-by (t .edit) (t .changes) r (t .reading) h)
+
+-- ---- the record that starts at an offset, and where it ends
+pub record SearchedForth (journal : List ℕ) (offset end kind start n count : ℕ) : Type 0 where
+  pub starts : start ≡ offset
+  pub ends : start + n ≤ end
+  pub found : Searched journal (readForth (take (end - offset) (drop offset journal))) kind start n count
+
+module _ (journal : List ℕ) (offset end kind start n count : ℕ) (before : offset ≤ end) (inside : end ≤ length journal) where
+  pub searched-forth : foundAt offset (readForth (take (end - offset) (drop offset journal))) ≡ Record kind start n count → SearchedForth journal offset end kind start n count
+  searched-forth q =
+      let size : ℕ = end - offset in
+      let room : offset + size ≤ length journal = omega arith in
+      let bytes : List ℕ = part journal offset size in
+      let told = tells-at kind start n count offset (readForth bytes) q in
+      let held : Held bytes n (told .1 .edit) (told .1 .changes) = read-holds bytes n (told .1 .edit) (told .1 .changes) (told .1 .reading) in
+      record {
+        starts = told .0;
+        ends = omega (arith, told .0, held .within, long-part journal offset size n room);
+        found = rw (told .0) (searched journal offset size n room kind count (readForth bytes) (told .1) held);
+      }
+
+-- ---- the record that ends at an offset
+pub record SearchedBack (journal : List ℕ) (offset kind start n count : ℕ) : Type 0 where
+  pub fits : n ≤ offset
+  pub starts : start ≡ offset - n
+  pub found : Searched journal (readBack (take offset journal)) kind start n count
+
+abbrev triple : ℕ → Edit → List Change → Reading
+triple n e cs = some (n, e, cs)
+
+whole-by : (m n : ℕ) (e : Edit) (cs : List Change) (r : Reading) → ofLength m r ≡ triple n e cs → (m ≡ n) × (r ≡ triple n e cs)
+unfolding ofLength
+whole-by m n e cs none q = absurd (let z : _≡_ {A = ℕ} 0 1 = cc in omega arith)
+whole-by m n e cs (some r) q = by (eqb (r .0) m) refl q
+  where
+    by : (b : Bool) → eqb (r .0) m ≡ b → cond b (some r) none ≡ triple n e cs → (m ≡ n) × (some r ≡ triple n e cs)
+    by true t p = let same = Option·some-injective r (n, e, cs) p in (sym (eqb-true (r .0) m t) ∙ ap (λ (x : ℕ × Edit × List Change). x .0) same, p)
+    by false t p = absurd (let z : _≡_ {A = ℕ} 0 1 = cc in omega arith)
+
+-- its last four bytes are its length, and it is read from there on
+back-by : (bytes : List ℕ) (n : ℕ) (e : Edit) (cs : List Change) → readBack bytes ≡ triple n e cs → (n ≤ length bytes) × (readForth (drop (length bytes - n) bytes) ≡ triple n e cs)
+unfolding readBack
+back-by bytes n e cs q = let m : ℕ = leAt 4 bytes (length bytes - 4) in by m (leb m (length bytes)) refl q
+  where
+    by : (m : ℕ) (b : Bool) → leb m (length bytes) ≡ b → cond b (ofLength m (readForth (drop (length bytes - m) bytes))) none ≡ triple n e cs
+        → (n ≤ length bytes) × (readForth (drop (length bytes - n) bytes) ≡ triple n e cs)
+    by m true t p = let w = whole-by m n e cs (readForth (drop (length bytes - m) bytes)) p in (rw (w .0) at (leb-true m (length bytes) t), rw (w .0) at (w .1))
+    by m false t p = absurd (let z : _≡_ {A = ℕ} 0 1 = cc in omega arith)
+
+module _ (journal : List ℕ) (offset kind start n count : ℕ) (inside : offset ≤ length journal) where
+  pub searched-back : foundBefore offset (readBack (take offset journal)) ≡ Record kind start n count → SearchedBack journal offset kind start n count
+  searched-back q =
+      let before : List ℕ = take offset journal in
+      let long : length before ≡ offset = length-take-le offset journal inside in
+      let told = tells-before kind start n count offset (readBack before) q in
+      let e : Edit = told .1 .edit in
+      let cs : List Change = told .1 .changes in
+      let back = back-by before n e cs (told .1 .reading) in
+      let fits : n ≤ offset = rw long at (back .0) in
+      let size : ℕ = offset - (offset - n) in
+      let bytes : List ℕ = part journal (offset - n) size in
+      let forth : readForth bytes ≡ triple n e cs = rw (long, drop-take (offset - n) offset journal) at (back .1) in
+      record {
+        fits = fits;
+        starts = told .0;
+        found = rw (told .0) (searched journal (offset - n) size n (omega arith) kind count (readBack before) (told .1) (read-holds bytes n e cs forth));
+      }

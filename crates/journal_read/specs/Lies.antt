@@ -1,0 +1,26 @@
+-- A record that lies in the journal: what it holds, by its kind and the offset at which it starts. Definitions only. Assumes nothing.
+use mathlib.Core.List.{List, []}
+use Prim.Native.Nat.{ℕ, _+_, _≤_}
+use lib.ListN.{length, getD}
+use Rattle.edit.specs.declared.Edit.{Edit}
+use Rattle.edit.specs.declared.Edit.the-variants.{Pixels, PaletteSet, PaletteAdd, PaletteRemove}
+use Rattle.edit.specs.Change.{Change}
+use Rattle.journal_record.specs.Record.{recordLength, rgbIn, labIn, changesIn, byKind}
+
+unfoldable pub editAt : List ℕ → ℕ → ℕ → Edit
+editAt journal kind start =
+    byKind kind
+    (Pixels (getD journal (start + 1) 0))
+    (PaletteSet (getD journal (start + 1) 0) (rgbIn journal (start + 2)) (rgbIn journal (start + 5)) (labIn journal (start + 8)))
+    (PaletteAdd (rgbIn journal (start + 1)))
+    (PaletteRemove (getD journal (start + 1) 0) (rgbIn journal (start + 2)) (labIn journal (start + 5)))
+    (Pixels 0)
+
+unfoldable pub changesAt : List ℕ → ℕ → ℕ → ℕ → List Change
+changesAt journal kind start count = byKind kind (changesIn journal (start + 6) count) [] [] (changesIn journal (start + 33) count) []
+
+-- a record of one of the four kinds, all of it inside the journal
+pub record Lies (journal : List ℕ) (kind start count : ℕ) : Type 0 where
+  pub least : 1 ≤ kind
+  pub most : kind ≤ 4
+  pub inside : start + recordLength (editAt journal kind start) count ≤ length journal

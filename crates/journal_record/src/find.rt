@@ -1,0 +1,110 @@
+// The record that ends at an offset of the journal, or starts there: whether its kind, count and lengths
+// agree, and where it lies.
+use crate::Found;
+use crate::bytes::get_u32;
+ghost use mathlib.Core.Path.{_≡_};
+ghost use Prim.Native.Nat.{_≤_, _-_};
+ghost use lib.ListN.{length, take, drop};
+ghost use Rattle.journal_record.specs.Record.{readForth, readBack};
+ghost use Rattle.journal_record.specs.Found.{foundAt, foundBefore, closedAt, countedAt, wholeOnly};
+
+// A record shorter than an add is none.
+const LEAST: usize = 8;
+
+// A record of `length` bytes from the front on, where these bytes hold it and its last four are its
+// length.
+fn closed(bytes: &[u8], start: usize, kind: u8, length: usize, count: usize) -> Found
+    requires { ⌜ 4 ≤ length ⌝ }
+    ensures { λ r. ⌜ r ≡ closedAt (now (bytes .entry)) start kind length count ⌝ }
+{
+    if bytes.len() < length {
+        return Found::Unsound;
+    }
+    if get_u32(bytes, length - 4) as usize != length {
+        return Found::Unsound;
+    }
+    Found::Record {
+        kind,
+        start,
+        length,
+        count,
+    }
+}
+
+// The same of a kind with a list: `fixed` bytes and 8 for each change, of which there are at least
+// `least`. The count stands 8 bytes before the end of the fixed ones.
+fn counted(bytes: &[u8], start: usize, kind: u8, fixed: usize, least: usize) -> Found
+    requires { ⌜ (8 ≤ fixed) × (fixed ≤ 37) ⌝ }
+    ensures { λ r. ⌜ r ≡ countedAt (now (bytes .entry)) start kind fixed least ⌝ }
+{
+    if bytes.len() < fixed {
+        return Found::Unsound;
+    }
+    let count = get_u32(bytes, fixed - 8) as usize;
+    if count < least {
+        return Found::Unsound;
+    }
+    closed(bytes, start, kind, fixed + 8 * count, count)
+}
+
+// The record that starts these bytes, which stand in the journal from `start` on.
+fn find_in(bytes: &[u8], start: usize) -> Found
+    ensures { λ r. ⌜ r ≡ foundAt start (readForth (now (bytes .entry))) ⌝ }
+{
+    if bytes.len() < LEAST {
+        return Found::Unsound;
+    }
+    let kind = bytes[0];
+    if kind == 1 {
+        return counted(bytes, start, 1, 10, 1);
+    }
+    if kind == 2 {
+        return closed(bytes, start, 2, 36, 0);
+    }
+    if kind == 3 {
+        return closed(bytes, start, 3, 8, 0);
+    }
+    if kind == 4 {
+        return counted(bytes, start, 4, 37, 0);
+    }
+    Found::Unsound
+}
+
+// The record that starts at the offset, inside the used part.
+pub fn find_forth(journal: &[u8], offset: usize, end: usize) -> Found
+    requires { ⌜ (offset ≤ end) × (end ≤ length (now journal)) ⌝ }
+    ensures { λ r. ⌜ r ≡ foundAt offset (readForth (take (end - offset) (drop offset (now (journal .entry))))) ⌝ }
+{
+    find_in(&journal[offset..end], offset)
+}
+
+// The record where it has n bytes.
+fn whole_only(found: Found, n: usize) -> Found
+    ensures { λ r. ⌜ r ≡ wholeOnly n found ⌝ }
+{
+    match found {
+        Found::Record {
+            kind: _,
+            start: _,
+            length,
+            count: _,
+        } => { if length == n { found } else { Found::Unsound } }
+        Found::Unsound => Found::Unsound,
+    }
+}
+
+// The record that ends at the offset: the four bytes before the offset are its length.
+pub fn find_back(journal: &[u8], offset: usize) -> Found
+    requires { ⌜ offset ≤ length (now journal) ⌝ }
+    ensures { λ r. ⌜ r ≡ foundBefore offset (readBack (take offset (now (journal .entry)))) ⌝ }
+{
+    if offset < LEAST {
+        return Found::Unsound;
+    }
+    let n = get_u32(journal, offset - 4) as usize;
+    if offset < n {
+        return Found::Unsound;
+    }
+    let start = offset - n;
+    whole_only(find_in(&journal[start..offset], start), n)
+}

@@ -1,0 +1,29 @@
+-- What undo tests on a well-formed sheet of a record other than an add's, kind by kind: `undoable` of that kind. Definitions only. Assumes nothing.
+use mathlib.Core.Bool.{Bool, not, _&&_}
+use mathlib.Core.List.{List}
+use Prim.Native.Nat.{ℕ, suc}
+use lib.Dec.{ltb, leb}
+use lib.IntN.{ℤ}
+use Rattle.base_limits.specs.Limits.{maxEntries}
+use Rattle.base_limits.specs.declared.Lab.{Lab}
+use Rattle.base_lists.specs.Lists.{some}
+use Rattle.color_doubles.specs.Finite.{unfitTriple}
+use Rattle.sheet.specs.Sheet.{stray}
+use Rattle.edit.specs.Change.{Change, outside, painted, oldOf}
+
+-- none is off the sheet, and the picture with the olds has no stray index
+unfoldable pub pixelsBack : ℕ → ℕ → ℕ → List ℤ → List Change → Bool
+pixelsBack w h k l cs = not (some (outside w h) cs) && not (some (stray k) (painted oldOf w cs l))
+
+-- the entry is there, and its old LAB is finite
+unfoldable pub setBack : ℕ → ℕ → Lab → Bool
+setBack k i x = ltb i k && not (unfitTriple x)
+
+-- there is room for the entry, none is off the sheet, its LAB is finite, and with one entry more the olds leave no stray index
+unfoldable pub removeBack : ℕ → ℕ → ℕ → List ℤ → ℕ → Lab → List Change → Bool
+removeBack w h k l i x cs =
+    leb i k
+    && (not (some (outside w h) cs)
+    && (ltb k maxEntries
+    && (not (unfitTriple x)
+    && not (some (stray (suc k)) (painted oldOf w cs l)))))

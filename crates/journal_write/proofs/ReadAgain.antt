@@ -1,0 +1,95 @@
+-- What was written is read, from both ends. By kinds only `told`, what a record's kind and count say that it holds: bytes at fixed places are
+-- found by computing, and the changes by their own law. Assumes nothing.
+use Prim.Native.Nat.{ℕ, _+_, _-_, _^_, _<_, _≤_}
+use mathlib.Core.Path.{_≡_, refl, sym, ap, ap₂, _∙_}
+use mathlib.Core.Bool.{true}
+use mathlib.Core.List.{List, [], _∷_, _++_, append-assoc, append-nil}
+use mathlib.Core.Option.{some}
+use native.Mathlib.Nat.{mod-eq-of-lt}
+use native.Mathlib.Omega.{arith}
+use borrow.Author.Tests.{eq-eqb, le-leb}
+use lib.Dec.{T}
+use lib.Ieee.{Float, binary64, toBits, ofBits, fits}
+use lib.Ieee.Bits.{ofBits-toBits, toBits-lt}
+use lib.ListN.{length, drop, length-append}
+use lib.Seq.{drop-at}
+use Rattle.base_limits.specs.declared.Lab.{Lab}
+use Rattle.edit.specs.declared.Edit.{Edit}
+use Rattle.edit.specs.declared.Edit.the-variants.{Pixels, PaletteSet, PaletteAdd, PaletteRemove}
+use Rattle.edit.specs.Change.{Change}
+use Rattle.edit.specs.Storage.{bytesOf}
+use Rattle.journal_record.specs.Bytes.{le, unle, leAt}
+use Rattle.journal_record.specs.Record.{labBytes, listBytes, bodyOf, recordLength, recordOf, rgbIn, doubleIn, labIn, changesIn, byKind, told, closed, agreed, readForth, ofLength, readBack}
+use Rattle.journal_write.specs.Fit.{FitLab, FitEdit, Fit}
+use Rattle.journal_record.proofs.LittleEndian.{length-le, unle-le, leAt-of}
+use Rattle.journal_write.proofs.Changes.{changes-in}
+use Rattle.journal_write.proofs.Lengths.{length-body, length-record}
+
+-- a number of four bytes, and a double of eight
+count-back : (n : ℕ) → n < 2 ^ 32 → unle (le 4 n) ≡ n
+count-back n h = unle-le 4 n ∙ mod-eq-of-lt h
+
+abbrev again : Float → Float
+again v = ofBits binary64 (unle (le 8 (toBits binary64 v)))
+
+double-back : (v : Float) → T (fits binary64 v) → again v ≡ v
+double-back v h = ap (ofBits binary64) (unle-le 8 (toBits binary64 v) ∙ mod-eq-of-lt (toBits-lt binary64 v h)) ∙ ofBits-toBits binary64 v h
+
+lab-back : (x : Lab) → FitLab x → record { l = again (x .l); a = again (x .a); b = again (x .b) } ≡ x
+lab-back x h j = record { l = double-back (x .l) (h .l-fits) j; a = double-back (x .a) (h .a-fits) j; b = double-back (x .b) (h .b-fits) j }
+
+-- ---- what kind and count say
+told-is : (e : Edit) (cs : List Change) (rest : List ℕ) → Fit e cs → told (bodyOf e cs ++ rest) ≡ some (e, cs)
+unfolding told byKind leAt rgbIn doubleIn labIn bodyOf labBytes listBytes le FitEdit recordLength
+told-is (Pixels tool) cs rest h =
+    let bytes : List ℕ = 1 ∷ tool ∷ listBytes cs ++ rest in
+    let count : leAt 4 bytes 2 ≡ length cs = count-back (length cs) (omega (arith, h .whole)) in
+    rw (count, le-leb 1 (length cs) (h .edit), changes-in cs (h .changes) bytes (1 ∷ tool ∷ le 4 (length cs)) rest 6 refl refl)
+told-is (PaletteSet i old new lab) cs rest h =
+    ap₂ (λ (x : Lab) (l : List Change). some (PaletteSet i old new x, l)) (lab-back lab (h .edit .0)) (sym (h .edit .1))
+told-is (PaletteAdd c) cs rest h = ap (λ (l : List Change). some (PaletteAdd c, l)) (sym (h .edit))
+told-is (PaletteRemove i c lab) cs rest h =
+    let front : List ℕ = 4 ∷ i ∷ bytesOf c ++ labBytes lab in
+    let bytes : List ℕ = front ++ listBytes cs ++ rest in
+    let count : leAt 4 bytes 29 ≡ length cs = count-back (length cs) (omega (arith, h .whole)) in
+    ap₂ (λ (x : Lab) (l : List Change). some (PaletteRemove i c x, l)) (lab-back lab (h .edit))
+    (ap (changesIn bytes 33) count ∙ changes-in cs (h .changes) bytes (front ++ le 4 (length cs)) rest 33 refl refl)
+
+-- ---- the record that starts the bytes
+last-four : (e : Edit) (cs : List Change) (after : List ℕ) → Fit e cs → closed (recordOf e cs ++ after) (recordLength e (length cs)) ≡ true
+unfolding closed recordOf
+last-four e cs after h =
+    let n : ℕ = recordLength e (length cs) in
+    let bytes : List ℕ = bodyOf e cs ++ le 4 n ++ after in
+    let long : n ≤ length bytes = rw (length-append, length-append) (omega (arith, length-le 4 n, length-body e cs)) in
+    let is : bytes ≡ bodyOf e cs ++ (le 4 n ++ after) = append-assoc (bodyOf e cs) (le 4 n) after in
+    let last : leAt 4 bytes (n - 4) ≡ n = leAt-of 4 n bytes (bodyOf e cs) after (n - 4) is (omega (arith, length-body e cs)) (h .whole) in
+    rw (le-leb n (length bytes) long, last, eq-eqb n n refl)
+
+told-record : (e : Edit) (cs : List Change) (after : List ℕ) → Fit e cs → told (recordOf e cs ++ after) ≡ some (e, cs)
+unfolding recordOf
+told-record e cs after h = rw append-assoc (told-is e cs (le 4 (recordLength e (length cs)) ++ after) h)
+
+pub read-forth : (e : Edit) (cs : List Change) (after : List ℕ) → Fit e cs → readForth (recordOf e cs ++ after) ≡ some (recordLength e (length cs), e, cs)
+unfolding readForth agreed
+read-forth e cs after h = rw (told-record e cs after h, last-four e cs after h)
+
+-- ---- the record that ends them
+last-of-all : (e : Edit) (cs : List Change) (before : List ℕ) → Fit e cs → leAt 4 (before ++ recordOf e cs) (length (before ++ recordOf e cs) - 4) ≡ recordLength e (length cs)
+unfolding recordOf
+last-of-all e cs before h =
+    let n : ℕ = recordLength e (length cs) in
+    let front : List ℕ = before ++ bodyOf e cs in
+    let is : before ++ (bodyOf e cs ++ le 4 n) ≡ front ++ (le 4 n ++ []) = simp (append-assoc, append-nil) in
+    let at : length front ≡ length (before ++ (bodyOf e cs ++ le 4 n)) - 4 = simp (length-append, length-le) (omega arith) in
+    leAt-of 4 n (before ++ (bodyOf e cs ++ le 4 n)) front [] _ is at (h .whole)
+
+pub read-back : (e : Edit) (cs : List Change) (before : List ℕ) → Fit e cs → readBack (before ++ recordOf e cs) ≡ some (recordLength e (length cs), e, cs)
+unfolding readBack ofLength
+read-back e cs before h =
+    let n : ℕ = recordLength e (length cs) in
+    let bytes : List ℕ = before ++ recordOf e cs in
+    let long : length bytes ≡ length before + n = length-append before (recordOf e cs) ∙ rw length-record in
+    let at : drop (length bytes - n) bytes ≡ recordOf e cs = drop-at before (recordOf e cs) (length bytes - n) (omega arith) in
+    let forth : readForth (recordOf e cs) ≡ some (n, e, cs) = rw append-nil at (read-forth e cs [] h) in
+    rw (last-of-all e cs before h, le-leb n (length bytes) (omega arith), at, forth, eq-eqb n n refl)

@@ -1,0 +1,67 @@
+-- What a record can hold: an edit and its changes whose numbers fit the bytes that they get. Definitions only. Assumes nothing.
+use Prim.Native.Nat.{ℕ, _^_, _<_, _≤_}
+use mathlib.Core.Path.{_≡_}
+use mathlib.Core.List.{List, [], _∷_}
+use mathlib.Core.Bool.{false, not}
+use lib.IntN.{ℤ}
+use lib.Dec.{T}
+use lib.Ieee.{binary64, fits, isNan}
+use lib.ListN.{length}
+use mir.Syntax.{w16}
+use mir.Val.{SFits}
+use Rattle.base_limits.specs.declared.Lab.{Lab}
+use Rattle.base_lists.specs.Lists.{some}
+use Rattle.sheet.specs.Sheet.{Sheet, sheetOf}
+use Rattle.edit.specs.declared.Edit.{Edit}
+use Rattle.edit.specs.declared.Edit.the-variants.{Pixels, PaletteSet, PaletteAdd, PaletteRemove}
+use Rattle.edit.specs.Change.{Change}
+use Rattle.edit_pixels.specs.Inside.{past}
+use Rattle.journal_record.specs.Record.{recordLength}
+
+-- "x, y unsigned 16-bit, old, new signed 16-bit"
+pub record FitChange (c : Change) : Type 0 where
+  pub x-fits : c .x < 2 ^ 16
+  pub y-fits : c .y < 2 ^ 16
+  pub old-fits : SFits w16 (c .old)
+  pub new-fits : SFits w16 (c .new)
+
+unfoldable pub FitChanges : List Change → Type 0
+FitChanges [] = Unit {0}
+FitChanges (c ∷ cs) = FitChange c × FitChanges cs
+
+-- doubles of 64 bits
+pub record FitLab (x : Lab) : Type 0 where
+  pub l-fits : T (fits binary64 (x .l))
+  pub a-fits : T (fits binary64 (x .a))
+  pub b-fits : T (fits binary64 (x .b))
+
+-- pixels have a change, set and add have none
+unfoldable pub FitEdit : Edit → List Change → Type 0
+FitEdit (Pixels tool) cs = 1 ≤ length cs
+FitEdit (PaletteSet i old new lab) cs = FitLab lab × (cs ≡ [])
+FitEdit (PaletteAdd c) cs = cs ≡ []
+FitEdit (PaletteRemove i c lab) cs = FitLab lab
+
+pub record Fit (e : Edit) (cs : List Change) : Type 0 where
+  pub edit : FitEdit e cs
+  pub changes : FitChanges cs
+  pub whole : recordLength e (length cs) < 2 ^ 32
+
+-- ---- what the writers ask besides
+
+-- doubles that are numbers: the bits of any other are not told
+pub record Numbers (x : Lab) : Type 0 where
+  pub l-number : T (not (isNan (x .l)))
+  pub a-number : T (not (isNan (x .a)))
+  pub b-number : T (not (isNan (x .b)))
+
+-- an edit that can be written beside its changes: pixels lie among n indices, an index is a byte, LAB is numbers
+unfoldable pub Writable : ℕ → ℕ → Edit → List Change → Type 0
+Writable w n (Pixels tool) cs = some (past w n) cs ≡ false
+Writable w n (PaletteSet i old new lab) cs = (i < 256) × Numbers lab
+Writable w n (PaletteAdd c) cs = Unit {0}
+Writable w n (PaletteRemove i c lab) cs = (i < 256) × Numbers lab
+
+-- a sheet as far as filling in looks at it
+abbrev pub rowsOf : ℕ → List ℤ → Sheet
+rowsOf w indices = sheetOf w 0 0 [] [] indices

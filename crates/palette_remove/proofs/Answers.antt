@@ -1,0 +1,92 @@
+-- What the calls that take an entry out answer, by what their tests find. Assumes nothing.
+use mathlib.Core.Path.{_≡_, sym, ap, subst, _∙_}
+use mathlib.Core.Bool.{or-true}
+use mathlib.Core.List.{List, [], map}
+use Prim.Native.Nat.{ℕ, _<_, _≤_}
+use native.Mathlib.Omega.{arith}
+use borrow.Author.Tests.{le-leb, lt-leb, le-ltb, lt-ltb, eq-eqb, ne-eqb}
+use lib.IntN.{ℤ, pos}
+use lib.ListN.{length, length-map}
+use Rattle.base_limits.specs.Checks.{Check, firstOf, refusedOr}
+use Rattle.base_limits.specs.declared.Rgb.{Rgb}
+use Rattle.base_limits.specs.declared.Lab.{Lab}
+use Rattle.base_limits.proofs.First.{first-past, first-here, refused-first, result-first}
+use Rattle.base_lists.specs.Lists.{over}
+use Rattle.color.specs.declared.Found.the-variants as found
+use Rattle.sheet.specs.Sheet.{Sheet}
+use Rattle.sheet.specs.Checks.{sheetChecks, WellFormed, Judged}
+use Rattle.base_storage.specs.Triples.{rgbAt}
+use Rattle.sheet.proofs.Judging.{past-sheet}
+use Rattle.edit.specs.declared.Edit.the-variants.{PaletteRemove}
+use Rattle.edit.specs.Change.{packed}
+use Rattle.edit_pixels.specs.Listing.{placesFrom}
+use Rattle.edit_entries.specs.Unfilled.{noLab}
+use Rattle.palette_nearest.specs.Nearest.{otherChecks, Removable, Nearest}
+use Rattle.palette_remove.specs.declared.Removal.the-variants as removal
+use Rattle.palette_remove.specs.Nearest.{nearestOtherOf, NearestOther}
+use Rattle.palette_remove.specs.Removal.{moved, remapOf, remapped, removeTo, mergeChecks}
+
+-- ---- `nearest_other`
+module _ (s : Sheet) (i : ℕ) where
+  never : {n j : ℕ} → found.Refused n ≡ found.Entry j → ⊥
+  never h = let z : _≡_ {A = ℕ} 0 1 = cc in omega arith
+
+  pub near-refused : (n : ℕ) → Removable s i n → (n ≡ 0 → ⊥) → NearestOther s i (found.Refused n)
+  unfolding nearestOtherOf
+  near-refused n r h = record { value = refused-first (otherChecks s i) found.Refused _ n (r .value) h; first = λ j e. absurd (never e) }
+
+  pub near-found : (n : ℕ) → Removable s i n → n ≡ 0 → (j : ℕ) → Nearest (s .lab) (s .k) i j → NearestOther s i (found.Entry j)
+  unfolding nearestOtherOf
+  near-found n r z j f =
+      record {
+        value = ap found.Entry (f .value) ∙ result-first (otherChecks s i) found.Refused _ (sym (r .value) ∙ z);
+        first = λ m e. let same : j ≡ m = cc in subst (λ (q : ℕ). Nearest (s .lab) (s .k) i q) same f .first;
+      }
+
+-- ---- the remap
+pub remap-length : (w : ℕ) (l : List ℤ) (i target : ℕ) → length (remapOf w l i target) ≡ length (placesFrom (pos i) 0 l)
+unfolding remapOf
+remap-length w l i target = length-map (placesFrom (pos i) 0 l) (moved w i target)
+
+module _ (w : ℕ) (palette : List ℕ) (l : List ℤ) (i target : ℕ) (list : List ℕ) where
+  -- a call's own checks before it
+  pub remove-refused : (cs : List Check) (n : ℕ) → n ≡ firstOf cs → (n ≡ 0 → ⊥) → remapped (removal.Refused n) list ≡ removeTo cs w palette l i target list
+  unfolding removeTo
+  remove-refused cs n e h = refused-first _ (λ m. remapped (removal.Refused m) list) _ n (first-here cs _ n e h) h
+
+  pub remove-past : (cs : List Check) → firstOf cs ≡ 0 → removeTo [] w palette l i target list ≡ removeTo cs w palette l i target list
+  unfolding removeTo
+  remove-past cs e = rw (first-past cs _ e)
+
+  -- 16, or the list
+  pub remove-short : length list < length (placesFrom (pos i) 0 l) → remapped (removal.Refused 16) list ≡ removeTo [] w palette l i target list
+  unfolding removeTo firstOf refusedOr
+  remove-short h = rw (remap-length w l i target, lt-ltb _ _ h)
+
+  pub remove-done : (count : ℕ) (c : Rgb) (v : Lab) (list' : List ℕ) → count ≡ length (placesFrom (pos i) 0 l) → count ≤ length list
+      → c ≡ rgbAt palette i → v ≡ noLab → list' ≡ over (map packed (remapOf w l i target)) list
+      → remapped (removal.Made (PaletteRemove i c v) count) list' ≡ removeTo [] w palette l i target list
+  unfolding removeTo firstOf refusedOr
+  remove-done count c v list' e h f g q = rw (remap-length w l i target, ← e, le-ltb _ _ h, f, g, q)
+
+-- ---- `merge_entries`
+module _ (s : Sheet) (from into : ℕ) where
+  pub merge-sheet : (n : ℕ) → Judged s n → (n ≡ 0 → ⊥) → n ≡ firstOf (mergeChecks s from into)
+  unfolding mergeChecks
+  merge-sheet n j h = first-here (sheetChecks [] s) _ n (j .value) h
+
+  pub merge-from : WellFormed s → s .k ≤ from → 18 ≡ firstOf (mergeChecks s from into)
+  unfolding mergeChecks firstOf
+  merge-from f h = rw (past-sheet s f, le-leb _ _ h)
+
+  pub merge-into : WellFormed s → s .k ≤ into → 18 ≡ firstOf (mergeChecks s from into)
+  unfolding mergeChecks firstOf
+  merge-into f h = rw (past-sheet s f, le-leb _ _ h, or-true)
+
+  pub merge-same : WellFormed s → from ≡ into → 18 ≡ firstOf (mergeChecks s from into)
+  unfolding mergeChecks firstOf
+  merge-same f h = rw (past-sheet s f, eq-eqb _ _ h, or-true, or-true)
+
+  pub merge-fine : WellFormed s → from < s .k → into < s .k → (from ≡ into → ⊥) → firstOf (mergeChecks s from into) ≡ 0
+  unfolding mergeChecks firstOf
+  merge-fine f a b ne = rw (past-sheet s f, lt-leb _ _ a, lt-leb _ _ b, ne-eqb _ _ ne)

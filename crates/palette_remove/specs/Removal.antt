@@ -1,0 +1,56 @@
+-- `remove_entry` and `merge_entries` of palette.rs: the remap, and the calls. Definitions only. Assumes nothing.
+use Prim.Native.Nat.{ℕ, _/_, _%_}
+use mathlib.Core.Bool.{_||_}
+use mathlib.Core.List.{List, [], _∷_, _++_, map}
+use lib.Dec.{ltb, leb, eqb}
+use lib.IntN.{ℤ, pos}
+use lib.ListN.{length}
+use Rattle.base_limits.specs.Numbers.{badMerge, noSpace}
+use Rattle.base_limits.specs.Checks.{Check, _when_, checked}
+use Rattle.base_lists.specs.Lists.{over}
+use Rattle.sheet.specs.Sheet.{Sheet}
+use Rattle.sheet.specs.Checks.{sheetChecks}
+use Rattle.base_storage.specs.Triples.{rgbAt}
+use Rattle.edit.specs.declared.Edit.the-variants.{PaletteRemove}
+use Rattle.edit.specs.Change.{Change, packed}
+use Rattle.edit_pixels.specs.Listing.{placesFrom}
+use Rattle.edit_entries.specs.Unfilled.{noLab}
+use Rattle.palette_nearest.specs.Nearest.{otherChecks, nearestOther}
+use Rattle.palette_remove.specs.declared.Removal.{Removal}
+use Rattle.palette_remove.specs.declared.Removal.the-variants as removal
+
+-- ---- "`remove_to` lists the entry's pixels in row order"
+-- the change of the pixel at a place, on a sheet of width w
+unfoldable pub moved : ℕ → ℕ → ℕ → ℕ → Change
+moved w i target p = record { x = p % w; y = p / w; old = pos i; new = pos target }
+
+unfoldable pub remapOf : ℕ → List ℤ → ℕ → ℕ → List Change
+remapOf w indices i target = map (moved w i target) (placesFrom (pos i) 0 indices)
+
+-- ---- the answer, and the list
+pub record Remapped : Type 0 where
+  pub answer : Removal
+  pub list : List ℕ
+
+abbrev pub remapped : Removal → List ℕ → Remapped
+remapped answer list = record { answer = answer; list = list }
+
+-- a call's checks, then 16; the edit, and its remap at the front of the list
+unfoldable pub removeTo : List Check → ℕ → List ℕ → List ℤ → ℕ → ℕ → List ℕ → Remapped
+removeTo checks w palette indices i target list =
+    let remap = remapOf w indices i target in
+    checked (checks ++ (noSpace when ltb (length list) (length remap) ∷ []))
+    (λ n. remapped (removal.Refused n) list)
+    (remapped (removal.Made (PaletteRemove i (rgbAt palette i) noLab) (length remap)) (over (map packed remap) list))
+
+-- "Remove entry `index`; its pixels (if any) move to the nearest remaining entry"
+unfoldable pub removeEntryOf : Sheet → ℕ → List ℕ → Remapped
+removeEntryOf s i list = removeTo (otherChecks s i) (s .w) (s .palette) (s .indices) i (nearestOther (s .lab) (s .k) i) list
+
+-- 18: "from or into ≥ k, or equal"
+unfoldable pub mergeChecks : Sheet → ℕ → ℕ → List Check
+mergeChecks s from into = sheetChecks [] s ++ (badMerge when (leb (s .k) from || (leb (s .k) into || eqb from into)) ∷ [])
+
+-- "Merge entry `from` into `into`: every pixel of `from` becomes `into`, `from` is removed"
+unfoldable pub mergeEntriesOf : Sheet → ℕ → ℕ → List ℕ → Remapped
+mergeEntriesOf s from into list = removeTo (mergeChecks s from into) (s .w) (s .palette) (s .indices) from into list

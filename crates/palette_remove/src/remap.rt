@@ -1,0 +1,128 @@
+// Entries that leave the palette, with the changes that move their pixels: `remove_entry` and
+// `merge_entries`. The changes are counted before the first is written.
+use crate::Removal;
+use base_limits::BAD_MERGE;
+use base_limits::NO_SPACE;
+use base_storage::rgb_at;
+use edit::Edit;
+use edit_entries::no_lab;
+use edit_pixels::change_of;
+use edit_pixels::count_on;
+use edit_pixels::list_row;
+use palette_nearest::nearest_but;
+use palette_nearest::other_no;
+use sheet::check;
+ghost use mathlib.Core.Path.{_≡_};
+ghost use mathlib.Core.List.{[], map};
+ghost use Prim.Native.Nat.{_+_, _*_, _<_, _≤_};
+ghost use lib.IntN.{pos};
+ghost use lib.ListN.{length};
+ghost use Rattle.base_lists.specs.Lists.{over};
+ghost use Rattle.sheet.specs.Sheet.{sheetOf};
+ghost use Rattle.edit.specs.Change.{packed};
+ghost use Rattle.edit_pixels.specs.Listing.{placesFrom};
+ghost use Rattle.palette_remove.specs.Removal.{remapOf, remapped, removeTo, removeEntryOf, mergeEntriesOf};
+
+// An entry as pixels have it.
+fn as_index(entry: usize) -> i16
+    requires { ⌜ entry ≤ 255 ⌝ }
+    ensures { λ r. ⌜ r ≡ pos entry ⌝ }
+{
+    entry as i16
+}
+
+// Lists the changes of the pixels that are on the entry, row by row. What the list has past them keeps.
+fn list_rows(w: usize, h: usize, indices: &[i16], index: usize, target: usize, list: &mut [u64])
+    requires { ⌜ (w ≤ 1024) × (h ≤ 1024) × (length (now indices) ≡ w * h) × (index ≤ 255) × (target ≤ 255) × (length (placesFrom (pos index) 0 (now indices)) ≤ length (now list)) ⌝ }
+    ensures { λ _. ⌜ now (list .exit) ≡ over (map packed (remapOf w (now (indices .entry)) index target)) (now (list .entry)) ⌝ }
+{
+    let from = as_index(index);
+    let to = as_index(target);
+    let mut n: usize = 0;
+    let mut y: usize = 0;
+    while y < h {
+        let at = y * w;
+        let end = at + w;
+        let first = change_of(0, y, from, to);
+        n += list_row(&indices[at..end], from, first, &mut list[n..]);
+        y += 1;
+    }
+}
+
+// The edit that removes an entry, and the list that moves its pixels to another; 16 where the list is
+// shorter than its changes.
+fn remove_to(
+    w: usize,
+    h: usize,
+    palette: &[u8],
+    indices: &[i16],
+    index: usize,
+    target: usize,
+    list: &mut [u64],
+) -> Removal
+    requires { ⌜ (w ≤ 1024) × (h ≤ 1024) × (length (now indices) ≡ w * h) × (length (now palette) ≡ 765) × (index < 255) × (target < 255) ⌝ }
+    ensures { λ r. ⌜ remapped r (now (list .exit)) ≡ removeTo [] w (now (palette .entry)) (now (indices .entry)) index target (now (list .entry)) ⌝ }
+{
+    let count = count_on(indices, as_index(index));
+    if list.len() < count {
+        return Removal::Refused(NO_SPACE);
+    }
+    list_rows(w, h, indices, index, target, list);
+    let rgb = rgb_at(palette, index);
+    let lab = no_lab();
+    Removal::Made {
+        edit: Edit::PaletteRemove { index, rgb, lab },
+        count,
+    }
+}
+
+// The edit that removes entry `index`; its pixels move to the nearest other entry.
+pub fn remove_entry(
+    w: usize,
+    h: usize,
+    k: usize,
+    palette: &[u8],
+    lab: &[f64],
+    indices: &[i16],
+    index: usize,
+    list: &mut [u64],
+) -> Removal
+    ensures { λ r. ⌜ remapped r (now (list .exit)) ≡ removeEntryOf (sheetOf w h k (now (palette .entry)) (now (lab .entry)) (now (indices .entry))) index (now (list .entry)) ⌝ }
+{
+    let no = other_no(w, h, k, palette, lab, indices, index);
+    if no != 0 {
+        return Removal::Refused(no);
+    }
+    let target = nearest_but(lab, k, index);
+    remove_to(w, h, palette, indices, index, target, list)
+}
+
+// The edit that merges entry `from` into `into`: its pixels become `into`, and it is removed.
+pub fn merge_entries(
+    w: usize,
+    h: usize,
+    k: usize,
+    palette: &[u8],
+    lab: &[f64],
+    indices: &[i16],
+    from: usize,
+    into: usize,
+    list: &mut [u64],
+) -> Removal
+    ensures { λ r. ⌜ remapped r (now (list .exit)) ≡ mergeEntriesOf (sheetOf w h k (now (palette .entry)) (now (lab .entry)) (now (indices .entry))) from into (now (list .entry)) ⌝ }
+{
+    let no = check(w, h, k, palette, lab, indices);
+    if no != 0 {
+        return Removal::Refused(no);
+    }
+    if k <= from {
+        return Removal::Refused(BAD_MERGE);
+    }
+    if k <= into {
+        return Removal::Refused(BAD_MERGE);
+    }
+    if from == into {
+        return Removal::Refused(BAD_MERGE);
+    }
+    remove_to(w, h, palette, indices, from, into, list)
+}

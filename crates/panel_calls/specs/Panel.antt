@@ -1,0 +1,127 @@
+-- Document 01's "Program `panel`": what a line does, and what it prints. Definitions only. Assumes nothing.
+--
+-- A state after the opening is one of demand 3 (history_model/specs/Demand3.antt), and a frame asks for a call of demand 3: `step editing` (history_ledger/specs/Journal.antt)
+-- answers it.
+use Prim.Native.Nat.{ℕ}
+use mathlib.Core.Bool.{false, cond}
+use mathlib.Core.List.{List, [], _∷_, _++_, map}
+use mathlib.Core.Option.{Option, none, some}
+use lib.Dec.{ltb, eqb}
+use lib.ListN.{replicate}
+use Rattle.base_limits.specs.Limits.{storage}
+use Rattle.base_limits.specs.Numbers.{badSheet, unreadFrame}
+use Rattle.base_limits.specs.Checks.{Check, _when_, checked}
+use Rattle.base_limits.specs.Answer.{numberOf}
+use Rattle.base_limits.specs.declared.Answer.{Answer}
+use Rattle.base_limits.specs.declared.Answer.the-variants.{Done}
+use Rattle.base_lists.specs.Lists.{over}
+use Rattle.color_doubles.specs.Arithmetic.{decimal}
+use Rattle.sheet.specs.Sheet.{Sheet, sheetOf}
+use Rattle.sheet.specs.Checks.{limitChecks, indexChecks}
+use Rattle.sheet.specs.Document.{newLab}
+use Rattle.base_storage.specs.Triples.{rgbAt}
+use Rattle.edit.specs.declared.Edit.{Edit}
+use Rattle.edit.specs.declared.Edit.the-variants as edit
+use Rattle.edit.specs.Change.{Change, packed}
+use Rattle.edit.specs.Checks.{permittedOf}
+use Rattle.edit_entries.specs.Unfilled.{noLab}
+use Rattle.palette_remove.specs.Removal.{remapOf, mergeChecks}
+use Rattle.history_ledger.specs.Handle.{dirty}
+use Rattle.history_ledger.specs.Calls.{Outcome, refused, guarded}
+use Rattle.history_ledger.specs.Calls.Call.{push, undo, redo, mark}
+use Rattle.history_ledger.specs.Journal.{State, opened, step}
+use Rattle.history_model.specs.Editing.{Given, givenOf, editing}
+use Rattle.panel_frames.specs.Reading.{frameOf, paletteIn, indicesIn, changesFrom}
+use Rattle.panel_frames.specs.Writing.{lineOf, numberLine}
+use Rattle.panel_frames.specs.declared.Frame.{Frame}
+use Rattle.panel_frames.specs.declared.Frame.the-variants.{Open, Pixels, Set, Add, Merge, Undo, Redo, Mark, Malformed}
+use Rattle.panel_calls.specs.Lines.{Said, said, answers}
+
+-- nothing before the opening; then sheet, journal and handle
+abbrev pub Panel : Type 0
+Panel = Option (State editing)
+
+-- "Journal 4,096 bytes", and places of scratch, more than a sheet of 64 by 64 has
+abbrev pub journalBytes : ℕ
+journalBytes = 4096
+
+abbrev pub room : ℕ
+room = 8192
+
+-- ---- the calls
+
+-- "no colour list"
+abbrev pub given : Edit → List Change → Given
+given e cs = record { permitted = permittedOf false []; edit = e; changes = cs }
+
+-- "04 from into": 18 comes first, then what the push of the merge answers
+unfoldable pub mergedOf : State editing → ℕ → ℕ → Outcome (State editing)
+mergedOf st from into =
+    let s = st .sheet in
+    guarded st (mergeChecks s from into)
+    (step editing room st (push (givenOf false [] (edit.PaletteRemove from (rgbAt (s .palette) from) noLab) (map packed (remapOf (s .w) (s .indices) from into)))))
+
+-- what a frame asks of the history; push fills in old colour and old LAB. 22 for "a second opening" and for a "malformed line"
+unfoldable pub callOf : State editing → Frame → List ℕ → Outcome (State editing)
+callOf st (Open w h k) bs = refused st unreadFrame
+callOf st (Pixels tool n) bs = step editing room st (push (given (edit.Pixels tool) (changesFrom bs 2 n)))
+callOf st (Set i c) bs = step editing room st (push (given (edit.PaletteSet i c c noLab) []))
+callOf st (Add c) bs = step editing room st (push (given (edit.PaletteAdd c) []))
+callOf st (Merge from into) bs = mergedOf st from into
+callOf st Undo bs = step editing room st undo
+callOf st Redo bs = step editing room st redo
+callOf st Mark bs = step editing room st mark
+callOf st Malformed bs = refused st unreadFrame
+
+-- "It prints .. answer (00 done, FF still, else number), position (2), dirty, k, indices"
+unfoldable pub wholeLine : Answer → State editing → List ℕ
+wholeLine a st = lineOf (numberOf a) (st .handle .position) (dirty (st .handle)) (st .sheet .k) (st .sheet .indices)
+
+-- "22 .. prints the number only"; "Every other refusal prints the whole line"
+unfoldable pub shown : Outcome (State editing) → Said Panel
+shown o =
+    said (some (o .leaves))
+    (cond (eqb (numberOf (o .answer)) unreadFrame) (numberLine unreadFrame) (wholeLine (o .answer) (o .leaves)))
+
+-- ---- the opening
+
+-- "00 w(2) h(2) k, palette, indices": storage past the entries is zero
+unfoldable pub openSheet : ℕ → ℕ → ℕ → List ℕ → Sheet
+openSheet w h k bs = sheetOf w h k (over (paletteIn k bs) (replicate storage 0)) (replicate storage (decimal 0 1)) (indicesIn w h k bs)
+
+-- LAB of the k entries worked out, and the journal zero
+unfoldable pub begun : Sheet → State editing
+begun s = opened editing (sheetOf (s .w) (s .h) (s .k) (s .palette) (newLab s) (s .indices)) (replicate journalBytes 0)
+
+-- "1 also for sides over 64", then 1 and 2 of the sheet; no other number can come
+unfoldable pub openChecks : Sheet → List Check
+openChecks s = badSheet when ltb 64 (s .w) ∷ badSheet when ltb 64 (s .h) ∷ limitChecks s ++ indexChecks s
+
+-- "a failed opening (.. the sheet stays unopened) .. prints the number only"
+unfoldable pub openOf : Sheet → Said Panel
+openOf s = checked (openChecks s) (λ n. said none (numberLine n)) (said (some (begun s)) (wholeLine Done (begun s)))
+
+-- 22 for a "call before opening" and for a "malformed line"
+unfoldable pub unopenedOf : Frame → List ℕ → Said Panel
+unopenedOf (Open w h k) bs = openOf (openSheet w h k bs)
+unopenedOf (Pixels tool n) bs = said none (numberLine unreadFrame)
+unopenedOf (Set i c) bs = said none (numberLine unreadFrame)
+unopenedOf (Add c) bs = said none (numberLine unreadFrame)
+unopenedOf (Merge from into) bs = said none (numberLine unreadFrame)
+unopenedOf Undo bs = said none (numberLine unreadFrame)
+unopenedOf Redo bs = said none (numberLine unreadFrame)
+unopenedOf Mark bs = said none (numberLine unreadFrame)
+unopenedOf Malformed bs = said none (numberLine unreadFrame)
+
+-- ---- a line, and all of them
+
+unfoldable pub actOf : Panel → Frame → List ℕ → Said Panel
+actOf none f bs = unopenedOf f bs
+actOf (some st) f bs = shown (callOf st f bs)
+
+unfoldable pub stepOf : Panel → List ℕ → Said Panel
+stepOf p line = actOf p (frameOf line .frame) (frameOf line .bytes)
+
+-- what the program prints to each of its lines
+unfoldable pub panelOf : List (List ℕ) → List (List ℕ)
+panelOf lines = answers stepOf none lines

@@ -1,8 +1,0 @@
--- A double that was read from bytes, where any NaN stands for a NaN. Definitions only. Assumes nothing.
-use lib.Ieee.{Float, nan}
-use Rattle.records.specs.declared.Real.{Real}
-use Rattle.records.specs.declared.Real.the-variants.{Number, NotANumber}
-
-unfoldable pub doubleOf : Real → Float
-doubleOf (Number x) = x
-doubleOf NotANumber = nan

@@ -1,0 +1,16 @@
+-- `lesser`: by the test. Assumes nothing.
+use borrow.Author.Tests.{lt-ltb, le-ltb}
+use Rattle.struct_change.specs.Struct.{least}
+use Rattle.struct_change.proofs.slices.lesser.Statement.{statement}
+use Rattle.struct_change.proofs.slices.lesser.Tie as tie
+
+returns : tie.Need-returns
+unfolding least
+returns c = rw (lt-ltb _ _ (c .if1 .taken))
+
+returns-2 : tie.Need-returns-2
+unfolding least
+returns-2 c = rw (le-ltb _ _ (c .if1 .left))
+
+pub lesser-spec : {M : Type 1} → statement M
+lesser-spec = tie.close (tie.spec returns returns-2)

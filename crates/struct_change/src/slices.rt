@@ -1,0 +1,86 @@
+// Lists of change structs packed into numbers, as the core takes them, filled from numbers, copied, and gone through.
+use crate::Change;
+use crate::packed;
+use crate::unpacked;
+use base_lists::either;
+use edit_pixels::is_outside;
+ghost use mathlib.Core.Path.{_≡_};
+ghost use mathlib.Core.Bool.{_||_};
+ghost use mathlib.Core.List.{map};
+ghost use Prim.Native.Nat.{_≤_};
+ghost use lib.ListN.{length, take};
+ghost use Rattle.base_lists.specs.Lists.{over, some};
+ghost use Rattle.edit.specs.Change as flat;
+ghost use Rattle.struct_change.specs.Struct.{packedOf, least};
+
+// The lesser of two numbers.
+pub fn lesser(a: usize, b: usize) -> usize
+    ensures { λ r. ⌜ r ≡ least a b ⌝ }
+{
+    if a < b {
+        return a;
+    }
+    b
+}
+
+// The first n changes of a list, packed, over the front of flat, which keeps its bits past them.
+pub fn pack(list: &[Change], n: usize, flat: &mut [u64])
+    requires { ⌜ (n ≤ length (now list)) × (n ≤ length (now flat)) ⌝ }
+    ensures { λ _. ⌜ now (flat .exit) ≡ over (take n (map packedOf (now (list .entry)))) (now (flat .entry)) ⌝ }
+{
+    let mut i: usize = 0;
+    while i < n {
+        let c = list[i];
+        let v = packed(c);
+        flat[i] = v;
+        i += 1;
+    }
+}
+
+// The first n numbers, as structs, over the front of out, which keeps its bits past them.
+pub fn unpack(flat: &[u64], n: usize, out: &mut [Change])
+    requires { ⌜ (n ≤ length (now flat)) × (n ≤ length (now out)) ⌝ }
+    ensures { λ _. ⌜ map packedOf (now (out .exit)) ≡ over (take n (now (flat .entry))) (map packedOf (now (out .entry))) ⌝ }
+{
+    let mut filled: usize = 0;
+    while filled < n {
+        let v = flat[filled];
+        let c = unpacked(v);
+        out[filled] = c;
+        filled += 1;
+    }
+}
+
+// The first n changes of a list over the front of out, which keeps its bits past them.
+pub fn copy_front(list: &[Change], n: usize, out: &mut [Change])
+    requires { ⌜ (n ≤ length (now list)) × (n ≤ length (now out)) ⌝ }
+    ensures { λ _. ⌜ map packedOf (now (out .exit)) ≡ over (take n (map packedOf (now (list .entry)))) (map packedOf (now (out .entry))) ⌝ }
+{
+    let mut copied: usize = 0;
+    while copied < n {
+        let c = list[copied];
+        out[copied] = c;
+        copied += 1;
+    }
+}
+
+// Whether a change was off the sheet so far, or this one is.
+fn or_outside(off: bool, w: usize, h: usize, c: Change) -> bool
+    ensures { λ r. ⌜ r ≡ off || flat.outside w h (flat.unpacked (packedOf c)) ⌝ }
+{
+    either(off, is_outside(w, h, packed(c)))
+}
+
+// Whether one of the first n changes of a list is off the sheet. The scan has no early exit.
+pub fn any_outside(w: usize, h: usize, list: &[Change], n: usize) -> bool
+    requires { ⌜ n ≤ length (now list) ⌝ }
+    ensures { λ r. ⌜ r ≡ some (flat.outside w h) (map flat.unpacked (take n (map packedOf (now (list .entry))))) ⌝ }
+{
+    let mut off = false;
+    let mut i: usize = 0;
+    while i < n {
+        off = or_outside(off, w, h, list[i]);
+        i += 1;
+    }
+    off
+}

@@ -1,0 +1,73 @@
+-- `remove_entry_in`: with too little scratch 16, where nothing else refuses the call; else the call, with the front of the scratch for its buffer. Assumes nothing.
+use mathlib.Core.Path.{refl, sym}
+use native.Mathlib.Omega.{arith}
+use lib.ListN.{length}
+use lib.Seq.{length-take-le}
+use Rattle.sheet.specs.Sheet.{Sheet, sheetOf}
+use Rattle.struct_change.proofs.Packing.{least-fits}
+use Rattle.struct_palette.proofs.Remaps.{short-remap, remap-in, remove-is}
+use borrow.Author.Needs.{needs}
+use Rattle.struct_palette.proofs.removing.remove_entry_in.Statement.{statement}
+use Rattle.struct_palette.proofs.removing.remove_entry_in.Tie as tie
+
+abbrev sheet : (c : tie.Start) → Sheet
+sheet c = let a = c .args in sheetOf (a .w) (a .h) (a .k) (a .palette .now) (a .lab .now) (a .indices .now)
+
+slice-relend-prefix-remove-entry : tie.Need-slice-relend-prefix-remove-entry
+slice-relend-prefix-remove-entry c = search needs
+
+slice-aggregate-remove-entry : tie.Need-slice-aggregate-remove-entry
+slice-aggregate-remove-entry c = search needs
+
+remove-entry-requires : tie.Need-remove-entry-requires
+remove-entry-requires c κs = search needs
+
+no-removal-requires : tie.Need-no-removal-requires
+no-removal-requires c κs = search needs
+
+same-length : tie.Need-same-length
+same-length c = search needs
+
+returns : tie.Need-returns
+returns c =
+    let a = c .before .before .before .before .before .before .before .before .before .args in
+    let s = sheet (c .before .before .before .before .before .before .before .before .before) in
+    short-remap _ _ _ _ _ _ (remove-is s (a .index)) _ (c .before .before .before .before .before .if1 .taken) (c .before .before .before .remove-entry .ensures) (c .no-removal .ensures)
+
+lesser-requires : tie.Need-lesser-requires
+lesser-requires c κs = search needs
+
+slice-relend-prefix-remove-entry-2 : tie.Need-slice-relend-prefix-remove-entry-2
+slice-relend-prefix-remove-entry-2 c = let k = least-fits (c .before .before .before .before .before .args .room) (length (c .before .before .before .before .before .args .scratch .now)) .1 in omega (arith, c .lesser .ensures, k)
+
+slice-aggregate-remove-entry-2 : tie.Need-slice-aggregate-remove-entry-2
+slice-aggregate-remove-entry-2 c = let k = least-fits (c .before .before .before .before .before .before .args .room) (length (c .before .before .before .before .before .before .args .scratch .now)) .1 in sym (length-take-le _ _ (omega (arith, c .before .lesser .ensures, k)))
+
+remove-entry-requires-2 : tie.Need-remove-entry-requires-2
+remove-entry-requires-2 c κs = search needs
+
+same-length-2 : tie.Need-same-length-2
+same-length-2 c = search needs
+
+returns-2 : tie.Need-returns-2
+returns-2 c =
+    let a = c .before .before .before .before .before .before .before .before .before .args in
+    let s = sheet (c .before .before .before .before .before .before .before .before .before) in
+    remap-in _ _ _ _ _ _ (remove-is s (a .index)) _ (a .scratch .now) _ _ (c .before .before .before .before .before .if1 .left) refl (c .before .before .before .before .lesser .ensures) (c .before .before .remove-entry2 .ensures)
+
+pub remove-entry-in-spec : {M : Type 1} → statement M
+remove-entry-in-spec =
+    tie.close
+    (tie.spec
+    slice-relend-prefix-remove-entry
+    slice-aggregate-remove-entry
+    remove-entry-requires
+    no-removal-requires
+    same-length
+    returns
+    lesser-requires
+    slice-relend-prefix-remove-entry-2
+    slice-aggregate-remove-entry-2
+    remove-entry-requires-2
+    same-length-2
+    returns-2)

@@ -1,0 +1,160 @@
+// `remove_entry` and `merge_entries` of palette.rs.
+use base_limits::NO_SPACE;
+use palette_remove::Removal;
+use struct_change::Change;
+use struct_change::lesser;
+use struct_change::unpack;
+ghost use mathlib.Core.Path.{_≡_};
+ghost use mathlib.Core.List.{map};
+ghost use lib.ListN.{length};
+ghost use Rattle.sheet.specs.Sheet.{sheetOf};
+ghost use Rattle.change_list.specs.Listed.{InScratch};
+ghost use Rattle.struct_change.specs.Struct.{packedOf};
+ghost use Rattle.palette_remove.specs.Removal.{remapped, removeEntryOf, mergeEntriesOf};
+ghost use Rattle.struct_palette.specs.Scratch.{removalCount, noRemoval, needingRemap};
+
+// How many changes a removal has, none where it was refused.
+fn removal_count(answer: Removal) -> usize
+    ensures { λ r. ⌜ r ≡ removalCount answer ⌝ }
+{
+    match answer {
+        Removal::Made { edit: _, count } => count,
+        Removal::Refused(_) => 0,
+    }
+}
+
+// What a call answers that has too little scratch: 16, where nothing else refuses it.
+fn no_removal(answer: Removal) -> Removal
+    ensures { λ r. ⌜ r ≡ noRemoval answer ⌝ }
+{
+    match answer {
+        Removal::Made { edit: _, count: _ } => Removal::Refused(NO_SPACE),
+        Removal::Refused(no) => Removal::Refused(no),
+    }
+}
+
+// The changes of `remove_entry`, left at the front of the scratch for a buffer of `room` places.
+fn remove_entry_in(
+    w: usize,
+    h: usize,
+    k: usize,
+    palette: &[u8],
+    lab: &[f64],
+    indices: &[i16],
+    index: usize,
+    scratch: &mut [u64],
+    room: usize,
+) -> Removal
+    ensures { λ r. ⌜ InScratch (removalCount r) room (now (scratch .exit)) (remapped r) (needingRemap (length (now (scratch .entry))) (length (now (indices .entry))) (removeEntryOf (sheetOf w h k (now (palette .entry)) (now (lab .entry)) (now (indices .entry))) index)) ⌝ }
+{
+    if scratch.len() < indices.len() {
+        let r = palette_remove::remove_entry(
+            w,
+            h,
+            k,
+            palette,
+            lab,
+            indices,
+            index,
+            &mut scratch[..0],
+        );
+        return no_removal(r);
+    }
+    let m = lesser(room, scratch.len());
+    palette_remove::remove_entry(w, h, k, palette, lab, indices, index, &mut scratch[..m])
+}
+
+// `palette::remove_entry`: an entry removed, its pixels moved to the nearest other. The scratch has a place a pixel.
+pub fn remove_entry(
+    w: usize,
+    h: usize,
+    k: usize,
+    palette: &[u8],
+    lab: &[f64],
+    indices: &[i16],
+    index: usize,
+    scratch: &mut [u64],
+    out: &mut [Change],
+) -> Removal
+    ensures { λ r. ⌜ (remapped r (map packedOf (now (out .exit))) ≡ needingRemap (length (now (scratch .entry))) (length (now (indices .entry))) (removeEntryOf (sheetOf w h k (now (palette .entry)) (now (lab .entry)) (now (indices .entry))) index) (map packedOf (now (out .entry)))) × (length (now (scratch .exit)) ≡ length (now (scratch .entry))) ⌝ }
+{
+    let r = remove_entry_in(w, h, k, palette, lab, indices, index, scratch, out.len());
+    let n = removal_count(r);
+    unpack(scratch, n, out);
+    r
+}
+
+// The changes of `merge_entries`, left at the front of the scratch for a buffer of `room` places.
+fn merge_entries_in(
+    w: usize,
+    h: usize,
+    k: usize,
+    palette: &[u8],
+    lab: &[f64],
+    indices: &[i16],
+    from: usize,
+    into: usize,
+    scratch: &mut [u64],
+    room: usize,
+) -> Removal
+    ensures { λ r. ⌜ InScratch (removalCount r) room (now (scratch .exit)) (remapped r) (needingRemap (length (now (scratch .entry))) (length (now (indices .entry))) (mergeEntriesOf (sheetOf w h k (now (palette .entry)) (now (lab .entry)) (now (indices .entry))) from into)) ⌝ }
+{
+    if scratch.len() < indices.len() {
+        let r = palette_remove::merge_entries(
+            w,
+            h,
+            k,
+            palette,
+            lab,
+            indices,
+            from,
+            into,
+            &mut scratch[..0],
+        );
+        return no_removal(r);
+    }
+    let m = lesser(room, scratch.len());
+    palette_remove::merge_entries(
+        w,
+        h,
+        k,
+        palette,
+        lab,
+        indices,
+        from,
+        into,
+        &mut scratch[..m],
+    )
+}
+
+// `palette::merge_entries`: an entry merged into another. The scratch has a place a pixel.
+pub fn merge_entries(
+    w: usize,
+    h: usize,
+    k: usize,
+    palette: &[u8],
+    lab: &[f64],
+    indices: &[i16],
+    from: usize,
+    into: usize,
+    scratch: &mut [u64],
+    out: &mut [Change],
+) -> Removal
+    ensures { λ r. ⌜ (remapped r (map packedOf (now (out .exit))) ≡ needingRemap (length (now (scratch .entry))) (length (now (indices .entry))) (mergeEntriesOf (sheetOf w h k (now (palette .entry)) (now (lab .entry)) (now (indices .entry))) from into) (map packedOf (now (out .entry)))) × (length (now (scratch .exit)) ≡ length (now (scratch .entry))) ⌝ }
+{
+    let r = merge_entries_in(
+        w,
+        h,
+        k,
+        palette,
+        lab,
+        indices,
+        from,
+        into,
+        scratch,
+        out.len(),
+    );
+    let n = removal_count(r);
+    unpack(scratch, n, out);
+    r
+}

@@ -1,0 +1,17 @@
+-- What a call with palette count and handle lent leaves. Definitions only. Assumes nothing.
+use mathlib.Core.List.{List}
+use Prim.Native.Nat.{ℕ}
+use lib.IntN.{ℤ}
+use lib.Ieee.{Float}
+use Rattle.base_limits.specs.declared.Answer.{Answer}
+use Rattle.sheet.specs.Sheet.{sheetOf}
+use Rattle.history_ledger.specs.declared.Handle.{Handle}
+use Rattle.history_ledger.specs.Calls.{Outcome}
+use Rattle.history_ledger.specs.Journal.{State}
+use Rattle.history_model.specs.Editing.{editing}
+use Rattle.history_model.specs.Calls.{stateOf}
+
+-- the answer, and sheet, journal and handle after the call
+abbrev pub left : Answer → ℕ → ℕ → ℕ → List ℕ → List Float → List ℤ → List ℕ → Handle → Outcome (State editing)
+left answer w h k palette lab indices journal handle =
+    record { answer = answer; leaves = stateOf (sheetOf w h k palette lab indices) journal handle }

@@ -1,0 +1,195 @@
+// `replay` over a list of change structs, which is read where it lies.
+use base_limits::Answer;
+use base_limits::LIST_TOO_LONG;
+use base_limits::MAX_CHANGES;
+use base_limits::NO_SPACE;
+use edit::Edit;
+use edit_head::clear_marks;
+use edit_head::finish_edit;
+use edit_head::head_no;
+use edit_head::left_no;
+use history::Replayed;
+use sheet::check;
+use sheet::permitted_no;
+use struct_change::Change;
+use struct_edit::check_list;
+use struct_edit::paint_list;
+ghost use mathlib.Core.Path.{_≡_};
+ghost use mathlib.Core.List.{List, []};
+ghost use Prim.Native.Nat.{ℕ, _*_};
+ghost use lib.ListN.{length};
+ghost use Rattle.base_limits.specs.Checks.{orElse, firstOf};
+ghost use Rattle.color_lab.specs.Convert.{labOf};
+ghost use Rattle.sheet.specs.Sheet.{sheetOf};
+ghost use Rattle.edit.specs.Change as flat;
+ghost use Rattle.edit.specs.Checks.{permittedOf};
+ghost use Rattle.edit.specs.Apply.{redone};
+ghost use Rattle.edit_pixels.specs.Inside.{bare};
+ghost use Rattle.edit_head.specs.Apart.{leftChecks, MarksFor, Finishable};
+ghost use Rattle.edit_apply.specs.Redoable.{Redoable};
+ghost use Rattle.struct_edit.specs.Walk.{toldAll, Checkable};
+ghost use Rattle.history_model.specs.Replay.{replayChecks, replayed, replayOf};
+ghost use Rattle.struct_replay.specs.Phases.{Opened, doneOr};
+
+// Before the list: the number of the first check that applies, or 0. A removal's marks are cleared.
+fn open_replay(
+    w: usize,
+    h: usize,
+    k: usize,
+    palette: &[u8],
+    lab: &[f64],
+    indices: &[i16],
+    limited: bool,
+    permitted: &[u8],
+    edit: Edit,
+    n: usize,
+    marks: &mut [u8],
+) -> u8
+    ensures { λ r. ⌜ ((cs : List flat.Change) → length cs ≡ n → Opened (length (now (marks .entry))) (sheetOf w h k (now (palette .entry)) (now (lab .entry)) (now (indices .entry))) (permittedOf limited (now (permitted .entry))) edit cs r (now (marks .exit))) ⌝ }
+{
+    let given = permitted_no(limited, permitted);
+    if given != 0 {
+        return given;
+    }
+    let no = check(w, h, k, palette, lab, indices);
+    if no != 0 {
+        return no;
+    }
+    if MAX_CHANGES < n {
+        return LIST_TOO_LONG;
+    }
+    let size = indices.len();
+    if marks.len() < size {
+        return NO_SPACE;
+    }
+    let head = head_no(k, palette, limited, permitted, edit, true);
+    if head != 0 {
+        return head;
+    }
+    clear_marks(edit, size, marks);
+    0
+}
+
+// After the list: the number so far or, where that is 0, 13 of a removal that leaves a pixel of its entry, or 0.
+fn left_after(no: u8, edit: Edit, w: usize, h: usize, indices: &[i16], marks: &[u8]) -> u8
+    requires { ⌜ (no ≡ 0 → Checkable edit w h (length (now indices)) (length (now marks))) ⌝ }
+    ensures { λ r. ⌜ ((cs : List flat.Change) → (no ≡ 0 → MarksFor edit w (w * h) cs (now (marks .entry))) → r ≡ orElse no (firstOf (leftChecks (bare w h 0 (now (indices .entry))) edit cs))) ⌝ }
+{
+    if no != 0 {
+        return no;
+    }
+    left_no(edit, w, h, indices, marks)
+}
+
+// What an edit does beside its list, where it was not refused.
+fn finish_replay(
+    no: u8,
+    k: usize,
+    palette: &mut [u8],
+    lab: &mut [f64],
+    indices: &mut [i16],
+    edit: Edit,
+) -> Replayed
+    requires { ⌜ (no ≡ 0 → Finishable k (length (now palette)) (length (now lab)) edit) ⌝ }
+    ensures { λ r. ⌜ ((w h : ℕ) → replayed (r .answer) (sheetOf w h (r .k) (now (palette .exit)) (now (lab .exit)) (now (indices .exit))) ≡ doneOr no (sheetOf w h k (now (palette .entry)) (now (lab .entry)) (now (indices .entry))) (redone labOf (sheetOf w h k (now (palette .entry)) (now (lab .entry)) (now (indices .entry))) edit [])) ⌝ }
+{
+    if no != 0 {
+        return Replayed {
+            answer: Answer::Refused(no),
+            k,
+        };
+    }
+    let after = finish_edit(k, palette, lab, indices, edit);
+    Replayed {
+        answer: Answer::Done,
+        k: after,
+    }
+}
+
+// The number of the first check that applies, or 0.
+fn replay_no(
+    w: usize,
+    h: usize,
+    k: usize,
+    palette: &[u8],
+    lab: &[f64],
+    indices: &[i16],
+    limited: bool,
+    permitted: &[u8],
+    edit: Edit,
+    list: &[Change],
+    marks: &mut [u8],
+) -> u8
+    ensures { λ r. ⌜ r ≡ firstOf (replayChecks (length (now (marks .entry))) (sheetOf w h k (now (palette .entry)) (now (lab .entry)) (now (indices .entry))) (permittedOf limited (now (permitted .entry))) edit (toldAll (now (list .entry)))) ⌝ }
+{
+    let n = list.len();
+    let opened = open_replay(
+        w,
+        h,
+        k,
+        palette,
+        lab,
+        indices,
+        limited,
+        permitted,
+        edit,
+        n,
+        marks,
+    );
+    let checked = check_list(opened, edit, true, w, h, k, indices, marks, list);
+    left_after(checked, edit, w, h, indices, marks)
+}
+
+// Does an edit that was not refused.
+fn redo_list(
+    no: u8,
+    w: usize,
+    k: usize,
+    palette: &mut [u8],
+    lab: &mut [f64],
+    indices: &mut [i16],
+    edit: Edit,
+    list: &[Change],
+) -> Replayed
+    requires { ⌜ (no ≡ 0 → Redoable w k (now palette) (now lab) (now indices) edit (toldAll (now list))) ⌝ }
+    ensures { λ r. ⌜ ((h : ℕ) → replayed (r .answer) (sheetOf w h (r .k) (now (palette .exit)) (now (lab .exit)) (now (indices .exit))) ≡ doneOr no (sheetOf w h k (now (palette .entry)) (now (lab .entry)) (now (indices .entry))) (redone labOf (sheetOf w h k (now (palette .entry)) (now (lab .entry)) (now (indices .entry))) edit (toldAll (now (list .entry))))) ⌝ }
+{
+    paint_list(no, edit, indices, w, list);
+    finish_replay(no, k, palette, lab, indices, edit)
+}
+
+// `history::replay`, with the palette count lent and the list as structs. The list is read where it lies; the
+// scratch has at least w × h bytes, and what they are afterwards is free.
+pub fn replay(
+    w: usize,
+    h: usize,
+    k: &mut usize,
+    palette: &mut [u8],
+    lab: &mut [f64],
+    indices: &mut [i16],
+    limited: bool,
+    permitted: &[u8],
+    edit: Edit,
+    list: &[Change],
+    scratch: &mut [u8],
+) -> Answer
+    ensures { λ r. ⌜ (replayed r (sheetOf w h (now (k .exit)) (now (palette .exit)) (now (lab .exit)) (now (indices .exit))) ≡ replayOf (length (now (scratch .entry))) (sheetOf w h (now (k .entry)) (now (palette .entry)) (now (lab .entry)) (now (indices .entry))) (permittedOf limited (now (permitted .entry))) edit (toldAll (now (list .entry)))) × (length (now (scratch .exit)) ≡ length (now (scratch .entry))) ⌝ }
+{
+    let count = *k;
+    let no = replay_no(
+        w,
+        h,
+        count,
+        palette,
+        lab,
+        indices,
+        limited,
+        permitted,
+        edit,
+        list,
+        scratch,
+    );
+    let s = redo_list(no, w, count, palette, lab, indices, edit, list);
+    *k = s.k;
+    s.answer
+}

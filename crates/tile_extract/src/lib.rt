@@ -1,0 +1,11 @@
+// Tiles: `flip` and `extract` of tiles.rs, the latter at tolerance 0.
+mod cutting;
+
+pub use cutting::extract;
+pub use tile_flip::flip;
+
+// How many tiles and map entries `extract` made.
+pub enum Extraction {
+    Made { tiles: usize, entries: usize },
+    Refused(u8),
+}

@@ -1,0 +1,137 @@
+// Stamps of a square brush, one by one and along lines.
+use crate::Run;
+use crate::paint::clip;
+use crate::paint::paint_box;
+use crate::touch::touched_steps;
+use selection::Selection;
+use tool_points::stand_at;
+use tool_points::step;
+ghost use mathlib.Core.Path.{_≡_};
+ghost use mathlib.Core.Bool.{false};
+ghost use mathlib.Core.List.{[], _∷_};
+ghost use Prim.Native.Nat.{_-_, _/_, _%_};
+ghost use lib.IntN.{pos, _+ℤ_, _-ℤ_};
+ghost use lib.ListN.{length, drop};
+ghost use Rattle.base_lists.specs.Lists.{some};
+ghost use Rattle.base_ints.specs.Ints.{far};
+ghost use Rattle.selection.specs.Region.{Fits};
+ghost use Rattle.tool_points.specs.Line.{point, Near, lineOf};
+ghost use Rattle.tool_points.specs.Brush.{clamped, pathOf};
+ghost use Rattle.tool_brush.specs.Places.{setAll, clipped, stampPlaces, Brush, Close};
+ghost use Rattle.tool_brush.specs.Given.{pointsOf};
+
+// A brush's size: 1 to 8.
+pub fn clamp(size: usize) -> usize
+    ensures { λ r. ⌜ r ≡ clamped size ⌝ }
+{
+    if size < 1 {
+        return 1;
+    }
+    if 8 < size {
+        return 8;
+    }
+    size
+}
+
+// One axis of a brush of n places at z, which starts (n - 1) / 2 before it: what lies from `from` on and below
+// `end`.
+pub(crate) fn stamp_run(z: i32, n: usize, from: usize, end: usize) -> Run
+    requires { ⌜ Brush n × Close z ⌝ }
+    ensures { λ r. ⌜ r ≡ clipped (z -ℤ pos ((n - 1) / 2)) (z -ℤ pos ((n - 1) / 2) +ℤ pos (n - 1)) from end ⌝ }
+{
+    let first = z - ((n - 1) / 2) as i32;
+    clip(first, first + (n - 1) as i32, from, end)
+}
+
+// The brush at (x, y), as far as the region has it.
+fn paint_stamp(scratch: &mut [u64], w: usize, region: Selection, n: usize, x: i32, y: i32, v: u64)
+    requires { ⌜ Fits w (length (now scratch)) region × Brush n × Close x × Close y ⌝ }
+    ensures { λ _. ⌜ now (scratch .exit) ≡ setAll (stampPlaces region w n (point x y ∷ [])) v (now (scratch .entry)) ⌝ }
+{
+    let left = region.x as usize;
+    let above = region.y as usize;
+    let across = stamp_run(x, n, left, left + region.w as usize);
+    let down = stamp_run(y, n, above, above + region.h as usize);
+    paint_box(scratch, w, across, down, v);
+}
+
+// The brush at each point of the line from a to b but the first. Only the steps at which it touches the region are
+// walked, so a line costs what it paints, however far its ends are.
+fn paint_line(
+    scratch: &mut [u64],
+    w: usize,
+    region: Selection,
+    n: usize,
+    ax: i32,
+    ay: i32,
+    bx: i32,
+    by: i32,
+    v: u64,
+)
+    requires { ⌜ Fits w (length (now scratch)) region × Brush n × Near (point ax ay) × Near (point bx by) ⌝ }
+    ensures { λ _. ⌜ now (scratch .exit) ≡ setAll (stampPlaces region w n (drop 1 (lineOf (point ax ay) (point bx by)))) v (now (scratch .entry)) ⌝ }
+{
+    let steps = touched_steps(region, n, ax, ay, bx, by);
+    let first = steps.first;
+    let end = steps.end;
+    if end <= first {
+        return;
+    }
+    let mut walk = stand_at(ax, ay, bx, by, first - 1);
+    for j in first..end {
+        walk = step(walk);
+        paint_stamp(scratch, w, region, n, walk.x.at, walk.y.at, v);
+    }
+}
+
+// The brush at each point of the line from a to b.
+pub fn paint_two(
+    scratch: &mut [u64],
+    w: usize,
+    region: Selection,
+    n: usize,
+    ax: i32,
+    ay: i32,
+    bx: i32,
+    by: i32,
+    v: u64,
+)
+    requires { ⌜ Fits w (length (now scratch)) region × Brush n × Near (point ax ay) × Near (point bx by) ⌝ }
+    ensures { λ _. ⌜ now (scratch .exit) ≡ setAll (stampPlaces region w n (pathOf (point ax ay ∷ point bx by ∷ []))) v (now (scratch .entry)) ⌝ }
+{
+    paint_stamp(scratch, w, region, n, ax, ay, v);
+    paint_line(scratch, w, region, n, ax, ay, bx, by, v);
+}
+
+// The brush along the lines through some points.
+pub fn paint_path(
+    points: &[i32],
+    scratch: &mut [u64],
+    w: usize,
+    region: Selection,
+    n: usize,
+    v: u64,
+)
+    requires { ⌜ Fits w (length (now scratch)) region × Brush n × (some far (now points) ≡ false) × (length (now points) % 2 ≡ 0) ⌝ }
+    ensures { λ _. ⌜ now (scratch .exit) ≡ setAll (stampPlaces region w n (pathOf (pointsOf (now (points .entry))))) v (now (scratch .entry)) ⌝ }
+{
+    if points.len() < 2 {
+        return;
+    }
+    paint_stamp(scratch, w, region, n, points[0], points[1], v);
+    let mut i: usize = 2;
+    while i < points.len() {
+        paint_line(
+            scratch,
+            w,
+            region,
+            n,
+            points[i - 2],
+            points[i - 1],
+            points[i],
+            points[i + 1],
+            v,
+        );
+        i += 2;
+    }
+}

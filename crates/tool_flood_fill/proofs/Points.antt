@@ -1,0 +1,75 @@
+-- The point that a fill starts from. Assumes nothing.
+use mathlib.Core.Path.{_≡_, refl, sym, _∙_}
+use mathlib.Core.Bool.{Bool, true, false, cond}
+use Prim.Native.Nat.{ℕ, _+_, _*_, _≤_, _<_}
+use native.Mathlib.Omega.{arith}
+use native.Mathlib.Nat.{mul-le-mul, le-refl, mul-comm, add-mul, one-mul}
+use borrow.Author.Tests.{leb-true}
+use lib.Dec.{leb}
+use lib.IntN.{ℤ, pos, negsuc}
+use Rattle.base_limits.specs.Checks.{firstOf, refusedOr}
+use Rattle.base_lists.proofs.Bools.{and-left, and-right}
+use Rattle.base_ints.specs.Ints.{far, fromZero}
+use Rattle.base_ints.proofs.Back.{never}
+use Rattle.selection_spans.specs.Spans.{inSpan}
+use Rattle.selection.specs.declared.Selection.{Selection}
+use Rattle.selection.specs.declared.Held.{Held}
+use Rattle.selection.specs.declared.Held.the-variants as held
+use Rattle.selection.specs.Selection.{inside, contains, containsI}
+use Rattle.selection.specs.Calls.{farAway, containsIOf}
+use Rattle.selection.proofs.Regions.{below-span}
+
+abbrev heldBy : Bool → Held
+heldBy b = cond b held.Inside held.Outside
+
+held-is : (s : Selection) (x y : ℤ) → far x ≡ false → far y ≡ false → containsIOf s x y ≡ heldBy (containsI s x y)
+unfolding containsIOf farAway firstOf refusedOr
+held-is s x y p q = rw (p, q)
+
+-- what each answer of it tells
+module _ (s : Selection) (x y : ℤ) (p : far x ≡ false) (q : far y ≡ false) where
+  pub by-inside : {r : Held} → r ≡ containsIOf s x y → r ≡ held.Inside → true ≡ containsI s x y
+  by-inside e f = go (containsI s x y) (sym f ∙ e ∙ held-is s x y p q)
+    where
+      go : (b : Bool) → held.Inside ≡ heldBy b → true ≡ b
+      go true e = refl
+      go false e = cc
+
+  pub by-outside : {r : Held} → r ≡ containsIOf s x y → r ≡ held.Outside → false ≡ containsI s x y
+  by-outside e f = go (containsI s x y) (sym f ∙ e ∙ held-is s x y p q)
+    where
+      go : (b : Bool) → held.Outside ≡ heldBy b → false ≡ b
+      go true e = cc
+      go false e = refl
+
+  pub by-refused : {r : Held} {n : ℕ} → r ≡ containsIOf s x y → r ≡ held.Refused n → false ≡ containsI s x y
+  by-refused {n = n} e f = go (containsI s x y) (sym f ∙ e ∙ held-is s x y p q)
+    where
+      go : (b : Bool) → held.Refused n ≡ heldBy b → false ≡ b
+      go true e = cc
+      go false e = refl
+
+pub record OnSheet (w h : ℕ) (x y : ℤ) : Type 0 where
+  pub column : fromZero x < w
+  pub row : fromZero y < h
+
+pub on-sheet : (s : Selection) (x y : ℤ) (w h : ℕ) → containsI s x y ≡ true → inside s w h ≡ true → OnSheet w h x y
+unfolding containsI contains inside fromZero
+on-sheet s (pos x) (pos y) w h e i = record {
+  column = below-span (s .x) (s .w) x w (leb-true (s .x + s .w) w (and-left (leb (s .x + s .w) w) _ i)) (and-left (inSpan (s .x) (s .w) x) _ e);
+  row = below-span (s .y) (s .h) y h (leb-true (s .y + s .h) h (and-right (leb (s .x + s .w) w) _ i)) (and-right (inSpan (s .x) (s .w) x) _ e);
+}
+on-sheet s (pos x) (negsuc y) w h e i = never e
+on-sheet s (negsuc x) y w h e i = never e
+
+-- the start is a place of the sheet
+start-in : (w h x y : ℕ) → x < w → y < h → y * w + x < w * h
+start-in w h x y a b =
+    let r : (y + 1) * w ≤ h * w = (let k : y + 1 ≤ h = omega arith in mul-le-mul k (le-refl w)) in
+    omega (arith, add-mul y 1 w, one-mul w, mul-comm h w)
+
+pub start-on : {w h : ℕ} {x y : ℤ} (row column : ℕ) → OnSheet w h x y → row ≡ fromZero y → column ≡ fromZero x → row * w + column < w * h
+start-on {w} {h} {x} {y} row column on down across = rw (down, across) (start-in w h (fromZero x) (fromZero y) (on .column) (on .row))
+
+pub rows-few : (w h : ℕ) → h ≤ 1024 → w * h ≤ 1024 * w
+rows-few w h low = rw (mul-comm w h) (mul-le-mul low (le-refl w))

@@ -1,0 +1,12 @@
+// `snap_rgba` of tools.rs, which the crate tool_clip offers: an image becomes a clip.
+//
+// A clip is its size and its indices, row by row, at the front of a buffer that the caller lends.
+mod snap;
+
+pub use snap::snap_rgba;
+
+// What a call that makes a clip answers: the clip's size.
+pub enum Copied {
+    Clip { w: usize, h: usize },
+    Refused(u8),
+}

@@ -1,0 +1,161 @@
+// `snap_rgba`: each pixel of an image becomes its nearest entry.
+//
+// A nearest entry costs far more than a pixel, and an image has few colours beside its pixels. So the
+// entries found are kept in a cache, a slot by a hash of the colour; what a slot holds is proved to be what
+// would be computed. The curve's table is made once.
+use crate::Copied;
+use base_ints::min_usize;
+use base_limits::BAD_CLIP;
+use base_limits::MAX_SIDE;
+use base_limits::NO_SPACE;
+use base_limits::Rgb;
+use base_limits::SHORT_PIXELS;
+use color_lab::lab_in;
+use color_nearest::nearest_in;
+use sheet::check;
+ghost use mathlib.Core.Path.{_≡_};
+ghost use mathlib.Core.List.{map};
+ghost use Prim.Native.Nat.{_+_, _*_, _≤_};
+ghost use lib.ListN.{length};
+ghost use Rattle.base_lists.specs.Lists.{range, over};
+ghost use Rattle.color_lab.specs.Curve.{linearTable};
+ghost use Rattle.sheet.specs.Sheet.{sheetOf};
+ghost use Rattle.selection.specs.Selection.{all, positions};
+ghost use Rattle.tool_snap.specs.Clipped.{clipped, fromRows};
+ghost use Rattle.tool_snap.specs.Snap.{entryOf, snapped, snapAt, snapRgbaOf};
+ghost use Rattle.tool_snap.specs.Cache.{Numbered, allOk};
+
+// Pixels with alpha below this are transparent.
+const PASTE_ALPHA: u8 = 128;
+
+// A colour's bytes as one number.
+fn number(c: Rgb) -> u64
+    ensures { λ r. ⌜ Numbered c r ⌝ }
+{
+    c.r as u64 + 256 * (c.g as u64) + 65_536 * (c.b as u64)
+}
+
+// The nearest entry of a colour, from its slot or anew. A slot is 0 or has the colour's number and its
+// entry, one more.
+fn cached(t: &[f64; 245], lab: &[f64], k: usize, cache: &mut [u64; 1024], rgb: Rgb) -> usize
+    requires { ⌜ (now t ≡ linearTable) × (k ≤ 255) × (3 * k ≤ length (now lab)) × allOk (now lab) k (now cache) ⌝ }
+    ensures { λ r. ⌜ (r ≡ entryOf (now (lab .entry)) k rgb) × allOk (now (lab .entry)) k (now (cache .exit)) ⌝ }
+{
+    let c = number(rgb);
+    let slot = (c * 2_654_435_761 / 65_536 % 1024) as usize;
+    let v = cache[slot];
+    if v != 0 {
+        if v / 512 == c {
+            return (v % 512 - 1) as usize;
+        }
+    }
+    let near = nearest_in(lab_in(t, rgb), lab, k);
+    cache[slot] = c * 512 + near.entry as u64 + 1;
+    near.entry
+}
+
+// A pixel's index: transparent, or the nearest entry.
+fn snap_pixel(
+    t: &[f64; 245],
+    lab: &[f64],
+    k: usize,
+    cache: &mut [u64; 1024],
+    rgb: Rgb,
+    alpha: u8,
+) -> i16
+    requires { ⌜ (now t ≡ linearTable) × (k ≤ 255) × (3 * k ≤ length (now lab)) × allOk (now lab) k (now cache) ⌝ }
+    ensures { λ r. ⌜ (r ≡ snapped (now (lab .entry)) k rgb alpha) × allOk (now (lab .entry)) k (now (cache .exit)) ⌝ }
+{
+    if alpha < PASTE_ALPHA {
+        return -1;
+    }
+    if k == 0 {
+        return -1;
+    }
+    cached(t, lab, k, cache, rgb) as i16
+}
+
+// The indices of n pixels of an image from a place on, at the front of out.
+fn snap_row(
+    t: &[f64; 245],
+    lab: &[f64],
+    k: usize,
+    cache: &mut [u64; 1024],
+    rgba: &[u8],
+    from: usize,
+    n: usize,
+    out: &mut [i16],
+)
+    requires { ⌜ (now t ≡ linearTable) × (k ≤ 255) × (3 * k ≤ length (now lab)) × allOk (now lab) k (now cache) × (4 * (from + n) ≤ length (now rgba)) × (n ≤ length (now out)) ⌝ }
+    ensures { λ _. ⌜ (now (out .exit) ≡ over (map (snapAt (now (lab .entry)) k (now (rgba .entry))) (range from n)) (now (out .entry))) × allOk (now (lab .entry)) k (now (cache .exit)) ⌝ }
+{
+    for i in 0..n {
+        let at = 4 * (from + i);
+        let rgb = Rgb {
+            r: rgba[at],
+            g: rgba[at + 1],
+            b: rgba[at + 2],
+        };
+        out[i] = snap_pixel(t, lab, k, cache, rgb, rgba[at + 3]);
+    }
+}
+
+// The indices of the top-left part, w by h, of an image that is image_w wide, row by row.
+fn snap_rows(
+    lab: &[f64],
+    k: usize,
+    rgba: &[u8],
+    image_w: usize,
+    w: usize,
+    h: usize,
+    out: &mut [i16],
+)
+    requires { ⌜ (k ≤ 255) × (3 * k ≤ length (now lab)) × (w ≤ «image_w») × (4 * (h * «image_w») ≤ length (now rgba)) × (w * h ≤ length (now out)) ⌝ }
+    ensures { λ _. ⌜ now (out .exit) ≡ over (fromRows «image_w» (snapAt (now (lab .entry)) k (now (rgba .entry))) (positions (all w h))) (now (out .entry)) ⌝ }
+{
+    let t = color_lab::table();
+    let mut cache: [u64; 1024] = [0; 1024];
+    for y in 0..h {
+        let to = y * w;
+        snap_row(&t, lab, k, &mut cache, rgba, y * image_w, w, &mut out[to..]);
+    }
+}
+
+// An RGBA image as a clip of the sheet's palette: alpha below 128 is transparent, every other pixel takes
+// the nearest entry. Only the top-left part that fits the sheet is kept. Without entries every pixel is
+// transparent.
+pub fn snap_rgba(
+    w: usize,
+    h: usize,
+    k: usize,
+    palette: &[u8],
+    lab: &[f64],
+    indices: &[i16],
+    rgba: &[u8],
+    image_w: usize,
+    image_h: usize,
+    out: &mut [i16],
+) -> Copied
+    ensures { λ r. ⌜ clipped r (now (out .exit)) ≡ snapRgbaOf (sheetOf w h k (now (palette .entry)) (now (lab .entry)) (now (indices .entry))) (now (rgba .entry)) «image_w» «image_h» (now (out .entry)) ⌝ }
+{
+    let no = check(w, h, k, palette, lab, indices);
+    if no != 0 {
+        return Copied::Refused(no);
+    }
+    if MAX_SIDE < image_w {
+        return Copied::Refused(BAD_CLIP);
+    }
+    if MAX_SIDE < image_h {
+        return Copied::Refused(BAD_CLIP);
+    }
+    if rgba.len() < 4 * (image_w * image_h) {
+        return Copied::Refused(SHORT_PIXELS);
+    }
+    let cw = min_usize(image_w, w);
+    let ch = min_usize(image_h, h);
+    if out.len() < cw * ch {
+        return Copied::Refused(NO_SPACE);
+    }
+    snap_rows(lab, k, rgba, image_w, cw, ch, out);
+    Copied::Clip { w: cw, h: ch }
+}
