@@ -1,6 +1,6 @@
 //! Times the proved calls beside the Rust original and prints three tables; `bench/run` builds and runs it.
 //!
-//! Ours is crates/c_exports, and crates/c_bench for loops over colours, as `rt staticlib` compiles them. `color_platform`
+//! Ours is crates/c_exports, and crates/c_exports for loops over colours, as `rt staticlib` compiles them. `color_platform`
 //! and `color_exact` are one and the same color.rs of pixelforge, built over the two stand-ins for its `libm`;
 //! `pixelforge` has its editor. All get the same inputs, and the results are compared bit for bit: a difference from
 //! the exact build ends the run.
@@ -27,7 +27,7 @@ const PASSES: usize = 3;
 const ROUNDS: usize = 7;
 
 // A slice is handed over as its pointer and its length.
-#[link(name = "c_bench", kind = "static")]
+#[link(name = "c_exports", kind = "static")]
 extern "C" {
     fn bench_lab(rgb: *const u8, bytes: usize, lab: *mut f64, doubles: usize);
     fn bench_lab_lent(rgb: *const u8, bytes: usize, lab: *mut f64, doubles: usize);

@@ -159,7 +159,7 @@ fn fills() {
         "flood_fill, 1,024 × 1,024, blank",
         b,
         &mut |scratch, out, r| {
-            calls::call_flood_fill(b.side, b.side, b.k, &b.palette, &b.lab, &b.indices, true, &WHOLE, 500, 500, 5, scratch, out, r)
+            calls::call_draw(b.side, b.side, b.k, &b.palette, &b.lab, &b.indices, calls::FLOOD_FILL, true, &WHOLE, &[500, 500], 0, 5, 0, scratch, out, r)
         },
         &|d| tools::flood_fill(d, None, (500, 500), 5),
     );
@@ -169,7 +169,7 @@ fn fills() {
         "flood_fill, 1,024 × 1,024, one winding way",
         m,
         &mut |scratch, out, r| {
-            calls::call_flood_fill(m.side, m.side, m.k, &m.palette, &m.lab, &m.indices, true, &WHOLE, 0, 0, 5, scratch, out, r)
+            calls::call_draw(m.side, m.side, m.k, &m.palette, &m.lab, &m.indices, calls::FLOOD_FILL, true, &WHOLE, &[0, 0], 0, 5, 0, scratch, out, r)
         },
         &|d| tools::flood_fill(d, None, (0, 0), 5),
     );
@@ -178,7 +178,9 @@ fn fills() {
     tool(
         "replace_color, 1,024 × 1,024, 16 entries mixed",
         n,
-        &mut |_, out, r| calls::call_replace_color(n.side, n.side, n.k, &n.palette, &n.lab, &n.indices, true, &WHOLE, 3, 5, out, r),
+        &mut |scratch, out, r| {
+            calls::call_draw(n.side, n.side, n.k, &n.palette, &n.lab, &n.indices, calls::REPLACE_COLOR, true, &WHOLE, &[], 0, 5, 3, scratch, out, r)
+        },
         &|d| tools::replace_color(d, None, 3, 5),
     );
 }
@@ -210,7 +212,7 @@ fn strokes() {
             &format!("pencil of size {size}, 1,000 points, 1,024 × 1,024"),
             s,
             &mut |scratch, out, r| {
-                calls::call_pencil(s.side, s.side, s.k, &s.palette, &s.lab, &s.indices, true, &WHOLE, &points, size, 5, scratch, out, r)
+                calls::call_draw(s.side, s.side, s.k, &s.palette, &s.lab, &s.indices, calls::PENCIL, true, &WHOLE, &points, size, 5, 0, scratch, out, r)
             },
             &|d| tools::pencil(d, None, &pairs, size, 5),
             &|d| lines::pencil(d, None, &pairs, size, 5),
@@ -220,7 +222,8 @@ fn strokes() {
         "rectangle, filled, 1,000 × 1,000 of 1,024 × 1,024",
         s,
         &mut |scratch, out, r| {
-            calls::call_rectangle(s.side, s.side, s.k, &s.palette, &s.lab, &s.indices, true, &WHOLE, 10, 10, 1009, 1009, true, 5, scratch, out, r)
+            let corners = [10, 10, 1009, 1009];
+            calls::call_draw(s.side, s.side, s.k, &s.palette, &s.lab, &s.indices, calls::RECTANGLE, true, &WHOLE, &corners, 1, 5, 0, scratch, out, r)
         },
         &|d| tools::rectangle(d, None, (10, 10), (1009, 1009), true, 5),
     );

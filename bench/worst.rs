@@ -4,7 +4,7 @@
 //!
 //! Tiles, and the Rust's far strokes, are timed by one call; all else as in tools.rs. The answers are compared.
 
-use crate::calls::{call_check, call_extract, call_mirror_tiles, call_pencil};
+use crate::calls::{call_check, call_draw, call_extract, call_mirror_tiles, PENCIL};
 use crate::{figures, lines, noise, same, stray, Draw, Sheet, WHOLE};
 use pixelforge::editor::document::Document;
 use pixelforge::editor::op::PixelChange;
@@ -210,7 +210,7 @@ fn strokes() {
 
 fn pencil(s: &Sheet, points: &[i32], size: usize, scratch: &mut [u64], out: &mut [u64], r: &mut [usize; 5]) -> u8 {
     let (w, index) = (s.side, 5);
-    call_pencil(w, w, s.k, &s.palette, &s.lab, &s.indices, true, &WHOLE, points, size, index, scratch, out, r)
+    call_draw(w, w, s.k, &s.palette, &s.lab, &s.indices, PENCIL, true, &WHOLE, points, size, index, 0, scratch, out, r)
 }
 
 fn stroke_row(name: &str, s: &Sheet, points: &[i32], size: usize, beside: bool) {

@@ -34,6 +34,23 @@ pub type R<'a> = &'a mut [usize; 5];
 pub type S<'a> = &'a [u16; 4];
 pub type State<'a> = &'a mut [usize; 6];
 
+/// The tools of `call_draw`.
+pub const PENCIL: u8 = 0;
+pub const ERASER: u8 = 1;
+pub const LINE: u8 = 2;
+pub const RECTANGLE: u8 = 3;
+pub const FLOOD_FILL: u8 = 4;
+pub const REPLACE_COLOR: u8 = 5;
+pub const FILL_GLOBAL: u8 = 6;
+
+/// The questions of `call_asked`, and of `call_next`.
+pub const IS_DIRTY: u8 = 0;
+pub const CAN_UNDO: u8 = 1;
+pub const CAN_REDO: u8 = 2;
+pub const NEXT_UNDO: u8 = 0;
+pub const NEXT_REDO: u8 = 1;
+pub const APPLIED: u8 = 2;
+
 ours! {
     call_check(sheet,) -> u8;
     call_permitted_no(limited: bool, permitted: [u8],) -> u8;
@@ -67,13 +84,7 @@ ours! {
     call_extend(stroke: mut [u64], count: usize, list: [u64], scratch: mut [u64], r: R,) -> u8;
     call_stroke(tool: u8, stroke: mut [u64], count: usize, scratch: mut [u64], bytes: &mut [u8; 8], doubles: &mut [f64; 3], r: R,) -> u8;
 
-    call_pencil(sheet, whole: bool, s: S, points: [i32], size: usize, index: i16, scratch: mut [u64], out: mut [u64], r: R,) -> u8;
-    call_eraser(sheet, whole: bool, s: S, points: [i32], size: usize, scratch: mut [u64], out: mut [u64], r: R,) -> u8;
-    call_line(sheet, whole: bool, s: S, ax: i32, ay: i32, bx: i32, by: i32, size: usize, index: i16, scratch: mut [u64], out: mut [u64], r: R,) -> u8;
-    call_rectangle(sheet, whole: bool, s: S, ax: i32, ay: i32, bx: i32, by: i32, filled: bool, index: i16, scratch: mut [u64], out: mut [u64], r: R,) -> u8;
-    call_flood_fill(sheet, whole: bool, s: S, x: i32, y: i32, index: i16, scratch: mut [u64], out: mut [u64], r: R,) -> u8;
-    call_replace_color(sheet, whole: bool, s: S, from: i16, to: i16, out: mut [u64], r: R,) -> u8;
-    call_fill_global(sheet, whole: bool, s: S, x: i32, y: i32, index: i16, out: mut [u64], r: R,) -> u8;
+    call_draw(sheet, tool: u8, whole: bool, s: S, points: [i32], size: usize, index: i16, from: i16, scratch: mut [u64], out: mut [u64], r: R,) -> u8;
     call_move_selection(sheet, s: S, dx: i32, dy: i32, scratch: mut [u64], out: mut [u64], moved: &mut [u16; 4], r: R,) -> u8;
     call_paste(sheet, clip_w: usize, clip_h: usize, clip: [i16], x: i32, y: i32, scratch: mut [u64], out: mut [u64], placed: &mut [u16; 4], r: R,) -> u8;
     call_copy(sheet, whole: bool, s: S, out: mut [i16], r: R,) -> u8;
@@ -98,11 +109,7 @@ ours! {
     call_undo(w: usize, h: usize, palette: mut [u8], lab: mut [f64], indices: mut [i16], journal: [u8], state: State,) -> u8;
     call_redo(w: usize, h: usize, palette: mut [u8], lab: mut [f64], indices: mut [i16], journal: [u8], scratch: mut [u8], state: State,) -> u8;
     call_mark_saved(journal: [u8], state: State,) -> u8;
-    call_is_dirty(journal: [u8], state: &[usize; 6], r: R,) -> u8;
-    call_can_undo(journal: [u8], state: &[usize; 6], r: R,) -> u8;
-    call_can_redo(journal: [u8], state: &[usize; 6], r: R,) -> u8;
-    call_next_undo(journal: [u8], state: &[usize; 6], bytes: &mut [u8; 8], doubles: &mut [f64; 3], r: R,) -> u8;
-    call_next_redo(journal: [u8], state: &[usize; 6], bytes: &mut [u8; 8], doubles: &mut [f64; 3], r: R,) -> u8;
-    call_applied(journal: [u8], state: &[usize; 6], number: usize, bytes: &mut [u8; 8], doubles: &mut [f64; 3], r: R,) -> u8;
+    call_asked(question: u8, journal: [u8], state: &[usize; 6], r: R,) -> u8;
+    call_next(question: u8, journal: [u8], state: &[usize; 6], number: usize, bytes: &mut [u8; 8], doubles: &mut [f64; 3], r: R,) -> u8;
     call_replay(w: usize, h: usize, palette: mut [u8], lab: mut [f64], indices: mut [i16], limited: bool, permitted: [u8], bytes: &[u8; 8], index: usize, doubles: &[f64; 3], list: [u64], scratch: mut [u8], state: State,) -> u8;
 }

@@ -1,10 +1,10 @@
 //! Compares `rgb8_to_lab` with the Rust original on every colour there is; `compare/run FOLDER colours` builds and runs it.
 //!
-//! Ours is crates/c_bench, which calls `color::rgb8_to_lab` colour by colour, as `rt staticlib` compiles it.
+//! Ours is crates/c_exports, which calls `color::rgb8_to_lab` colour by colour, as `rt staticlib` compiles it.
 
 use std::thread;
 
-#[link(name = "c_bench", kind = "static")]
+#[link(name = "c_exports", kind = "static")]
 extern "C" {
     fn bench_lab(rgb: *const u8, bytes: usize, lab: *mut f64, doubles: usize);
 }

@@ -6,7 +6,7 @@ use crate::calls::*;
 use crate::lines;
 use crate::sheet::*;
 use pixelforge::editor::tools::{self, Clip, Stroke};
-use pixelforge::editor::{PixelChange, Selection};
+use pixelforge::editor::{Document, PixelChange, Selection};
 
 /// What is expected, and what ours gives, in words.
 pub type Pair = [Vec<u64>; 2];
@@ -79,6 +79,45 @@ fn placed_number(c: &Case, at: &[i32], a: Area) -> u8 {
     }
 }
 
+/// A tool that paints, by its number, on points or corners; `indices` are the one that it paints with and the one that it
+/// replaces, `room` the places of scratch and buffer.
+fn paint(
+    c: &Case,
+    a: Area,
+    tool: u8,
+    points: &[i32],
+    size: usize,
+    indices: [i16; 2],
+    room: [usize; 2],
+    rust: impl FnOnce(&Document, Option<&Selection>) -> Vec<PixelChange>,
+) -> Pair {
+    let s = &c.sheet;
+    let no = if tool <= ERASER {
+        points_number(c, points, a)
+    } else {
+        placed_number(c, points, a)
+    };
+    let short = tool < REPLACE_COLOR && room[0] < s.w * s.h;
+    let expected = with_list(no, room[1], short, || rust(c.doc(), a.chosen().as_ref()));
+    let [mut scratch, mut list] = room.map(|n| vec![WORD; n]);
+    let mut r = R;
+    let no = sheet!(
+        call_draw,
+        s,
+        tool,
+        a.whole,
+        &a.s,
+        points,
+        size,
+        indices[0],
+        indices[1],
+        &mut scratch,
+        &mut list,
+        &mut r
+    );
+    [expected, listed(no, &r, &list)]
+}
+
 pub fn pencil(
     c: &Case,
     a: Area,
@@ -88,58 +127,17 @@ pub fn pencil(
     scratch: usize,
     out: usize,
 ) -> Pair {
-    let s = &c.sheet;
-    let expected = with_list(
-        points_number(c, points, a),
-        out,
-        scratch < s.w * s.h,
-        || {
-            lines::pencil(
-                c.doc(),
-                a.chosen().as_ref(),
-                &pairs(points),
-                size,
-                index.into(),
-            )
-        },
-    );
-    let (mut room, mut list, mut r) = (vec![WORD; scratch], vec![WORD; out], R);
-    let no = sheet!(
-        call_pencil,
-        s,
-        a.whole,
-        &a.s,
-        points,
-        size,
-        index,
-        &mut room,
-        &mut list,
-        &mut r
-    );
-    [expected, listed(no, &r, &list)]
+    let room = [scratch, out];
+    paint(c, a, PENCIL, points, size, [index, 0], room, |doc, sel| {
+        lines::pencil(doc, sel, &pairs(points), size, index.into())
+    })
 }
 
 pub fn eraser(c: &Case, a: Area, points: &[i32], size: usize, scratch: usize, out: usize) -> Pair {
-    let s = &c.sheet;
-    let expected = with_list(
-        points_number(c, points, a),
-        out,
-        scratch < s.w * s.h,
-        || lines::eraser(c.doc(), a.chosen().as_ref(), &pairs(points), size),
-    );
-    let (mut room, mut list, mut r) = (vec![WORD; scratch], vec![WORD; out], R);
-    let no = sheet!(
-        call_eraser,
-        s,
-        a.whole,
-        &a.s,
-        points,
-        size,
-        &mut room,
-        &mut list,
-        &mut r
-    );
-    [expected, listed(no, &r, &list)]
+    let room = [scratch, out];
+    paint(c, a, ERASER, points, size, [0, 0], room, |doc, sel| {
+        lines::eraser(doc, sel, &pairs(points), size)
+    })
 }
 
 /// A drag with the pencil on a good sheet: the list of each event, all of the same sheet, joined to a stroke.
@@ -159,15 +157,7 @@ pub fn drag(c: &Case, a: Area, events: &[Vec<i32>], size: usize, index: i16) -> 
             index.into(),
         ));
         let no = sheet!(
-            call_pencil,
-            s,
-            a.whole,
-            &a.s,
-            points,
-            size,
-            index,
-            &mut room,
-            &mut list,
+            call_draw, s, PENCIL, a.whole, &a.s, points, size, index, 0, &mut room, &mut list,
             &mut r
         );
         assert_eq!(no, 0, "pencil on a good sheet");
@@ -186,6 +176,10 @@ fn point(x: i32, y: i32) -> (i64, i64) {
     (x.into(), y.into())
 }
 
+fn ends(at: [i32; 4]) -> [(i64, i64); 2] {
+    [point(at[0], at[1]), point(at[2], at[3])]
+}
+
 pub fn line(
     c: &Case,
     a: Area,
@@ -195,23 +189,11 @@ pub fn line(
     scratch: usize,
     out: usize,
 ) -> Pair {
-    let s = &c.sheet;
-    let [ax, ay, bx, by] = at;
-    let expected = with_list(placed_number(c, &at, a), out, scratch < s.w * s.h, || {
-        lines::line(
-            c.doc(),
-            a.chosen().as_ref(),
-            point(ax, ay),
-            point(bx, by),
-            size,
-            index.into(),
-        )
-    });
-    let (mut room, mut list, mut r) = (vec![WORD; scratch], vec![WORD; out], R);
-    let no = sheet!(
-        call_line, s, a.whole, &a.s, ax, ay, bx, by, size, index, &mut room, &mut list, &mut r
-    );
-    [expected, listed(no, &r, &list)]
+    let [from, to] = ends(at);
+    let room = [scratch, out];
+    paint(c, a, LINE, &at, size, [index, 0], room, |doc, sel| {
+        lines::line(doc, sel, from, to, size, index.into())
+    })
 }
 
 pub fn rectangle(
@@ -223,35 +205,11 @@ pub fn rectangle(
     scratch: usize,
     out: usize,
 ) -> Pair {
-    let s = &c.sheet;
-    let [ax, ay, bx, by] = at;
-    let expected = with_list(placed_number(c, &at, a), out, scratch < s.w * s.h, || {
-        tools::rectangle(
-            c.doc(),
-            a.chosen().as_ref(),
-            point(ax, ay),
-            point(bx, by),
-            filled,
-            index.into(),
-        )
-    });
-    let (mut room, mut list, mut r) = (vec![WORD; scratch], vec![WORD; out], R);
-    let no = sheet!(
-        call_rectangle,
-        s,
-        a.whole,
-        &a.s,
-        ax,
-        ay,
-        bx,
-        by,
-        filled,
-        index,
-        &mut room,
-        &mut list,
-        &mut r
-    );
-    [expected, listed(no, &r, &list)]
+    let [from, to] = ends(at);
+    let (size, room) = (filled.into(), [scratch, out]);
+    paint(c, a, RECTANGLE, &at, size, [index, 0], room, |doc, sel| {
+        tools::rectangle(doc, sel, from, to, filled, index.into())
+    })
 }
 
 pub fn flood_fill(
@@ -263,66 +221,37 @@ pub fn flood_fill(
     scratch: usize,
     out: usize,
 ) -> Pair {
-    let s = &c.sheet;
-    let expected = with_list(
-        placed_number(c, &[x, y], a),
-        out,
-        scratch < s.w * s.h,
-        || tools::flood_fill(c.doc(), a.chosen().as_ref(), point(x, y), index.into()),
-    );
-    let (mut room, mut list, mut r) = (vec![WORD; scratch], vec![WORD; out], R);
-    let no = sheet!(
-        call_flood_fill,
-        s,
-        a.whole,
-        &a.s,
-        x,
-        y,
-        index,
-        &mut room,
-        &mut list,
-        &mut r
-    );
-    [expected, listed(no, &r, &list)]
+    let room = [scratch, out];
+    paint(
+        c,
+        a,
+        FLOOD_FILL,
+        &[x, y],
+        0,
+        [index, 0],
+        room,
+        |doc, sel| tools::flood_fill(doc, sel, point(x, y), index.into()),
+    )
 }
 
 pub fn replace_color(c: &Case, a: Area, from: i16, to: i16, out: usize) -> Pair {
-    let s = &c.sheet;
-    let expected = with_list(placed_number(c, &[], a), out, false, || {
-        tools::replace_color(c.doc(), a.chosen().as_ref(), from.into(), to.into())
-    });
-    let (mut list, mut r) = (vec![WORD; out], R);
-    let no = sheet!(
-        call_replace_color,
-        s,
-        a.whole,
-        &a.s,
-        from,
-        to,
-        &mut list,
-        &mut r
-    );
-    [expected, listed(no, &r, &list)]
+    paint(
+        c,
+        a,
+        REPLACE_COLOR,
+        &[],
+        0,
+        [to, from],
+        [0, out],
+        |d, sel| tools::replace_color(d, sel, from.into(), to.into()),
+    )
 }
 
 pub fn fill_global(c: &Case, a: Area, x: i32, y: i32, index: i16, out: usize) -> Pair {
-    let s = &c.sheet;
-    let expected = with_list(placed_number(c, &[x, y], a), out, false, || {
-        tools::fill_global(c.doc(), a.chosen().as_ref(), point(x, y), index.into())
-    });
-    let (mut list, mut r) = (vec![WORD; out], R);
-    let no = sheet!(
-        call_fill_global,
-        s,
-        a.whole,
-        &a.s,
-        x,
-        y,
-        index,
-        &mut list,
-        &mut r
-    );
-    [expected, listed(no, &r, &list)]
+    let at = [x, y];
+    paint(c, a, FILL_GLOBAL, &at, 0, [index, 0], [0, out], |d, sel| {
+        tools::fill_global(d, sel, point(x, y), index.into())
+    })
 }
 
 /// The words of an answer with a list and a selection.

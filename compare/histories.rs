@@ -109,9 +109,7 @@ fn truth(no: u8, r: &[usize]) -> Vec<u64> {
     words
 }
 
-type Ask = fn(&[u8], &[usize; 6], &mut [usize; 5]) -> u8;
-
-fn asked(st: &State, yes: bool, ask: Ask) -> Pair {
+fn asked(st: &State, question: u8, yes: bool) -> Pair {
     let no = handle_number(st);
     let expected = if no == 0 {
         truth(0, &numbers(&[yes.into()]))
@@ -119,27 +117,21 @@ fn asked(st: &State, yes: bool, ask: Ask) -> Pair {
         truth(no, &R)
     };
     let mut r = R;
-    let told = ask(&st.journal, &st.numbers(), &mut r);
+    let told = call_asked(question, &st.journal, &st.numbers(), &mut r);
     [expected, truth(told, &r)]
 }
 
 pub fn is_dirty(st: &State) -> Pair {
     let h = st.handle;
-    asked(
-        st,
-        h.saved == NOWHERE || h.saved != h.position,
-        |j, n, r| call_is_dirty(j, n, r),
-    )
+    asked(st, IS_DIRTY, h.saved == NOWHERE || h.saved != h.position)
 }
 
 pub fn can_undo(st: &State) -> Pair {
-    asked(st, st.handle.position > 0, |j, n, r| call_can_undo(j, n, r))
+    asked(st, CAN_UNDO, st.handle.position > 0)
 }
 
 pub fn can_redo(st: &State) -> Pair {
-    asked(st, st.handle.position < st.handle.count, |j, n, r| {
-        call_can_redo(j, n, r)
-    })
+    asked(st, CAN_REDO, st.handle.position < st.handle.count)
 }
 
 /// The words of a record that is shown. A LAB that is no number is shown as one NaN.
@@ -169,15 +161,28 @@ fn shown_or(st: &State, none: bool, read: impl FnOnce() -> Option<journal::Read>
     read().map_or(next(4, BYTES, DOUBLES, R), |r| record_shown(&r))
 }
 
+/// What is expected, and what ours shows.
+fn shown(st: &State, question: u8, number: usize, expected: Vec<u64>) -> Pair {
+    let (mut b, mut f, mut r) = (BYTES, DOUBLES, R);
+    let no = call_next(
+        question,
+        &st.journal,
+        &st.numbers(),
+        number,
+        &mut b,
+        &mut f,
+        &mut r,
+    );
+    [expected, next(no, b, f, r)]
+}
+
 pub fn next_undo(st: &State) -> Pair {
     let h = st.handle;
     let expected = shown_or(st, h.position == 0, || {
         journal::read_back(&st.journal, h.offset)
             .filter(|r| journal::back(h, r).sound(st.journal.len()))
     });
-    let (mut b, mut f, mut r) = (BYTES, DOUBLES, R);
-    let no = call_next_undo(&st.journal, &st.numbers(), &mut b, &mut f, &mut r);
-    [expected, next(no, b, f, r)]
+    shown(st, NEXT_UNDO, 0, expected)
 }
 
 pub fn next_redo(st: &State) -> Pair {
@@ -186,9 +191,7 @@ pub fn next_redo(st: &State) -> Pair {
         journal::read_forth(&st.journal, h.offset, h.end)
             .filter(|r| journal::forth(h, r).sound(st.journal.len()))
     });
-    let (mut b, mut f, mut r) = (BYTES, DOUBLES, R);
-    let no = call_next_redo(&st.journal, &st.numbers(), &mut b, &mut f, &mut r);
-    [expected, next(no, b, f, r)]
+    shown(st, NEXT_REDO, 0, expected)
 }
 
 /// An applied record by its number: the oldest starts at 0, each next one where the one before ends, and the records that
@@ -210,9 +213,7 @@ pub fn applied(st: &State, number: usize) -> Pair {
         }
         None
     });
-    let (mut b, mut f, mut r) = (BYTES, DOUBLES, R);
-    let no = call_applied(&st.journal, &st.numbers(), number, &mut b, &mut f, &mut r);
-    [expected, next(no, b, f, r)]
+    shown(st, APPLIED, number, expected)
 }
 
 // An edit on a sheet, by the Rust.
@@ -1035,9 +1036,9 @@ fn limits(t: &mut Table, draw: &mut Draw) {
                 ),
             ),
             ("mark_saved", call_mark_saved(&journal, &mut n)),
-            ("is_dirty", call_is_dirty(&journal, &n, &mut r)),
-            ("can_undo", call_can_undo(&journal, &n, &mut r)),
-            ("can_redo", call_can_redo(&journal, &n, &mut r)),
+            ("is_dirty", call_asked(IS_DIRTY, &journal, &n, &mut r)),
+            ("can_undo", call_asked(CAN_UNDO, &journal, &n, &mut r)),
+            ("can_redo", call_asked(CAN_REDO, &journal, &n, &mut r)),
         ];
         for (name, no) in ours {
             t.tell(name, &[expected], &[no.into()], || {
@@ -1046,19 +1047,11 @@ fn limits(t: &mut Table, draw: &mut Draw) {
         }
         let (mut b, mut f) = (BYTES, DOUBLES);
         let looks = [
-            (
-                "next_undo",
-                call_next_undo(&journal, &n, &mut b, &mut f, &mut r),
-            ),
-            (
-                "next_redo",
-                call_next_redo(&journal, &n, &mut b, &mut f, &mut r),
-            ),
-            (
-                "applied",
-                call_applied(&journal, &n, 0, &mut b, &mut f, &mut r),
-            ),
-        ];
+            ("next_undo", NEXT_UNDO),
+            ("next_redo", NEXT_REDO),
+            ("applied", APPLIED),
+        ]
+        .map(|(name, q)| (name, call_next(q, &journal, &n, 0, &mut b, &mut f, &mut r)));
         for ((name, no), within) in looks.into_iter().zip([0, 255, 0]) {
             let expected = if expected == 0 { within } else { 1 };
             t.tell(name, &[expected], &[no.into()], || {

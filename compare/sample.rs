@@ -184,7 +184,7 @@ fn line(c: usize, expected: &[u64]) {
     println!("{} {} {:016x}", NAMES[c], expected[0], print_of(expected));
 }
 
-// As in crates/test_sample.
+// As in crates/test_calls and crates/test_sample.
 
 /// A sheet of six pixels.
 fn sheet(d: &Deck, (w, h): (usize, usize)) -> Sheet {

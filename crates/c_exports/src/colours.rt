@@ -2,8 +2,8 @@
 use crate::flat::lab_of;
 use crate::flat::rgb_of;
 use crate::flat::tell_lab;
-use color::Found;
-use color::Root;
+use base::Found;
+use base::Root;
 
 #[no_mangle]
 pub extern "C" fn call_linear(c: u8) -> f64 {

@@ -1,266 +1,160 @@
-// The calls of `tool_draw`, `fill`, `tool_replace`, `tool_move` and `tool_clip`.
+// The calls of `tool_draw`, `tool_flood_fill`, `tool_replace`, `tool_move` and `tool_clip`.
 use crate::flat::area_of;
 use crate::flat::part_of;
 use crate::flat::tell_chosen;
 use crate::flat::tell_count;
 use crate::flat::tell_got;
-use tool_clip::Copied;
-use tool_move::Shifted;
+use base::Copied;
+use base::Counted;
+use selection::Area;
+use selection::Shifted;
 
-#[no_mangle]
-pub extern "C" fn call_pencil(
+// Number i of a list, or 0.
+fn at(list: &[i32], i: usize) -> i32 {
+    if i < list.len() { list[i] } else { 0 }
+}
+
+// The tools that paint with an index, by number: 0 `pencil`, 1 `eraser`, 2 `line`, 3 `rectangle`, filled where the size is not
+// 0, 4 `flood_fill`, 5 `replace_color` of `from`, else `fill_global`. The corners of a line and a rectangle, and the place of
+// a fill, are the first points.
+fn draw(
     w: usize,
     h: usize,
     k: usize,
     palette: &[u8],
     lab: &[f64],
     indices: &[i16],
-    whole: bool,
-    s: &[u16; 4],
+    tool: u8,
+    area: Area,
     points: &[i32],
     size: usize,
     index: i16,
-    scratch: &mut [u64],
-    out: &mut [u64],
-    r: &mut [usize; 5],
-) -> u8 {
-    tell_count(
-        tool_draw::pencil(
-            w,
-            h,
-            k,
-            palette,
-            lab,
-            indices,
-            area_of(whole, s),
-            points,
-            size,
-            index,
-            scratch,
-            out,
-        ),
-        r,
-    )
-}
-
-#[no_mangle]
-pub extern "C" fn call_eraser(
-    w: usize,
-    h: usize,
-    k: usize,
-    palette: &[u8],
-    lab: &[f64],
-    indices: &[i16],
-    whole: bool,
-    s: &[u16; 4],
-    points: &[i32],
-    size: usize,
-    scratch: &mut [u64],
-    out: &mut [u64],
-    r: &mut [usize; 5],
-) -> u8 {
-    tell_count(
-        tool_draw::eraser(
-            w,
-            h,
-            k,
-            palette,
-            lab,
-            indices,
-            area_of(whole, s),
-            points,
-            size,
-            scratch,
-            out,
-        ),
-        r,
-    )
-}
-
-#[no_mangle]
-pub extern "C" fn call_line(
-    w: usize,
-    h: usize,
-    k: usize,
-    palette: &[u8],
-    lab: &[f64],
-    indices: &[i16],
-    whole: bool,
-    s: &[u16; 4],
-    ax: i32,
-    ay: i32,
-    bx: i32,
-    by: i32,
-    size: usize,
-    index: i16,
-    scratch: &mut [u64],
-    out: &mut [u64],
-    r: &mut [usize; 5],
-) -> u8 {
-    tell_count(
-        tool_draw::line(
-            w,
-            h,
-            k,
-            palette,
-            lab,
-            indices,
-            area_of(whole, s),
-            ax,
-            ay,
-            bx,
-            by,
-            size,
-            index,
-            scratch,
-            out,
-        ),
-        r,
-    )
-}
-
-#[no_mangle]
-pub extern "C" fn call_rectangle(
-    w: usize,
-    h: usize,
-    k: usize,
-    palette: &[u8],
-    lab: &[f64],
-    indices: &[i16],
-    whole: bool,
-    s: &[u16; 4],
-    ax: i32,
-    ay: i32,
-    bx: i32,
-    by: i32,
-    filled: bool,
-    index: i16,
-    scratch: &mut [u64],
-    out: &mut [u64],
-    r: &mut [usize; 5],
-) -> u8 {
-    tell_count(
-        tool_draw::rectangle(
-            w,
-            h,
-            k,
-            palette,
-            lab,
-            indices,
-            area_of(whole, s),
-            ax,
-            ay,
-            bx,
-            by,
-            filled,
-            index,
-            scratch,
-            out,
-        ),
-        r,
-    )
-}
-
-#[no_mangle]
-pub extern "C" fn call_flood_fill(
-    w: usize,
-    h: usize,
-    k: usize,
-    palette: &[u8],
-    lab: &[f64],
-    indices: &[i16],
-    whole: bool,
-    s: &[u16; 4],
-    x: i32,
-    y: i32,
-    index: i16,
-    scratch: &mut [u64],
-    out: &mut [u64],
-    r: &mut [usize; 5],
-) -> u8 {
-    tell_count(
-        tool_flood_fill::flood_fill(
-            w,
-            h,
-            k,
-            palette,
-            lab,
-            indices,
-            area_of(whole, s),
-            x,
-            y,
-            index,
-            scratch,
-            out,
-        ),
-        r,
-    )
-}
-
-#[no_mangle]
-pub extern "C" fn call_replace_color(
-    w: usize,
-    h: usize,
-    k: usize,
-    palette: &[u8],
-    lab: &[f64],
-    indices: &[i16],
-    whole: bool,
-    s: &[u16; 4],
     from: i16,
-    to: i16,
+    scratch: &mut [u64],
     out: &mut [u64],
-    r: &mut [usize; 5],
-) -> u8 {
-    tell_count(
-        tool_replace::replace_color(
+) -> Counted {
+    let x = at(points, 0);
+    let y = at(points, 1);
+    let to_x = at(points, 2);
+    let to_y = at(points, 3);
+    match tool {
+        0 => tool_draw::pencil(
             w,
             h,
             k,
             palette,
             lab,
             indices,
-            area_of(whole, s),
-            from,
-            to,
+            area,
+            points,
+            size,
+            index,
+            scratch,
             out,
         ),
-        r,
-    )
+        1 => tool_draw::eraser(
+            w,
+            h,
+            k,
+            palette,
+            lab,
+            indices,
+            area,
+            points,
+            size,
+            scratch,
+            out,
+        ),
+        2 => tool_draw::line(
+            w,
+            h,
+            k,
+            palette,
+            lab,
+            indices,
+            area,
+            x,
+            y,
+            to_x,
+            to_y,
+            size,
+            index,
+            scratch,
+            out,
+        ),
+        3 => tool_draw::rectangle(
+            w,
+            h,
+            k,
+            palette,
+            lab,
+            indices,
+            area,
+            x,
+            y,
+            to_x,
+            to_y,
+            size != 0,
+            index,
+            scratch,
+            out,
+        ),
+        4 => tool_flood_fill::flood_fill(
+            w,
+            h,
+            k,
+            palette,
+            lab,
+            indices,
+            area,
+            x,
+            y,
+            index,
+            scratch,
+            out,
+        ),
+        5 => tool_replace::replace_color(w, h, k, palette, lab, indices, area, from, index, out),
+        _ => tool_replace::fill_global(w, h, k, palette, lab, indices, area, x, y, index, out),
+    }
 }
 
 #[no_mangle]
-pub extern "C" fn call_fill_global(
+pub extern "C" fn call_draw(
     w: usize,
     h: usize,
     k: usize,
     palette: &[u8],
     lab: &[f64],
     indices: &[i16],
+    tool: u8,
     whole: bool,
     s: &[u16; 4],
-    x: i32,
-    y: i32,
+    points: &[i32],
+    size: usize,
     index: i16,
+    from: i16,
+    scratch: &mut [u64],
     out: &mut [u64],
     r: &mut [usize; 5],
 ) -> u8 {
-    tell_count(
-        tool_replace::fill_global(
-            w,
-            h,
-            k,
-            palette,
-            lab,
-            indices,
-            area_of(whole, s),
-            x,
-            y,
-            index,
-            out,
-        ),
-        r,
-    )
+    let area = area_of(whole, s);
+    let counted = draw(
+        w,
+        h,
+        k,
+        palette,
+        lab,
+        indices,
+        tool,
+        area,
+        points,
+        size,
+        index,
+        from,
+        scratch,
+        out,
+    );
+    tell_count(counted, r)
 }
 
 // The count in r[0], and in r[1] what `tell_chosen` says of the new selection.

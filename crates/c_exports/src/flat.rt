@@ -1,12 +1,12 @@
 // Structs and enums as numbers in small arrays, and back.
-use base_limits::Counted;
-use base_limits::Lab;
-use base_limits::Rgb;
-use edit::Edit;
+use base::Counted;
+use base::Edit;
+use base::Got;
+use base::Lab;
+use base::Rgb;
 use selection::Area;
 use selection::Chosen;
 use selection::Selection;
-use sheet::Got;
 
 // No value: "still", nothing, outside, free.
 pub(crate) const NONE: u8 = 255;

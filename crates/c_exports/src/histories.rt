@@ -4,10 +4,10 @@ use crate::flat::NONE;
 use crate::flat::edit_of;
 use crate::flat::is_edit;
 use crate::flat::tell_edit;
-use history::Handle;
-use history::Moved;
-use history_queries::Next;
-use history_queries::Truth;
+use base::Handle;
+use base::Moved;
+use base::Next;
+use base::Truth;
 
 fn handle_of(state: &[usize; 6]) -> Handle {
     Handle {
@@ -140,19 +140,21 @@ fn tell_truth(t: Truth, r: &mut [usize; 5]) -> u8 {
     }
 }
 
+// 0 `is_dirty`, 1 `can_undo`, else `can_redo`.
 #[no_mangle]
-pub extern "C" fn call_is_dirty(journal: &[u8], state: &[usize; 6], r: &mut [usize; 5]) -> u8 {
-    tell_truth(history_queries::is_dirty(journal, handle_of(state)), r)
-}
-
-#[no_mangle]
-pub extern "C" fn call_can_undo(journal: &[u8], state: &[usize; 6], r: &mut [usize; 5]) -> u8 {
-    tell_truth(history_queries::can_undo(journal, handle_of(state)), r)
-}
-
-#[no_mangle]
-pub extern "C" fn call_can_redo(journal: &[u8], state: &[usize; 6], r: &mut [usize; 5]) -> u8 {
-    tell_truth(history_queries::can_redo(journal, handle_of(state)), r)
+pub extern "C" fn call_asked(
+    question: u8,
+    journal: &[u8],
+    state: &[usize; 6],
+    r: &mut [usize; 5],
+) -> u8 {
+    let handle = handle_of(state);
+    let t = match question {
+        0 => history_queries::is_dirty(journal, handle),
+        1 => history_queries::can_undo(journal, handle),
+        _ => history_queries::can_redo(journal, handle),
+    };
+    tell_truth(t, r)
 }
 
 // The edit as `tell_edit` writes it, and in r[1] to r[4] the record's start and length, where its list starts, and its count.
@@ -177,40 +179,10 @@ fn tell_next(n: Next, bytes: &mut [u8; 8], doubles: &mut [f64; 3], r: &mut [usiz
     }
 }
 
+// 0 `next_undo`, 1 `next_redo`, else `applied` of the number.
 #[no_mangle]
-pub extern "C" fn call_next_undo(
-    journal: &[u8],
-    state: &[usize; 6],
-    bytes: &mut [u8; 8],
-    doubles: &mut [f64; 3],
-    r: &mut [usize; 5],
-) -> u8 {
-    tell_next(
-        history_queries::next_undo(journal, handle_of(state)),
-        bytes,
-        doubles,
-        r,
-    )
-}
-
-#[no_mangle]
-pub extern "C" fn call_next_redo(
-    journal: &[u8],
-    state: &[usize; 6],
-    bytes: &mut [u8; 8],
-    doubles: &mut [f64; 3],
-    r: &mut [usize; 5],
-) -> u8 {
-    tell_next(
-        history_queries::next_redo(journal, handle_of(state)),
-        bytes,
-        doubles,
-        r,
-    )
-}
-
-#[no_mangle]
-pub extern "C" fn call_applied(
+pub extern "C" fn call_next(
+    question: u8,
     journal: &[u8],
     state: &[usize; 6],
     number: usize,
@@ -218,12 +190,13 @@ pub extern "C" fn call_applied(
     doubles: &mut [f64; 3],
     r: &mut [usize; 5],
 ) -> u8 {
-    tell_next(
-        history_queries::applied(journal, handle_of(state), number),
-        bytes,
-        doubles,
-        r,
-    )
+    let handle = handle_of(state);
+    let n = match question {
+        0 => history_queries::next_undo(journal, handle),
+        1 => history_queries::next_redo(journal, handle),
+        _ => history_queries::applied(journal, handle, number),
+    };
+    tell_next(n, bytes, doubles, r)
 }
 
 // The palette count goes in and comes back in state[0].

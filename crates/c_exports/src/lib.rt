@@ -1,7 +1,11 @@
-// Every exported call of the repository under a plain C name, for compare/ and for the program `test_sample`. A wrapper
-// makes one call: structs and enums come and go as numbers in small arrays, and what it returns is document 01's
+// Every exported call of the repository under a plain C name, for compare/ and bench/. A wrapper makes one call, or one of
+// some of one shape, by a number: structs and enums come and go as numbers in small arrays, and what it returns is document 01's
 // number: 0 where there is an answer, 255 for "still", nothing or outside, else the refusal's own. What the calls
 // answer stands in their own contracts; of the wrappers it is proved that they are safe and end.
+// What bench/driver.rs times of the colours, exported to C over slices: as many calls as there are inputs,
+// and none where the results have too few places. Of these loops it is proved that they stay inside and
+// end; what the calls answer stands in their own contracts.
+mod bench;
 mod colours;
 mod drawn;
 mod flat;
@@ -12,6 +16,11 @@ mod selections;
 mod sheets;
 mod tiled;
 
+pub use bench::bench_cbrt;
+pub use bench::bench_lab;
+pub use bench::bench_lab_lent;
+pub use bench::bench_nearest;
+pub use bench::bench_nearest_in;
 pub use colours::call_cbrt;
 pub use colours::call_dist2;
 pub use colours::call_linear;
@@ -19,25 +28,15 @@ pub use colours::call_nearest_index;
 pub use colours::call_rgb8_to_lab;
 pub use drawn::call_clip_rgba;
 pub use drawn::call_copy;
-pub use drawn::call_eraser;
+pub use drawn::call_draw;
 pub use drawn::call_eyedropper;
-pub use drawn::call_fill_global;
-pub use drawn::call_flood_fill;
-pub use drawn::call_line;
 pub use drawn::call_move_selection;
 pub use drawn::call_paste;
-pub use drawn::call_pencil;
-pub use drawn::call_rectangle;
-pub use drawn::call_replace_color;
 pub use drawn::call_snap_rgba;
-pub use histories::call_applied;
-pub use histories::call_can_redo;
-pub use histories::call_can_undo;
+pub use histories::call_asked;
 pub use histories::call_fresh;
-pub use histories::call_is_dirty;
 pub use histories::call_mark_saved;
-pub use histories::call_next_redo;
-pub use histories::call_next_undo;
+pub use histories::call_next;
 pub use histories::call_push;
 pub use histories::call_redo;
 pub use histories::call_replay;

@@ -1,12 +1,12 @@
-// The calls of `line` and `tools`.
+// The calls of `tool_line` and `change_stroke`.
 use crate::flat::NO_EDIT;
 use crate::flat::edit_of;
 use crate::flat::is_edit;
 use crate::flat::tell_count;
 use crate::flat::tell_edit;
-use base_limits::Counted;
-use change_stroke::Emptiness;
-use change_stroke::Made;
+use base::Counted;
+use base::MadeOp;
+use base::Truth;
 use change_stroke::Stroke;
 
 #[no_mangle]
@@ -32,14 +32,14 @@ pub extern "C" fn call_normalize(
 }
 
 // An edit and how many changes it has: r[1] is the count.
-fn tell_made(m: Made, bytes: &mut [u8; 8], doubles: &mut [f64; 3], r: &mut [usize; 5]) -> u8 {
+fn tell_made(m: MadeOp, bytes: &mut [u8; 8], doubles: &mut [f64; 3], r: &mut [usize; 5]) -> u8 {
     match m {
-        Made::Op { edit, count } => {
+        MadeOp::Op { edit, count } => {
             tell_edit(edit, bytes, doubles, r);
             r[1] = count;
             0
         }
-        Made::Refused(n) => n,
+        MadeOp::Refused(n) => n,
     }
 }
 
@@ -73,11 +73,11 @@ pub extern "C" fn call_is_empty(
         return NO_EDIT;
     }
     match change_stroke::is_empty(edit_of(bytes, index, doubles), list) {
-        Emptiness::Is(b) => {
+        Truth::Is(b) => {
             r[0] = if b { 1 } else { 0 };
             0
         }
-        Emptiness::Refused(n) => n,
+        Truth::Refused(n) => n,
     }
 }
 

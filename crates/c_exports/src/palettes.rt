@@ -3,9 +3,9 @@ use crate::colours::tell_found;
 use crate::flat::NONE;
 use crate::flat::rgb_of;
 use crate::flat::tell_edit;
-use palette::Choices;
-use palette::Made;
-use palette::Removal;
+use base::Choices;
+use base::MadeEdit;
+use base::Removal;
 
 #[no_mangle]
 pub extern "C" fn call_check_color(limited: bool, permitted: &[u8], rgb: &[u8; 3]) -> u8 {
@@ -35,13 +35,13 @@ pub extern "C" fn call_fixed_choices(
     }
 }
 
-fn tell_made(m: Made, bytes: &mut [u8; 8], doubles: &mut [f64; 3], r: &mut [usize; 5]) -> u8 {
+fn tell_made(m: MadeEdit, bytes: &mut [u8; 8], doubles: &mut [f64; 3], r: &mut [usize; 5]) -> u8 {
     match m {
-        Made::Edit(e) => {
+        MadeEdit::Edit(e) => {
             tell_edit(e, bytes, doubles, r);
             0
         }
-        Made::Refused(n) => n,
+        MadeEdit::Refused(n) => n,
     }
 }
 

@@ -1,7 +1,7 @@
 // The calls of `tile_extract` and `tile_mirror`.
 use crate::flat::area_of;
 use crate::flat::tell_count;
-use tile_extract::Extraction;
+use base::Extraction;
 
 #[no_mangle]
 pub extern "C" fn call_flip(

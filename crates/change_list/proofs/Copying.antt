@@ -11,13 +11,13 @@ use lib.Signed.{mag}
 use mir.Syntax.{w16}
 use mir.Val.{SFits, toZ, ofZ, hbits}
 use mir.ValLaws.{ofZ-fits, toZ-ofZ}
-use Rattle.base_ints.proofs.Back.{by-value}
+use Rattle.base.proofs.Back.{by-value}
 use lib.Seq.{take-suc, take-all, take-at, length-take-le, take-set-lt, take-set-le, set-out}
-use Rattle.base_lists.specs.Lists.{over, All}
-use Rattle.base_lists.proofs.Mapped.{map-set}
-use Rattle.base_lists.proofs.Each.{all-at}
+use Rattle.base.specs.Lists.{over, All}
+use Rattle.base.proofs.Mapped.{map-set}
+use Rattle.base.proofs.Each.{all-at}
 use Rattle.change_list.specs.Between.{laidOut}
-use Rattle.base_lists.proofs.Over.{over-none, over-set, length-over}
+use Rattle.base.proofs.Over.{over-none, over-set, length-over}
 
 -- bits that were an index are that index
 pub bit-back : (z : ℤ) → SFits w16 z → toZ w16 (ofZ w16 z % 2 ^ 16) ≡ z

@@ -5,12 +5,11 @@ use mathlib.Core.List.{List, map}
 use borrow.Author.Tests.{lt-ltb, le-ltb}
 use lib.ListN.{length, take}
 use lib.Seq.{length-take-le}
-use Rattle.base_limits.specs.Checks.{Check, firstOf, refusedOr}
-use Rattle.base_limits.specs.Answer.{filled}
-use Rattle.base_limits.specs.declared.Counted.{Counted}
-use Rattle.base_limits.specs.declared.Counted.the-variants.{Count, Refused}
-use Rattle.base_limits.proofs.First.{refused-first, result-first}
-use Rattle.base_lists.specs.Lists.{over}
+use Rattle.base.specs.Checks.{Check, firstOf, refusedOr}
+use Rattle.base.specs.Answer.{Told, leaving, filled}
+use Rattle.base.specs.declared.Counted.the-variants.{Count, Refused}
+use Rattle.base.proofs.First.{refused-first, result-first}
+use Rattle.base.specs.Lists.{over}
 use Rattle.edit.specs.Change.{Change, packed}
 use Rattle.change_list.specs.Fronts.{Front}
 use Rattle.change_list.specs.Listed.{handed, listed}
@@ -30,7 +29,7 @@ module _ (checks : List Check) (cs : List Change) (out : List ℕ) where
   listed-refused n e h = refused-first checks (λ m. filled (Refused m) out) (handed (map packed cs) out) n e h
 
   -- the list stood at the front of the scratch
-  pub listed-done : {a : Counted} {s m : List ℕ} {n : ℕ} → firstOf checks ≡ 0 → Front (map packed cs) s n → filled a m ≡ handed (take n s) out
-      → filled a m ≡ listed checks cs out
+  pub listed-done : {a : Told ℕ} {s m : List ℕ} {n : ℕ} → firstOf checks ≡ 0 → Front (map packed cs) s n → leaving a m ≡ handed (take n s) out
+      → leaving a m ≡ listed checks cs out
   unfolding listed
   listed-done e f d = d ∙ ap (λ (l : List ℕ). handed l out) (f .front) ∙ result-first checks (λ m. filled (Refused m) out) (handed (map packed cs) out) e

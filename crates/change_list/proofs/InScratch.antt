@@ -4,7 +4,7 @@ use mathlib.Core.Path.{_≡_, sym}
 use mathlib.Core.List.{List}
 use native.Mathlib.Omega.{arith}
 use lib.ListN.{length, take}
-use Rattle.base_lists.specs.Lists.{over}
+use Rattle.base.specs.Lists.{over}
 use Rattle.change_list.specs.Listed.{InScratch}
 
 module _ {B : Type 0} {room : ℕ} {s : List ℕ} {leaves call : List ℕ → B} where

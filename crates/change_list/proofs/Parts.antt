@@ -10,10 +10,10 @@ use lib.ListN.{length, take, drop, set, length-drop}
 use lib.Seq.{take-take, drop-drop, take-all, take-at, drop-at, length-take-le, take-set-le, take-set-lt, drop-set-lt, drop-set-add}
 use mir.Syntax.{w16}
 use mir.Val.{toZ}
-use Rattle.base_lists.specs.Lists.{All}
-use Rattle.base_lists.proofs.Mapped.{map-take}
-use Rattle.base_ints.specs.Ints.{eqZ}
-use Rattle.base_ints.proofs.Back.{eqZ-same}
+use Rattle.base.specs.Lists.{All}
+use Rattle.base.proofs.Mapped.{map-take}
+use Rattle.base.specs.Ints.{eqZ}
+use Rattle.base.proofs.Back.{eqZ-same}
 use Rattle.edit.specs.Change.{Change, place, painted, newOf}
 use Rattle.change_list.specs.Between.{betweenFrom, between, laidOut, rowsOf, betweenRows, HasRows}
 

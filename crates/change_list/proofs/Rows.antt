@@ -16,12 +16,12 @@ use mir.Syntax.{w16}
 use lib.Signed.{mag}
 use mir.Val.{Fits, SFits, toZ, ofZ, hbits}
 use mir.ValLaws.{ofZ-toZ, toZ-fits}
-use Rattle.base_lists.proofs.Mapped.{map-take}
-use Rattle.base_ints.specs.Ints.{eqZ}
-use Rattle.base_ints.proofs.Back.{eq-back, by-value}
+use Rattle.base.proofs.Mapped.{map-take}
+use Rattle.base.specs.Ints.{eqZ}
+use Rattle.base.proofs.Back.{eq-back, by-value}
 use Rattle.edit.specs.Change.{packed}
-use Rattle.base_lists.specs.Lists.{All}
-use Rattle.base_lists.proofs.Each.{all-at}
+use Rattle.base.specs.Lists.{All}
+use Rattle.base.proofs.Each.{all-at}
 use Rattle.change_list.specs.Between.{betweenFrom, laidOut, rowsOf, betweenRows, HasRows, differenceOf, rowFrom}
 use Rattle.change_list.specs.Fronts.{Front, Put}
 use Rattle.change_list.proofs.Fronts.{front-of, put-one, put-none}

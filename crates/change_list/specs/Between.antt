@@ -7,7 +7,7 @@ use lib.IntN.{ℤ}
 use lib.ListN.{take, drop}
 use mir.Syntax.{w16}
 use mir.Val.{toZ, ofZ}
-use Rattle.base_ints.specs.Ints.{eqZ}
+use Rattle.base.specs.Ints.{eqZ}
 use Rattle.edit.specs.Change.{Change}
 
 -- of pictures of width w, from place p on: at each place where they differ, the first's index as old and the second's as new

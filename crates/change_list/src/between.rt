@@ -8,7 +8,7 @@ ghost use Prim.Native.Nat.{ℕ, _+_, _*_, _≤_, _<_, _^_};
 ghost use lib.ListN.{length, drop, set};
 ghost use mir.Syntax.{w16};
 ghost use mir.Val.{SFits, ofZ};
-ghost use Rattle.base_lists.specs.Lists.{over, All};
+ghost use Rattle.base.specs.Lists.{over, All};
 ghost use Rattle.edit.specs.Change.{packed};
 ghost use Rattle.change_list.specs.Fronts.{Front, Put};
 ghost use Rattle.change_list.specs.Between.{laidOut, rowsOf, betweenRows, HasRows, differenceOf, rowFrom};
@@ -39,7 +39,10 @@ fn lay(indices: &[i16], scratch: &mut [u64])
 // Some rows of a picture into the scratch, each where it stands: count rows from row `first` on.
 pub fn lay_rows(indices: &[i16], w: usize, first: usize, count: usize, scratch: &mut [u64])
     requires { ⌜ HasRows w first count (length (now indices)) (length (now scratch)) ⌝ }
-    ensures { λ _. ⌜ rowsOf w first count (laidOut (length (now (indices .entry))) (now (scratch .exit))) ≡ rowsOf w first count (now (indices .entry)) ⌝ }
+    ensures { λ _. ⌜
+        rowsOf w first count (laidOut (length (now (indices .entry))) (now (scratch .exit)))
+        ≡ rowsOf w first count (now (indices .entry))
+        ⌝ }
 {
     let at = first * w;
     let end = at + count * w;
@@ -73,7 +76,10 @@ fn put_difference(s: &mut [u64], m: usize, place: u64, old: u64, new: u64) -> us
 // place. `first` is the number of the row's first place.
 fn row_differences(row: &[i16], first: u64, at: usize, s: &mut [u64], m: usize) -> usize
     requires { ⌜ (m ≤ at) × (at + length (now row) ≤ length (now s)) × (first + length (now row) ≤ 2 ^ 32) ⌝ }
-    ensures { λ r. ⌜ Put (now (s .entry)) m (rowFrom first (now (row .entry)) (drop at (now (s .entry)))) (at + length (now (row .entry))) (now (s .exit)) r ⌝ }
+    ensures { λ r. ⌜
+        Put (now (s .entry)) m (rowFrom first (now (row .entry)) (drop at (now (s .entry))))
+        (at + length (now (row .entry))) (now (s .exit)) r
+        ⌝ }
     ensures { λ _. ⌜ All (SFits w16) (now (row .entry)) ⌝ }
 {
     let mut m = m;
@@ -97,7 +103,10 @@ pub fn differences(
     scratch: &mut [u64],
 ) -> usize
     requires { ⌜ HasRows w first count (length (now indices)) (length (now scratch)) ⌝ }
-    ensures { λ r. ⌜ Front (map packed (betweenRows w first count (now (indices .entry)) (laidOut (length (now (indices .entry))) (now (scratch .entry))))) (now (scratch .exit)) r ⌝ }
+    ensures { λ r. ⌜
+        Front (map packed (betweenRows w first count (now (indices .entry))
+        (laidOut (length (now (indices .entry))) (now (scratch .entry))))) (now (scratch .exit)) r
+        ⌝ }
 {
     let mut m: usize = 0;
     let mut j: usize = 0;

@@ -1,12 +1,12 @@
 // A result moved out of scratch.
-use base_limits::Counted;
-use base_limits::NO_SPACE;
+use base::Counted;
+use base::NO_SPACE;
 ghost use mathlib.Core.Path.{_≡_};
 ghost use mathlib.Core.List.{List};
 ghost use Prim.Native.Nat.{ℕ, _≤_};
 ghost use lib.ListN.{length, take};
-ghost use Rattle.base_limits.specs.Answer.{filled};
-ghost use Rattle.base_lists.specs.Lists.{over};
+ghost use Rattle.base.specs.Answer.{filled};
+ghost use Rattle.base.specs.Lists.{over};
 ghost use Rattle.change_list.specs.Listed.{handed, countOf, InScratch};
 
 // The first n of the scratch over the front of out, which keeps its bits past them.

@@ -8,10 +8,10 @@ use native.Mathlib.Decide.{ℕ-discrete}
 use lib.Dec.{eqb}
 use borrow.Author.Tests.{eq-eqb, ne-eqb}
 use Rattle.edit.specs.Change.{Change}
-use Rattle.base_lists.specs.Lists.{All, kept}
+use Rattle.base.specs.Lists.{All, kept}
 use Rattle.base_sort.proofs.Order.{less, same, more, tri}
-use Rattle.base_lists.proofs.Each.{all-map}
-use Rattle.base_lists.proofs.Kept.{kept-all}
+use Rattle.base.proofs.Each.{all-map}
+use Rattle.base.proofs.Kept.{kept-all}
 use Rattle.change_normal.specs.Normal.{keyOf, joined, enter, entered, changing, normalizeOf}
 use Rattle.change_normal.specs.Laws.{Ordered, atPlace, folded, firstLast}
 use Rattle.change_normal.proofs.Group.{enter-none, enter-less, enter-same, enter-more, key-joined}

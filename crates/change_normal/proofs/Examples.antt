@@ -4,9 +4,9 @@ use mathlib.Core.Path.{_≡_, refl}
 use mathlib.Core.List.{[], _∷_}
 use lib.IntN.{pos}
 use Rattle.edit.specs.Change.{Change}
-use Rattle.base_ints.specs.Ints.{eqZ}
+use Rattle.base.specs.Ints.{eqZ}
 use Rattle.change_normal.specs.Normal.{keyOf, joined, enter, entered, changing, normalizeOf}
-use Rattle.base_lists.specs.Lists.{kept}
+use Rattle.base.specs.Lists.{kept}
 
 -- (x, y, old→new)
 abbrev change : ℕ → ℕ → ℕ → ℕ → Change

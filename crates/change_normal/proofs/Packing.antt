@@ -8,9 +8,9 @@ use lib.Pow.{field}
 use mir.Syntax.{w16}
 use mir.Val.{Fits, toZ}
 use mir.ValLaws.{ofZ-toZ, toZ-fits}
-use Rattle.base_ints.proofs.Back.{eq-back}
+use Rattle.base.proofs.Back.{eq-back}
 use Rattle.edit.specs.Change.{packed, unpacked}
-use Rattle.base_ints.specs.Ints.{eqZ}
+use Rattle.base.specs.Ints.{eqZ}
 use Rattle.change_normal.specs.Normal.{keyOf, joined, changing}
 use Rattle.change_normal.specs.Keys.{joinedN}
 

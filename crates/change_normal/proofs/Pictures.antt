@@ -12,14 +12,14 @@ use lib.IntN.{ℤ, pos}
 use lib.ListN.{length, getD, set, drop, drop-of-length-le, length-set}
 use lib.Seq.{drop-cons, getD-set-same}
 use borrow.Author.Tests.{ne-eqb}
-use Rattle.base_ints.specs.Ints.{eqZ}
-use Rattle.base_lists.specs.Lists.{some, All}
-use Rattle.base_lists.proofs.Nowhere.{or-both}
-use Rattle.base_ints.proofs.Back.{eqZ-same}
+use Rattle.base.specs.Ints.{eqZ}
+use Rattle.base.specs.Lists.{some, All}
+use Rattle.base.proofs.Nowhere.{or-both}
+use Rattle.base.proofs.Back.{eqZ-same}
 use Rattle.edit.specs.Change.{Change, place, painted, newOf}
 use Rattle.edit.specs.Checks.{named}
 use Rattle.edit.proofs.Painting.{painted-length, painted-keeps}
-use Rattle.base_lists.proofs.Each.{all-map}
+use Rattle.base.proofs.Each.{all-map}
 use Rattle.change_list.specs.Between.{betweenFrom, between}
 use Rattle.change_normal.specs.Normal.{keyOf, changing, normalizeOf}
 use Rattle.change_normal.specs.Laws.{On, FirstOlds, Ordered}

@@ -13,16 +13,16 @@ use lib.ListN.{length, getD, set}
 use lib.Seq.{getD-set-other, set-getD, set-set, set-comm}
 use borrow.Author.Tests.{leb-false, not-true, not-false}
 use Rattle.edit.specs.Change.{Change, place, outside, painted, newOf}
-use Rattle.base_ints.specs.Ints.{eqZ}
+use Rattle.base.specs.Ints.{eqZ}
 use lib.Dec.{leb}
-use Rattle.base_lists.specs.Lists.{some, kept, All}
-use Rattle.base_lists.proofs.Scan.{or-left, or-right}
-use Rattle.base_lists.proofs.Nowhere.{first-not, rest-not}
-use Rattle.base_ints.proofs.Back.{eqZ-same, same-index}
+use Rattle.base.specs.Lists.{some, kept, All}
+use Rattle.base.proofs.Scan.{or-left, or-right}
+use Rattle.base.proofs.Nowhere.{first-not, rest-not}
+use Rattle.base.proofs.Back.{eqZ-same, same-index}
 use Rattle.edit.proofs.Painting.{painted-length}
 use Rattle.base_sort.proofs.Order.{less, same, more, tri}
-use Rattle.base_lists.proofs.Each.{all-map}
-use Rattle.base_lists.proofs.Kept.{all-kept}
+use Rattle.base.proofs.Each.{all-map}
+use Rattle.base.proofs.Kept.{all-kept}
 use Rattle.change_normal.specs.Normal.{keyOf, joined, enter, entered, changing, normalizeOf}
 use Rattle.change_normal.specs.Laws.{On, FirstOlds, Ordered}
 use Rattle.change_normal.proofs.Group.{enter-less, enter-same, enter-more, key-joined}

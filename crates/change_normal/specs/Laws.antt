@@ -6,7 +6,7 @@ use lib.Dec.{eqb}
 use lib.IntN.{ℤ, pos}
 use lib.ListN.{getD}
 use Rattle.edit.specs.Change.{Change, place}
-use Rattle.base_lists.specs.Lists.{All, kept}
+use Rattle.base.specs.Lists.{All, kept}
 use Rattle.change_normal.specs.Normal.{keyOf, joined}
 
 -- keys strictly in order

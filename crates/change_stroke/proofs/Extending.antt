@@ -7,13 +7,12 @@ use borrow.Author.Tests.{lt-ltb, le-ltb, ltb-false}
 use lib.Dec.{ltb}
 use lib.ListN.{length, take}
 use lib.Seq.{length-take-le}
-use Rattle.base_limits.specs.Limits.{maxChanges}
-use Rattle.base_limits.specs.Numbers.{noSpace, listTooLong}
-use Rattle.base_limits.specs.Checks.{_when_, firstOf}
-use Rattle.base_limits.specs.Answer.{filled}
-use Rattle.base_limits.specs.declared.Counted.{Counted}
-use Rattle.base_limits.specs.declared.Counted.the-variants.{Refused}
-use Rattle.base_limits.proofs.First.{past}
+use Rattle.base.specs.Limits.{maxChanges}
+use Rattle.base.specs.Numbers.{noSpace, listTooLong}
+use Rattle.base.specs.Checks.{_when_, firstOf}
+use Rattle.base.specs.Answer.{filled, Told, leaving}
+use Rattle.base.specs.declared.Counted.the-variants.{Refused}
+use Rattle.base.proofs.First.{past}
 use Rattle.edit.specs.Change.{Change, unpacked}
 use Rattle.change_list.specs.Fronts.{Front}
 use Rattle.change_list.specs.Listed.{handed}
@@ -67,8 +66,8 @@ module _ (room count : ℕ) (list stroke : List ℕ) where
   unfolding extendCall
   extend-refused m e h = listed-refused (extendChecks count (length stroke) (length list) room) (extended (map unpacked (take count stroke)) (map unpacked list)) stroke m e h
 
-  pub extend-done : {a : Counted} {s m : List ℕ} {n : ℕ} → firstOf (extendChecks count (length stroke) (length list) room) ≡ 0
-      → Front (normalPacked (take count stroke ++ list)) s n → filled a m ≡ handed (take n s) stroke → filled a m ≡ extendCall room count list stroke
+  pub extend-done : {a : Told ℕ} {s m : List ℕ} {n : ℕ} → firstOf (extendChecks count (length stroke) (length list) room) ≡ 0
+      → Front (normalPacked (take count stroke ++ list)) s n → leaving a m ≡ handed (take n s) stroke → leaving a m ≡ extendCall room count list stroke
   unfolding extendCall extended normalPacked
   extend-done e f d =
       listed-done (extendChecks count (length stroke) (length list) room) (extended (map unpacked (take count stroke)) (map unpacked list)) stroke

@@ -7,24 +7,22 @@ use native.Mathlib.Omega.{arith}
 use borrow.Author.Tests.{lt-ltb, le-ltb}
 use lib.Dec.{ltb}
 use lib.ListN.{length, take}
-use Rattle.base_limits.specs.Limits.{maxChanges}
-use Rattle.base_limits.specs.Numbers.{listTooLong}
-use Rattle.base_limits.specs.Checks.{_when_, firstOf}
-use Rattle.base_limits.specs.Answer.{filled}
-use Rattle.base_limits.specs.declared.Counted.{Counted}
-use Rattle.base_limits.specs.declared.Counted.the-variants.{Count, Refused}
-use Rattle.base_limits.proofs.First.{refused-first, result-first}
-use Rattle.edit.specs.declared.Edit.{Edit}
+use Rattle.base.specs.Limits.{maxChanges}
+use Rattle.base.specs.Numbers.{listTooLong}
+use Rattle.base.specs.Checks.{_when_, firstOf}
+use Rattle.base.specs.Answer.{Told, filled, leaving, countTold, Op, opCount}
+use Rattle.base.specs.Answer.Told.{result, alone}
+use Rattle.base.specs.declared.Counted.the-variants.{Refused}
+use Rattle.base.proofs.First.{refused-first, result-first}
+use Rattle.base.specs.declared.Edit.{Edit}
 use Rattle.edit.specs.Change.{unpacked}
 use Rattle.edit.specs.Apply.{noPixels}
 use Rattle.change_list.specs.Fronts.{Front}
-use Rattle.change_list.specs.Listed.{handed, countOf, InScratch}
+use Rattle.change_list.specs.Listed.{handed, InScratch}
 use Rattle.change_list.proofs.Handing.{listed-refused, listed-done}
 use Rattle.change_list.proofs.InScratch.{scratch-then}
 use Rattle.change_normal.specs.Normal.{normalizeOf, normalPacked}
-use Rattle.change_stroke.specs.declared.Made.{Made}
-use Rattle.change_stroke.specs.declared.Emptiness.the-variants as emptiness
-use Rattle.change_stroke.specs.Op.{normalizeChecks, normalizeCall, made, madeCount, pixelsOf, pixelsCall, isEmptyOf}
+use Rattle.change_stroke.specs.Op.{normalizeChecks, normalizeCall, making, pixelsOf, pixelsCall, isEmptyOf}
 
 module _ (room : ℕ) (list out : List ℕ) where
   pub normalize-long : maxChanges < length list → filled (Refused 21) out ≡ normalizeCall room list out
@@ -39,31 +37,31 @@ module _ (room : ℕ) (list out : List ℕ) where
         listed-refused (normalizeChecks (length list) room) (normalizeOf (map unpacked list)) out 16
         (rw (le-ltb maxChanges (length list) h, lt-ltb room (length list) k)) (λ e. omega arith)
 
-    pub normalize-done : {a : Counted} {s m : List ℕ} {n : ℕ} → length list ≤ room → Front (normalPacked list) s n → filled a m ≡ handed (take n s) out
-        → filled a m ≡ normalizeCall room list out
+    pub normalize-done : {a : Told ℕ} {s m : List ℕ} {n : ℕ} → length list ≤ room → Front (normalPacked list) s n → leaving a m ≡ handed (take n s) out
+        → leaving a m ≡ normalizeCall room list out
     unfolding normalizeCall normalizeChecks firstOf normalPacked
     normalize-done k f d =
         listed-done (normalizeChecks (length list) room) (normalizeOf (map unpacked list)) out
         (rw (le-ltb maxChanges (length list) h, le-ltb room (length list) k)) f d
 
 -- ---- the same list, for an edit of pixels
-count-kept : (tool : ℕ) (a : Counted) → madeCount (pixelsOf tool a) ≡ countOf a
+count-kept : (tool : ℕ) (a : Told ℕ) → opCount (pixelsOf tool a) ≡ countTold a
 unfolding pixelsOf
-count-kept tool (Count n) = refl
-count-kept tool (Refused n) = refl
+count-kept tool (result n) = refl
+count-kept tool (alone n) = refl
 
 module _ (tool room : ℕ) (list : List ℕ) (places : ℕ) where
-  pub pixels-in : {a : Counted} {r : Made} {s : List ℕ} → InScratch (countOf a) places s (filled a) (normalizeCall room list) → r ≡ pixelsOf tool a
-      → InScratch (madeCount r) places s (made r) (pixelsCall tool room list)
+  pub pixels-in : {a : Told ℕ} {o : Told Op} {s : List ℕ} → InScratch (countTold a) places s (leaving a) (normalizeCall room list) → o ≡ pixelsOf tool a
+      → InScratch (opCount o) places s (making o) (pixelsCall tool room list)
   unfolding pixelsCall
-  pixels-in {a} c e = rw (e, count-kept tool a) (scratch-then c (λ out after h d. ap (λ f. made (pixelsOf tool (f .answer)) (f .buffer)) d))
+  pixels-in {a} c e = rw (e, count-kept tool a) (scratch-then c (λ out after h d. ap (λ f. making (pixelsOf tool (f .answer)) (f .buffer)) d))
 
 -- ---- `is_empty`
 module _ (edit : Edit) (list : List ℕ) where
-  pub empty-long : maxChanges < length list → emptiness.Refused 21 ≡ isEmptyOf edit list
+  pub empty-long : maxChanges < length list → alone 21 ≡ isEmptyOf edit list
   unfolding isEmptyOf firstOf
-  empty-long h = refused-first (listTooLong when ltb maxChanges (length list) ∷ []) emptiness.Refused _ 21 (rw (lt-ltb maxChanges (length list) h)) (λ e. omega arith)
+  empty-long h = refused-first (listTooLong when ltb maxChanges (length list) ∷ []) alone _ 21 (rw (lt-ltb maxChanges (length list) h)) (λ e. omega arith)
 
-  pub empty-told : {b : Bool} → length list ≤ maxChanges → b ≡ noPixels edit (map unpacked list) → emptiness.Is b ≡ isEmptyOf edit list
+  pub empty-told : {b : Bool} → length list ≤ maxChanges → b ≡ noPixels edit (map unpacked list) → result b ≡ isEmptyOf edit list
   unfolding isEmptyOf firstOf
-  empty-told h e = ap emptiness.Is e ∙ result-first (listTooLong when ltb maxChanges (length list) ∷ []) emptiness.Refused _ (rw (le-ltb maxChanges (length list) h))
+  empty-told h e = ap result e ∙ result-first (listTooLong when ltb maxChanges (length list) ∷ []) alone _ (rw (le-ltb maxChanges (length list) h))

@@ -6,12 +6,12 @@ use native.Mathlib.Omega.{arith}
 use borrow.Author.Tests.{lt-ltb, le-ltb, ltb-false}
 use lib.Dec.{ltb}
 use lib.ListN.{length, take}
-use Rattle.base_limits.specs.Limits.{maxChanges}
-use Rattle.base_limits.specs.Numbers.{noSpace, listTooLong}
-use Rattle.base_limits.specs.Checks.{_when_, firstOf}
-use Rattle.base_limits.specs.declared.Counted.the-variants.{Count, Refused}
-use Rattle.base_limits.proofs.First.{refused-first, result-first, past}
-use Rattle.change_stroke.specs.declared.Made.the-variants as made-of
+use Rattle.base.specs.Limits.{maxChanges}
+use Rattle.base.specs.Numbers.{noSpace, listTooLong}
+use Rattle.base.specs.Checks.{_when_, firstOf}
+use Rattle.base.specs.Answer.Told.{result, alone}
+use Rattle.base.proofs.First.{refused-first, result-first, past}
+use Rattle.base.specs.declared.MadeOp.the-variants as made-of
 use Rattle.change_stroke.specs.Op.{MadeList, made, pixelsCall}
 use Rattle.change_stroke.specs.Stroke.{strokeChecks, changesOf, intoOpCall}
 
@@ -36,13 +36,13 @@ module _ (count places : ℕ) where
       ltb-false places count (past (noSpace when ltb places count) _ (omega arith) (a .rest) .off)
 
   -- ---- `changes`
-  pub changes-refused : (n : ℕ) → n ≡ firstOf (strokeChecks count places) → (n ≡ 0 → ⊥) → Refused n ≡ changesOf count places
+  pub changes-refused : (n : ℕ) → n ≡ firstOf (strokeChecks count places) → (n ≡ 0 → ⊥) → alone n ≡ changesOf count places
   unfolding changesOf
-  changes-refused n e h = refused-first (strokeChecks count places) Refused (Count count) n e h
+  changes-refused n e h = refused-first (strokeChecks count places) alone (result count) n e h
 
-  pub changes-told : firstOf (strokeChecks count places) ≡ 0 → Count count ≡ changesOf count places
+  pub changes-told : firstOf (strokeChecks count places) ≡ 0 → result count ≡ changesOf count places
   unfolding changesOf
-  changes-told e = result-first (strokeChecks count places) Refused (Count count) e
+  changes-told e = result-first (strokeChecks count places) alone (result count) e
 
 -- ---- `into_op`
 module _ (tool room count : ℕ) (stroke : List ℕ) where

@@ -3,17 +3,15 @@ use Prim.Native.Nat.{ℕ, _+_}
 use mathlib.Core.List.{List, [], _∷_, _++_, map}
 use lib.Dec.{ltb}
 use lib.ListN.{length, take}
-use Rattle.base_limits.specs.Limits.{maxChanges}
-use Rattle.base_limits.specs.Numbers.{noSpace, listTooLong}
-use Rattle.base_limits.specs.Checks.{Check, _when_, checked}
-use Rattle.base_limits.specs.Answer.{Filled}
-use Rattle.base_limits.specs.declared.Counted.{Counted}
-use Rattle.base_limits.specs.declared.Counted.the-variants.{Count, Refused}
+use Rattle.base.specs.Limits.{maxChanges}
+use Rattle.base.specs.Numbers.{noSpace, listTooLong}
+use Rattle.base.specs.Checks.{Check, _when_, checked}
+use Rattle.base.specs.Answer.{Told, Filled}
+use Rattle.base.specs.Answer.Told.{result, alone}
 use Rattle.edit.specs.Change.{Change, unpacked}
 use Rattle.change_list.specs.Listed.{listed}
 use Rattle.change_normal.specs.Normal.{normalizeOf}
-use Rattle.change_stroke.specs.declared.Made.the-variants as made-of
-use Rattle.change_stroke.specs.Op.{MadeList, made, pixelsCall}
+use Rattle.change_stroke.specs.Op.{MadeList, making, pixelsCall}
 
 -- `self.changes.extend(changes); self.changes = normalize(..)`
 unfoldable pub extended : List Change → List Change → List Change
@@ -38,10 +36,10 @@ unfoldable pub strokeChecks : ℕ → ℕ → List Check
 strokeChecks count places = listTooLong when ltb maxChanges count ∷ noSpace when ltb places count ∷ []
 
 -- `&self.changes`: the first `count` of a buffer of `places`
-unfoldable pub changesOf : ℕ → ℕ → Counted
-changesOf count places = checked (strokeChecks count places) Refused (Count count)
+unfoldable pub changesOf : ℕ → ℕ → Told ℕ
+changesOf count places = checked (strokeChecks count places) alone (result count)
 
 -- `Op::pixels(&self.tool, self.changes)`, its list over the buffer's front; room is the scratch's length
 unfoldable pub intoOpCall : ℕ → ℕ → ℕ → List ℕ → MadeList
 intoOpCall tool room count stroke =
-    checked (strokeChecks count (length stroke)) (λ n. made (made-of.Refused n) stroke) (pixelsCall tool room (take count stroke) stroke)
+    checked (strokeChecks count (length stroke)) (λ n. making (alone n) stroke) (pixelsCall tool room (take count stroke) stroke)

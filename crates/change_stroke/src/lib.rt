@@ -6,7 +6,6 @@
 mod op;
 mod strokes;
 
-use edit::Edit;
 pub use op::is_empty;
 pub use op::kind;
 pub use op::made_count;
@@ -17,18 +16,6 @@ pub use op::pixels_in;
 pub use op::pixels_of;
 pub use strokes::extend;
 pub use strokes::extend_no;
-
-// What a call answers that makes an edit with a list of changes: the edit, and how many they are.
-pub enum Made {
-    Op { edit: Edit, count: usize },
-    Refused(u8),
-}
-
-// What `is_empty` answers.
-pub enum Emptiness {
-    Is(bool),
-    Refused(u8),
-}
 
 // A drag: the tool that it is noted with, and how many changes its buffer holds so far, at the front. A maker may write
 // any count: the calls that read the buffer check it.

@@ -1,17 +1,17 @@
 // `normalize` and what else op.rs asks of an edit and its list.
-use crate::Emptiness;
-use crate::Made;
-use base_limits::Counted;
-use base_limits::LIST_TOO_LONG;
-use base_limits::MAX_CHANGES;
-use base_limits::NO_SPACE;
+use base::Counted;
+use base::Edit;
+use base::LIST_TOO_LONG;
+use base::MAX_CHANGES;
+use base::MadeOp;
+use base::NO_SPACE;
+use base::Truth;
 use change_list::copy_out;
 use change_list::count_of;
 use change_list::counted;
-use edit::Edit;
 ghost use mathlib.Core.Path.{_≡_};
 ghost use lib.ListN.{length};
-ghost use Rattle.base_limits.specs.Answer.{filled};
+ghost use Rattle.base.specs.Answer.{countedTold, filled, truthTold, madeOpTold};
 ghost use Rattle.journal_record.specs.Found.{kindOf};
 ghost use Rattle.change_list.specs.Listed.{countOf, InScratch};
 ghost use Rattle.change_stroke.specs.Op.{normalizeCall, made, madeCount, pixelsOf, pixelsCall, isEmptyOf};
@@ -19,7 +19,10 @@ ghost use Rattle.change_stroke.specs.Op.{normalizeCall, made, madeCount,
 // The normal form of a list, left at the front of the scratch for a buffer of `room` places: in order by y, then
 // x, with the first old and the last new of each place, and without what changes nothing.
 pub fn normalize_in(list: &[u64], scratch: &mut [u64], room: usize) -> Counted
-    ensures { λ r. ⌜ InScratch (countOf r) room (now (scratch .exit)) (filled r) (normalizeCall (length (now (scratch .entry))) (now (list .entry))) ⌝ }
+    ensures { λ r. ⌜
+        InScratch (countOf r) room (now (scratch .exit)) (filled r)
+        (normalizeCall (length (now (scratch .entry))) (now (list .entry)))
+        ⌝ }
     ensures { λ _. ⌜ length (now (scratch .exit)) ≡ length (now (scratch .entry)) ⌝ }
 {
     if MAX_CHANGES < list.len() {
@@ -34,7 +37,10 @@ pub fn normalize_in(list: &[u64], scratch: &mut [u64], room: usize) -> Counted
 
 // The same at the front of out.
 pub fn normalize(list: &[u64], scratch: &mut [u64], out: &mut [u64]) -> Counted
-    ensures { λ r. ⌜ filled r (now (out .exit)) ≡ normalizeCall (length (now (scratch .entry))) (now (list .entry)) (now (out .entry)) ⌝ }
+    ensures { λ r. ⌜
+        filled r (now (out .exit))
+        ≡ normalizeCall (length (now (scratch .entry))) (now (list .entry)) (now (out .entry))
+        ⌝ }
     ensures { λ _. ⌜ length (now (scratch .exit)) ≡ length (now (scratch .entry)) ⌝ }
 {
     let r = normalize_in(list, scratch, out.len());
@@ -43,30 +49,36 @@ pub fn normalize(list: &[u64], scratch: &mut [u64], out: &mut [u64]) -> Counted
 }
 
 // An edit of pixels, whose list was counted.
-pub fn pixels_of(tool: u8, counted: Counted) -> Made
-    ensures { λ r. ⌜ r ≡ pixelsOf tool counted ⌝ }
+pub fn pixels_of(tool: u8, counted: Counted) -> MadeOp
+    ensures { λ r. ⌜ madeOpTold r ≡ pixelsOf tool (countedTold counted) ⌝ }
 {
     match counted {
-        Counted::Count(count) => Made::Op {
+        Counted::Count(count) => MadeOp::Op {
             edit: Edit::Pixels { tool },
             count,
         },
-        Counted::Refused(no) => Made::Refused(no),
+        Counted::Refused(no) => MadeOp::Refused(no),
     }
 }
 
 // `Op::pixels`: an edit of pixels, and its list, normalised, left at the front of the scratch for a buffer of
 // `room` places.
-pub fn pixels_in(tool: u8, list: &[u64], scratch: &mut [u64], room: usize) -> Made
-    ensures { λ r. ⌜ InScratch (madeCount r) room (now (scratch .exit)) (made r) (pixelsCall tool (length (now (scratch .entry))) (now (list .entry))) ⌝ }
+pub fn pixels_in(tool: u8, list: &[u64], scratch: &mut [u64], room: usize) -> MadeOp
+    ensures { λ r. ⌜
+        InScratch (madeCount r) room (now (scratch .exit)) (made r)
+        (pixelsCall tool (length (now (scratch .entry))) (now (list .entry)))
+        ⌝ }
     ensures { λ _. ⌜ length (now (scratch .exit)) ≡ length (now (scratch .entry)) ⌝ }
 {
     pixels_of(tool, normalize_in(list, scratch, room))
 }
 
 // The same at the front of out.
-pub fn pixels(tool: u8, list: &[u64], scratch: &mut [u64], out: &mut [u64]) -> Made
-    ensures { λ r. ⌜ made r (now (out .exit)) ≡ pixelsCall tool (length (now (scratch .entry))) (now (list .entry)) (now (out .entry)) ⌝ }
+pub fn pixels(tool: u8, list: &[u64], scratch: &mut [u64], out: &mut [u64]) -> MadeOp
+    ensures { λ r. ⌜
+        made r (now (out .exit))
+        ≡ pixelsCall tool (length (now (scratch .entry))) (now (list .entry)) (now (out .entry))
+        ⌝ }
     ensures { λ _. ⌜ length (now (scratch .exit)) ≡ length (now (scratch .entry)) ⌝ }
 {
     let r = pixels_in(tool, list, scratch, out.len());
@@ -75,24 +87,24 @@ pub fn pixels(tool: u8, list: &[u64], scratch: &mut [u64], out: &mut [u64]) -> M
 }
 
 // How many changes the list of such an edit has, none where it was refused.
-pub fn made_count(answer: Made) -> usize
+pub fn made_count(answer: MadeOp) -> usize
     ensures { λ r. ⌜ r ≡ madeCount answer ⌝ }
 {
     match answer {
-        Made::Op { edit: _, count } => count,
-        Made::Refused(_) => 0,
+        MadeOp::Op { edit: _, count } => count,
+        MadeOp::Refused(_) => 0,
     }
 }
 
 // Whether the edit is of pixels, and its list is empty. The list beside an edit of another kind is not read; over the
 // limit it is 21, too.
-pub fn is_empty(edit: Edit, list: &[u64]) -> Emptiness
-    ensures { λ r. ⌜ r ≡ isEmptyOf edit (now (list .entry)) ⌝ }
+pub fn is_empty(edit: Edit, list: &[u64]) -> Truth
+    ensures { λ r. ⌜ truthTold r ≡ isEmptyOf edit (now (list .entry)) ⌝ }
 {
     if MAX_CHANGES < list.len() {
-        return Emptiness::Refused(LIST_TOO_LONG);
+        return Truth::Refused(LIST_TOO_LONG);
     }
-    Emptiness::Is(edit.is_empty(list.len()))
+    Truth::Is(edit::is_empty(edit, list.len()))
 }
 
 // The journal's kind of an edit: 1 "pixels", 2 "palette_set", 3 "palette_add", 4 "palette_remove".

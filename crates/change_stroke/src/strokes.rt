@@ -1,21 +1,21 @@
 // `Stroke` of tools.rs: the changes of a drag, event by event, in a lent buffer. After each event the front of the
 // buffer is the normal form of what it was and then the event's list, so that normalising goes on step by step.
-use crate::Made;
 use crate::Stroke;
 use crate::made_count;
 use crate::pixels_in;
-use base_limits::Counted;
-use base_limits::LIST_TOO_LONG;
-use base_limits::MAX_CHANGES;
-use base_limits::NO_SPACE;
+use base::Counted;
+use base::LIST_TOO_LONG;
+use base::MAX_CHANGES;
+use base::MadeOp;
+use base::NO_SPACE;
 use change_list::copy_out;
 use change_list::count_of;
 use change_list::counted;
 use change_normal::normalize_joined;
 ghost use mathlib.Core.Path.{_≡_};
 ghost use lib.ListN.{length};
-ghost use Rattle.base_limits.specs.Checks.{firstOf};
-ghost use Rattle.base_limits.specs.Answer.{filled};
+ghost use Rattle.base.specs.Checks.{firstOf};
+ghost use Rattle.base.specs.Answer.{countedTold, filled};
 ghost use Rattle.change_stroke.specs.Op.{made};
 ghost use Rattle.change_stroke.specs.Stroke.{extendChecks, extendCall, strokeChecks, changesOf, intoOpCall};
 
@@ -42,7 +42,10 @@ pub fn extend_no(count: usize, places: usize, n: usize, room: usize) -> u8
 // Adds one event's changes to a stroke, whose changes so far are the first `count` of the buffer; answers how many
 // they are then. 16 too where the buffer has fewer places than that.
 pub fn extend(stroke: &mut [u64], count: usize, list: &[u64], scratch: &mut [u64]) -> Counted
-    ensures { λ r. ⌜ filled r (now (stroke .exit)) ≡ extendCall (length (now (scratch .entry))) count (now (list .entry)) (now (stroke .entry)) ⌝ }
+    ensures { λ r. ⌜
+        filled r (now (stroke .exit))
+        ≡ extendCall (length (now (scratch .entry))) count (now (list .entry)) (now (stroke .entry))
+        ⌝ }
     ensures { λ _. ⌜ length (now (scratch .exit)) ≡ length (now (scratch .entry)) ⌝ }
 {
     let no = extend_no(count, stroke.len(), list.len(), scratch.len());
@@ -86,7 +89,7 @@ impl Stroke {
 
     // How many changes it has so far, for the preview: the first of its buffer.
     pub fn changes(self, stroke: &[u64]) -> Counted
-        ensures { λ r. ⌜ r ≡ changesOf (self .count) (length (now (stroke .entry))) ⌝ }
+        ensures { λ r. ⌜ countedTold r ≡ changesOf (self .count) (length (now (stroke .entry))) ⌝ }
     {
         let no = stroke_no(self.count, stroke.len());
         if no != 0 {
@@ -97,15 +100,18 @@ impl Stroke {
 
     // The stroke as one edit of pixels: its changes, normalised, at the front of its buffer. What `extend` left there
     // is in normal form and stays as it is. The scratch has a place a change, or the answer is 16.
-    pub fn into_op(self, stroke: &mut [u64], scratch: &mut [u64]) -> Made
-        ensures { λ r. ⌜ made r (now (stroke .exit)) ≡ intoOpCall (self .tool) (length (now (scratch .entry))) (self .count) (now (stroke .entry)) ⌝ }
+    pub fn into_op(self, stroke: &mut [u64], scratch: &mut [u64]) -> MadeOp
+        ensures { λ r. ⌜
+            made r (now (stroke .exit))
+            ≡ intoOpCall (self .tool) (length (now (scratch .entry))) (self .count) (now (stroke .entry))
+            ⌝ }
         ensures { λ _. ⌜ length (now (scratch .exit)) ≡ length (now (scratch .entry)) ⌝ }
     {
         let count = self.count;
         let places = stroke.len();
         let no = stroke_no(count, places);
         if no != 0 {
-            return Made::Refused(no);
+            return MadeOp::Refused(no);
         }
         let r = pixels_in(self.tool, &stroke[..count], scratch, places);
         copy_out(scratch, made_count(r), stroke);

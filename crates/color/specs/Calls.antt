@@ -6,30 +6,30 @@ use Prim.Native.Nat.{ℕ, _*_, _^_}
 use lib.Dec.{T, ltb, eqb}
 use lib.ListN.{length, take}
 use lib.Ieee.{Float, binary64, toBits}
-use Rattle.base_limits.specs.Limits.{maxEntries, storage}
-use Rattle.base_limits.specs.Numbers.{badSheet, unfitLab, noSuchEntry, rootRange}
-use Rattle.base_limits.specs.Checks.{Check, _when_, checked}
-use Rattle.base_limits.specs.declared.Lab.{Lab}
-use Rattle.base_lists.specs.Lists.{some}
+use Rattle.base.specs.Limits.{maxEntries, storage}
+use Rattle.base.specs.Numbers.{badSheet, unfitLab, noSuchEntry, rootRange}
+use Rattle.base.specs.Checks.{Check, _when_, checked}
+use Rattle.base.specs.Answer.{Told, rootTold, foundTold}
+use Rattle.base.specs.Answer.Told.{result, alone}
+use Rattle.base.specs.declared.Lab.{Lab}
+use Rattle.base.specs.Lists.{some}
 use Rattle.color_doubles.specs.NearestDouble.{unitsOf, NoneNearer}
 use Rattle.color_root.specs.CubeRoot.{inRootRange, rootOf}
 use Rattle.color_doubles.specs.Finite.{unfit, unfitTriple}
 use Rattle.color_nearest.specs.Nearest.{nearestOf, FirstNearest}
-use Rattle.color.specs.declared.Root.{Root}
-use Rattle.color.specs.declared.Root.the-variants as root
-use Rattle.color.specs.declared.Found.{Found}
-use Rattle.color.specs.declared.Found.the-variants as found
+use Rattle.base.specs.declared.Root.{Root}
+use Rattle.base.specs.declared.Found.{Found}
 
 -- ---- `cbrt`: "root range: cube root outside 1/128..2, or not a number"
 unfoldable pub rootChecks : Float → List Check
 rootChecks t = rootRange when not (inRootRange t) ∷ []
 
-unfoldable pub cbrtOf : Float → Root
-cbrtOf t = checked (rootChecks t) root.Refused (root.Value (rootOf t))
+unfoldable pub cbrtOf : Float → Told Float
+cbrtOf t = checked (rootChecks t) alone (result (rootOf t))
 
 -- the answer, and that no double is nearer to the exact root
 pub record CubeRoot (t : Float) (r : Root) : Type 0 where
-  pub value : r ≡ cbrtOf t
+  pub value : rootTold r ≡ cbrtOf t
   pub nearest : T (inRootRange t) → NoneNearer 3 (unitsOf (toBits binary64 t)) (2 ^ 1074) (toBits binary64 (rootOf t))
 
 -- ---- `nearest_index`: "a used or searched LAB number not finite", "a nearest search with k = 0"
@@ -42,10 +42,10 @@ nearestChecks target lab k =
     ∷ noSuchEntry when eqb k 0
     ∷ []
 
-unfoldable pub nearestIndexOf : Lab → List Float → ℕ → Found
-nearestIndexOf target lab k = checked (nearestChecks target lab k) found.Refused (found.Entry (nearestOf target lab k .entry))
+unfoldable pub nearestIndexOf : Lab → List Float → ℕ → Told ℕ
+nearestIndexOf target lab k = checked (nearestChecks target lab k) alone (result (nearestOf target lab k .entry))
 
 -- the answer, and that its entry is the first of the nearest
 pub record NearestEntry (target : Lab) (lab : List Float) (k : ℕ) (r : Found) : Type 0 where
-  pub value : r ≡ nearestIndexOf target lab k
-  pub first : (i : ℕ) → r ≡ found.Entry i → FirstNearest target lab k i
+  pub value : foundTold r ≡ nearestIndexOf target lab k
+  pub first : (i : ℕ) → foundTold r ≡ result i → FirstNearest target lab k i

@@ -1,34 +1,24 @@
 // The calls of color.rs: each answers every input.
 //
 // They check what they are handed, in document 01's order, and leave the work to cielab.
-use base_limits::BAD_SHEET;
-use base_limits::Lab;
-use base_limits::MAX_ENTRIES;
-use base_limits::NO_SUCH_ENTRY;
-use base_limits::ROOT_RANGE;
-use base_limits::Rgb;
-use base_limits::STORAGE;
-use base_limits::UNFIT_LAB;
+use base::BAD_SHEET;
+use base::Found;
+use base::Lab;
+use base::MAX_ENTRIES;
+use base::NO_SUCH_ENTRY;
+use base::ROOT_RANGE;
+use base::Rgb;
+use base::Root;
+use base::STORAGE;
+use base::UNFIT_LAB;
 ghost use mathlib.Core.Path.{_≡_};
 ghost use mathlib.Core.Bool.{false};
-ghost use Rattle.base_lists.specs.Lists.{some};
+ghost use Rattle.base.specs.Lists.{some};
 ghost use Rattle.color_lab.specs.Curve.{Linear};
 ghost use Rattle.color_lab.specs.Convert.{labOf, Converted};
 ghost use Rattle.color_doubles.specs.Finite.{unfit};
 ghost use Rattle.color_nearest.specs.Nearest.{dist2Of};
 ghost use Rattle.color.specs.Calls.{CubeRoot, NearestEntry};
-
-// What `cbrt` answers.
-pub enum Root {
-    Value(f64),
-    Refused(u8),
-}
-
-// What a search for an entry answers.
-pub enum Found {
-    Entry(usize),
-    Refused(u8),
-}
 
 // The linear value of a byte of sRGB.
 pub fn linear(c: u8) -> f64

@@ -2,7 +2,7 @@
 use mathlib.Core.Bool.{Bool, not, _||_}
 use lib.Ieee.{Float}
 use lib.Ieee.Scale.{finite}
-use Rattle.base_limits.specs.declared.Lab.{Lab}
+use Rattle.base.specs.declared.Lab.{Lab}
 
 -- "LAB number not finite"
 unfoldable pub unfit : Float → Bool

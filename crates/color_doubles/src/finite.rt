@@ -1,8 +1,8 @@
 // Number 3: LAB numbers that are not finite.
-use base_limits::Lab;
-use base_lists::either;
+use base::Lab;
+use base::either;
 ghost use mathlib.Core.Path.{_≡_};
-ghost use Rattle.base_lists.specs.Lists.{some};
+ghost use Rattle.base.specs.Lists.{some};
 ghost use Rattle.color_doubles.specs.Finite.{unfit, unfitTriple};
 
 // An infinity or a NaN: what is finite gives 0 when it is taken from itself.

@@ -8,7 +8,7 @@ use borrow.Author.Tests.{le-ltb}
 use lib.Dec.{T, lit≤}
 use lib.Ieee.{Float, binary64, toBits, lt, fits}
 use lib.Ieee.Fits.{sub-fits, mul-fits}
-use Rattle.base_limits.specs.declared.Rgb.{Rgb}
+use Rattle.base.specs.declared.Rgb.{Rgb}
 use Rattle.color_doubles.specs.Arithmetic.{decimal, fraction}
 use Rattle.color_doubles.specs.NearestDouble.{unitsOf, aboveMiddle, nearestDouble}
 use Rattle.color_root.specs.CubeRoot.{inRootRange, rootOf, rootPattern}

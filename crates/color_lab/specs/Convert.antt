@@ -4,8 +4,8 @@ use mathlib.Core.Bool.{Bool, _&&_, cond}
 use lib.Dec.{T}
 use lib.Ieee.{Float, lt, le}
 use lib.Ieee.Scale.{finite}
-use Rattle.base_limits.specs.declared.Lab.{Lab}
-use Rattle.base_limits.specs.declared.Rgb.{Rgb}
+use Rattle.base.specs.declared.Lab.{Lab}
+use Rattle.base.specs.declared.Rgb.{Rgb}
 use Rattle.color_lab.specs.declared.LinearRgb.{LinearRgb}
 use Rattle.color_doubles.specs.Arithmetic.{decimal, fraction, _⊕_, _⊖_, _⊗_, _⊘_}
 use Rattle.color_root.specs.CubeRoot.{rootOf}

@@ -6,7 +6,7 @@ use mathlib.Core.List.{List, [], _∷_}
 use lib.Dec.{leb}
 use lib.IntN.{pos}
 use lib.Ieee.{Float, binary64, ofInt, toBits}
-use Rattle.base_limits.specs.declared.Rgb.{Rgb}
+use Rattle.base.specs.declared.Rgb.{Rgb}
 use Rattle.color_lab.specs.declared.LinearRgb.{LinearRgb}
 use Rattle.color_doubles.specs.Arithmetic.{decimal, _⊘_}
 use Rattle.color_doubles.specs.NearestDouble.{nearestDouble, NoneNearer}

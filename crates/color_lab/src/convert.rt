@@ -1,8 +1,8 @@
 // 8-bit sRGB to CIELAB (D65): `rgb_to_lab_one` of color.rs, its operations in its order.
 use crate::LinearRgb;
 use crate::curve::linear_rgb_in;
-use base_limits::Lab;
-use base_limits::Rgb;
+use base::Lab;
+use base::Rgb;
 use color_root::root;
 ghost use mathlib.Core.Path.{_≡_};
 ghost use Rattle.color_lab.specs.Curve.{linearTable};

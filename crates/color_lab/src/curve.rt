@@ -3,7 +3,7 @@
 // A constant array is filled anew wherever it is used, so a call lends the table once, at its top, to
 // all that it converts.
 use crate::LinearRgb;
-use base_limits::Rgb;
+use base::Rgb;
 ghost use mathlib.Core.Path.{_≡_};
 ghost use Rattle.color_lab.specs.Curve.{linearTable, linearRgb, Linear};
 ghost use Rattle.color_lab.specs.Convert.{LinearValues};

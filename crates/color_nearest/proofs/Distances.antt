@@ -7,13 +7,13 @@ use native.Mathlib.Omega.{arith}
 use lib.ListN.{length, getD, take}
 use lib.Seq.{getD-take, length-take-le}
 use lib.Ieee.{Float, nan}
-use Rattle.base_lists.specs.Lists.{some}
-use Rattle.base_lists.proofs.Scan.{or-left, or-right, some-none}
-use Rattle.base_limits.specs.declared.Lab.{Lab}
+use Rattle.base.specs.Lists.{some}
+use Rattle.base.proofs.Scan.{or-left, or-right, some-none}
+use Rattle.base.specs.declared.Lab.{Lab}
 use Rattle.color_doubles.specs.Arithmetic.{_⊖_, _⊗_}
 use Rattle.color_doubles.specs.Finite.{unfit, unfitTriple}
 use Rattle.color_nearest.specs.Nearest.{dist2Of, distance}
-use Rattle.base_storage.specs.Triples.{labAt}
+use Rattle.base.specs.Triples.{labAt}
 use Rattle.color_doubles.proofs.Signs.{Plus, Finite, fit, sub-number, square-plus, add-plus}
 
 pub record FiniteTriple (q : Lab) : Type 0 where

@@ -9,8 +9,8 @@ use borrow.Author.Count.{below-none, below-more}
 use lib.Dec.{T}
 use lib.ListN.{length, take}
 use lib.Ieee.{Float, inf, lt}
-use Rattle.base_lists.specs.Lists.{some}
-use Rattle.base_limits.specs.declared.Lab.{Lab}
+use Rattle.base.specs.Lists.{some}
+use Rattle.base.specs.declared.Lab.{Lab}
 use Rattle.color_nearest.specs.declared.Near.{Near}
 use Rattle.color_doubles.specs.Finite.{unfit, unfitTriple}
 use Rattle.color_nearest.specs.Nearest.{distance, closer, nearestOf, FirstNearest}

@@ -8,7 +8,7 @@ use native.Mathlib.Nat.{add-zero, add-suc}
 use native.Mathlib.Numerals.{towards-suc}
 use lib.Dec.{T}
 use lib.Ieee.{Float, nan, inf, fin, lt, add, mul}
-use Rattle.base_limits.specs.declared.Lab.{Lab}
+use Rattle.base.specs.declared.Lab.{Lab}
 use Rattle.color_nearest.specs.declared.Near.{Near}
 use Rattle.color_doubles.specs.Arithmetic.{_⊕_, _⊗_}
 use Rattle.color_nearest.specs.Nearest.{dist2Of, distance, closer, nearestOf}

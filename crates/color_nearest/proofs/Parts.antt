@@ -9,10 +9,10 @@ use native.Mathlib.Omega.{arith}
 use lib.ListN.{length, getD, List·getD-append}
 use lib.Seq.{getD-append-add}
 use lib.Ieee.{Float, nan, inf, lt}
-use Rattle.base_limits.specs.declared.Lab.{Lab}
+use Rattle.base.specs.declared.Lab.{Lab}
 use Rattle.color_nearest.specs.declared.Near.{Near}
 use Rattle.color_nearest.specs.Nearest.{distance, closer, nearestOf}
-use Rattle.base_storage.specs.Triples.{labAt}
+use Rattle.base.specs.Triples.{labAt}
 use Rattle.color_doubles.proofs.Signs.{Plus, infinity, number}
 use Rattle.color_nearest.proofs.Halves.{Reading, plus, read-dist2, lt-plus, not-beyond, far, both, from, nearest-plus, in-two}
 

@@ -10,14 +10,14 @@ use borrow.Author.Count.{below-more}
 use lib.ListN.{length, getD, take}
 use lib.Seq.{getD-take, length-take-le}
 use lib.Ieee.{Float, nan, inf, fin, add, sub, mul, neg}
-use Rattle.base_lists.proofs.Nowhere.{nowhere-of}
-use Rattle.base_limits.specs.declared.Lab.{Lab}
+use Rattle.base.proofs.Nowhere.{nowhere-of}
+use Rattle.base.specs.declared.Lab.{Lab}
 use Rattle.color_doubles.specs.Arithmetic.{_⊕_, _⊖_, _⊗_}
 use Rattle.color_doubles.specs.Finite.{unfit, unfitTriple}
 use Rattle.color_doubles.proofs.Units.{below-or-not}
 use Rattle.color_nearest.specs.declared.Search.{Search}
 use Rattle.color_nearest.specs.Nearest.{dist2Of, nearestOf, searched, joined, Searched}
-use Rattle.base_storage.specs.Triples.{labAt}
+use Rattle.base.specs.Triples.{labAt}
 use Rattle.color_nearest.proofs.Distances.{each-fit}
 use Rattle.color_nearest.proofs.Halves.{far, from, from-turn, after, in-two}
 

@@ -7,9 +7,9 @@ use lib.ListN.{take}
 use lib.Ieee.{Float, inf, lt, le}
 use mathlib.Core.Bool.{false}
 use mathlib.Core.Path.{_≡_}
-use Rattle.base_limits.specs.declared.Lab.{Lab}
-use Rattle.base_lists.specs.Lists.{some}
-use Rattle.base_storage.specs.Triples.{labAt}
+use Rattle.base.specs.declared.Lab.{Lab}
+use Rattle.base.specs.Lists.{some}
+use Rattle.base.specs.Triples.{labAt}
 use Rattle.color_nearest.specs.declared.Near.{Near}
 use Rattle.color_nearest.specs.declared.Search.{Search}
 use Rattle.color_doubles.specs.Arithmetic.{_⊕_, _⊖_, _⊗_}

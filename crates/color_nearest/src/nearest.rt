@@ -1,8 +1,8 @@
 // The nearest entry: `dist2` and `nearest_index` of color.rs.
 use crate::Near;
 use crate::Search;
-use base_limits::Lab;
-use base_storage::lab_at;
+use base::Lab;
+use base::lab_at;
 ghost use mathlib.Core.Path.{_≡_};
 ghost use mathlib.Core.Bool.{cond};
 ghost use Prim.Native.Nat.{_+_, _*_, _≤_};

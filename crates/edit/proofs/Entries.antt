@@ -7,12 +7,12 @@ use native.Mathlib.Omega.{arith}
 use lib.Ieee.{Float, nan}
 use lib.ListN.{length, take}
 use lib.Seq.{getD-take}
-use Rattle.base_limits.specs.Limits.{maxEntries, storage}
-use Rattle.base_storage.specs.Triples.{labAt, rgbAt}
+use Rattle.base.specs.Limits.{maxEntries, storage}
+use Rattle.base.specs.Triples.{labAt, rgbAt}
 use Rattle.sheet.specs.Sheet.{Sheet}
 use Rattle.sheet.specs.Checks.{WellFormed}
 use Rattle.sheet.proofs.Entries.{three}
-use Rattle.edit.specs.Storage.{bytesOf, numbersOf, stored, closed, opened, cut}
+use Rattle.edit.specs.Storage.{bytesOf, numbersOf, stored, closed, reinserted, cut}
 use Rattle.edit.proofs.Storage.{entryAt, stored-length, closed-length, opened-length, stored-shows, stored-more, closed-shows, set-undone, add-undone, remove-undone}
 
 -- storage l with k entries in use
@@ -51,7 +51,7 @@ module _ {A : Type 0} where
         let fewer : 3 * (k - 1) ≡ 3 * k - 3 = omega arith in
         rw fewer (closed-shows (3 * i) (3 * k) l (omega arith) (omega arith))
 
-    pub reinsert-length : (i : ℕ) (v : List A) → length v ≡ 3 → i ≤ k → k < maxEntries → length (opened (3 * i) (3 * k) v l) ≡ storage
+    pub reinsert-length : (i : ℕ) (v : List A) → length v ≡ 3 → i ≤ k → k < maxEntries → length (reinserted (3 * i) (3 * k) v l) ≡ storage
     reinsert-length i v e b c = opened-length (3 * i) (3 * k) v l e (omega arith) (omega arith) ∙ s .long
 
   -- ---- an edit undone: `now`, with m entries in use, shows what the edit made of the k of `before`
@@ -67,7 +67,7 @@ module _ {A : Type 0} where
         rw last (add-undone now before v (3 * k) (omega arith) (rw next at h))
 
     pub remove-back : (i : ℕ) {old : List A} → i < k → entryAt (3 * i) before ≡ old → m ≡ k - 1
-        → take (3 * m) now ≡ cut (3 * i) (take (3 * k) before) → take (3 * suc m) (opened (3 * i) (3 * m) old now) ≡ take (3 * k) before
+        → take (3 * m) now ≡ cut (3 * i) (take (3 * k) before) → take (3 * suc m) (reinserted (3 * i) (3 * m) old now) ≡ take (3 * k) before
     remove-back i b o q h =
         let next : 3 * suc m ≡ 3 * m + 3 = omega arith in
         rw (← o, next) (remove-undone now before (3 * i) (3 * k) (omega arith) (omega arith) (3 * m) (omega arith) (omega arith) h)

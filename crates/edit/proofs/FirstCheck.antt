@@ -3,9 +3,9 @@ use mathlib.Core.Path.{_≡_}
 use mathlib.Core.Bool.{Bool, true, false, cond}
 use mathlib.Core.List.{List, [], _∷_}
 use Prim.Native.Nat.{ℕ, zero, suc}
-use Rattle.base_limits.specs.Checks.{Check, orElse, firstOf}
-use Rattle.base_lists.specs.Lists.{some}
-use Rattle.base_lists.proofs.Nowhere.{first-not, rest-not}
+use Rattle.base.specs.Checks.{Check, orElse, firstOf}
+use Rattle.base.specs.Lists.{some}
+use Rattle.base.proofs.Nowhere.{first-not, rest-not}
 
 -- ---- what neither 0 nor the number of a check has, the first that applies has not
 module _ (p : ℕ → Bool) (nought : p 0 ≡ false) where

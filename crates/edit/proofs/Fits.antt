@@ -10,14 +10,14 @@ use lib.IntN.{ℤ, pos, negsuc}
 use lib.Ieee.{Float}
 use lib.Ieee.Scale.{finite}
 use lib.ListN.{length, take}
-use Rattle.base_limits.specs.declared.Lab.{Lab}
-use Rattle.base_lists.specs.Lists.{some}
+use Rattle.base.specs.declared.Lab.{Lab}
+use Rattle.base.specs.Lists.{some}
 use Rattle.color_doubles.specs.Finite.{unfit}
 use Rattle.color_lab.specs.Convert.{FiniteLab}
 use Rattle.sheet.specs.Sheet.{Sheet, sheetOf, view, stray}
 use Rattle.sheet.specs.Checks.{Limits, WellFormed}
 use Rattle.edit.specs.Storage.{numbersOf}
-use Rattle.base_lists.proofs.Nowhere.{or-both}
+use Rattle.base.proofs.Nowhere.{or-both}
 
 -- another palette, LAB and indices on a sheet of the same size
 pub same-size-fits : {s : Sheet} → Limits s → (k : ℕ) (palette : List ℕ) (lab : List Float) (l : List ℤ)

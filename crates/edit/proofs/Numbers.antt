@@ -5,15 +5,15 @@ use mathlib.Core.List.{List, flatMap}
 use Prim.Native.Nat.{_≤_}
 use borrow.Author.Tests.{ltb-false}
 use lib.Dec.{ltb}
-use Rattle.base_limits.specs.Numbers.{stillUsed}
-use Rattle.base_limits.specs.Checks.{Check, firstOf}
-use Rattle.base_lists.specs.Lists.{some}
+use Rattle.base.specs.Numbers.{stillUsed}
+use Rattle.base.specs.Checks.{Check, firstOf}
+use Rattle.base.specs.Lists.{some}
 use Rattle.sheet.specs.Sheet.{Sheet}
-use Rattle.edit.specs.declared.Edit.{Edit}
-use Rattle.edit.specs.declared.Edit.the-variants.{Pixels, PaletteSet, PaletteAdd, PaletteRemove}
+use Rattle.base.specs.declared.Edit.{Edit}
+use Rattle.base.specs.declared.Edit.the-variants.{Pixels, PaletteSet, PaletteAdd, PaletteRemove}
 use Rattle.edit.specs.Change.{Change}
 use Rattle.edit.specs.Checks.{Permitted, pixelChecks, remapChecks, ownChecks}
-use Rattle.base_lists.proofs.Nowhere.{nowhere-append, nowhere-flatMap}
+use Rattle.base.proofs.Nowhere.{nowhere-append, nowhere-flatMap}
 use Rattle.edit.proofs.FirstCheck.{first-nowhere}
 
 -- a number past 13

@@ -11,13 +11,13 @@ use lib.Dec.{leb, eqb}
 use lib.IntN.{ℤ, pos}
 use lib.ListN.{length, getD, set, length-set}
 use lib.Seq.{ext-getD, getD-set-same, getD-set-other}
-use Rattle.base_lists.specs.Lists.{some}
-use Rattle.base_lists.proofs.Scan.{or-left, or-right, some-none}
+use Rattle.base.specs.Lists.{some}
+use Rattle.base.proofs.Scan.{or-left, or-right, some-none}
 use Rattle.sheet.specs.Sheet.{stray}
 use Rattle.sheet.proofs.Places as places
 use Rattle.edit.specs.Change.{Change, place, outside, painted, newOf, oldOf, filledIn}
 use Rattle.edit.specs.Checks.{named}
-use Rattle.base_lists.proofs.Nowhere.{or-both, first-not, rest-not, nowhere-set, nowhere-weaker, some-map}
+use Rattle.base.proofs.Nowhere.{or-both, first-not, rest-not, nowhere-set, nowhere-weaker, some-map}
 
 module _ (f : Change → ℤ) (w : ℕ) where
   pub painted-length : (cs : List Change) (l : List ℤ) → length (painted f w cs l) ≡ length l

@@ -7,20 +7,20 @@ use native.Mathlib.Omega.{arith}
 use borrow.Author.Tests.{not-false, leb-false, ltb-false}
 use lib.Dec.{leb, ltb}
 use lib.IntN.{pos, negsuc}
-use Rattle.base_limits.specs.Limits.{maxEntries}
-use Rattle.base_limits.specs.Numbers.{offTheSheet, noSuchIndex, noSuchEntry, paletteFull, lastEntry, badRemap, stillUsed}
-use Rattle.base_limits.specs.Checks.{_when_, firstOf}
-use Rattle.base_lists.specs.Lists.{some}
-use Rattle.base_lists.proofs.Scan.{or-left, or-right}
-use Rattle.base_ints.proofs.Back.{same-index}
-use Rattle.base_ints.specs.Ints.{eqZ}
+use Rattle.base.specs.Limits.{maxEntries}
+use Rattle.base.specs.Numbers.{offTheSheet, noSuchIndex, noSuchEntry, paletteFull, lastEntry, badRemap, stillUsed}
+use Rattle.base.specs.Checks.{_when_, firstOf}
+use Rattle.base.specs.Lists.{some}
+use Rattle.base.proofs.Scan.{or-left, or-right}
+use Rattle.base.proofs.Back.{same-index}
+use Rattle.base.specs.Ints.{eqZ}
 use Rattle.sheet.specs.Sheet.{Sheet, stray}
-use Rattle.edit.specs.declared.Edit.{Edit}
-use Rattle.edit.specs.declared.Edit.the-variants.{Pixels, PaletteSet, PaletteAdd, PaletteRemove}
+use Rattle.base.specs.declared.Edit.{Edit}
+use Rattle.base.specs.declared.Edit.the-variants.{Pixels, PaletteSet, PaletteAdd, PaletteRemove}
 use Rattle.edit.specs.Change.{Change, outside, newOf, filledIn}
 use Rattle.edit.specs.Checks.{Permitted, pixel, pixelChecks, misdirected, remapChecks, leftFrom, ownChecks}
-use Rattle.base_lists.proofs.Nowhere.{or-both}
-use Rattle.base_limits.proofs.First.{past, skip, past-both}
+use Rattle.base.proofs.Nowhere.{or-both}
+use Rattle.base.proofs.First.{past, skip, past-both}
 
 -- ---- pixels: 5 and 6
 pub record PixelsFit (s : Sheet) (cs : List Change) : Type 0 where

@@ -2,16 +2,16 @@
 use mathlib.Core.Path.{_≡_, subst, _∙_}
 use mathlib.Core.Bool.{false}
 use mathlib.Core.List.{List, map}
-use Rattle.base_lists.specs.Lists.{some}
+use Rattle.base.specs.Lists.{some}
 use Rattle.sheet.specs.Sheet.{Sheet, stray}
 use Rattle.sheet.specs.Checks.{WellFormed}
-use Rattle.edit.specs.declared.Edit.{Edit}
-use Rattle.edit.specs.declared.Edit.the-variants.{Pixels, PaletteSet, PaletteAdd, PaletteRemove}
+use Rattle.base.specs.declared.Edit.{Edit}
+use Rattle.base.specs.declared.Edit.the-variants.{Pixels, PaletteSet, PaletteAdd, PaletteRemove}
 use Rattle.edit.specs.Change.{Change, outside, newOf, oldOf, filledIn}
 use Rattle.edit.specs.Checks.{Permitted}
 use Rattle.edit.specs.Apply.{filledChanges}
 use Rattle.edit.specs.Accepted.{Accepted}
-use Rattle.base_lists.proofs.Nowhere.{some-map}
+use Rattle.base.proofs.Nowhere.{some-map}
 use Rattle.edit.proofs.Painting.{filled-outside, olds-in-range}
 use Rattle.edit.proofs.Passed.{Passed, passed}
 

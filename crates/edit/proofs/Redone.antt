@@ -5,19 +5,19 @@ use mathlib.Core.List.{List}
 use Prim.Native.Nat.{suc, _-_, _*_}
 use native.Mathlib.Omega.{arith}
 use lib.ListN.{take, length-map}
-use Rattle.base_limits.specs.declared.Rgb.{Rgb}
-use Rattle.base_limits.specs.declared.Lab.{Lab}
+use Rattle.base.specs.declared.Rgb.{Rgb}
+use Rattle.base.specs.declared.Lab.{Lab}
 use Rattle.color_doubles.specs.Finite.{unfit}
 use Rattle.sheet.specs.Sheet.{Sheet, view, stray}
 use Rattle.sheet.specs.Checks.{WellFormed}
-use Rattle.edit.specs.declared.Edit.{Edit}
-use Rattle.edit.specs.declared.Edit.the-variants.{Pixels, PaletteSet, PaletteAdd, PaletteRemove}
+use Rattle.base.specs.declared.Edit.{Edit}
+use Rattle.base.specs.declared.Edit.the-variants.{Pixels, PaletteSet, PaletteAdd, PaletteRemove}
 use Rattle.edit.specs.Change.{Change, painted, newOf}
 use Rattle.edit.specs.Checks.{Permitted}
 use Rattle.edit.specs.Storage.{bytesOf, numbersOf, lowered}
 use Rattle.edit.specs.Apply.{redone, nextPicture}
 use Rattle.edit.specs.Accepted.{NewBytes, Accepted, FiniteCurve}
-use Rattle.base_lists.proofs.Nowhere.{nowhere-append, nowhere-weaker}
+use Rattle.base.proofs.Nowhere.{nowhere-append, nowhere-weaker}
 use Rattle.edit.proofs.Painting.{painted-length, painted-nowhere}
 use Rattle.edit.proofs.Storage.{stored-nowhere, cut-nowhere}
 use Rattle.edit.proofs.Entries.{palette-store, lab-store, set-length, set-shows, add-length, add-shows, remove-length, remove-shows}

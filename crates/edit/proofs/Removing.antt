@@ -11,14 +11,14 @@ use borrow.Author.Tests.{eqb-false, leb-false, ltb-true, ltb-false, le-leb, lt-l
 use lib.Dec.{ltb}
 use lib.IntN.{ℤ, pos, negsuc, predℤ}
 use lib.ListN.{length, getD}
-use Rattle.base_lists.specs.Lists.{some}
-use Rattle.base_lists.proofs.Scan.{or-left, or-right}
-use Rattle.base_ints.specs.Ints.{eqZ}
+use Rattle.base.specs.Lists.{some}
+use Rattle.base.proofs.Scan.{or-left, or-right}
+use Rattle.base.specs.Ints.{eqZ}
 use Rattle.sheet.specs.Sheet.{Sheet, stray}
 use Rattle.edit.specs.Change.{Change, painted, newOf, oldOf}
 use Rattle.edit.specs.Checks.{named, leftFrom}
 use Rattle.edit.specs.Storage.{lowered, raised}
-use Rattle.base_lists.proofs.Nowhere.{nowhere-of, nowhere-both, some-map, map-undone}
+use Rattle.base.proofs.Nowhere.{nowhere-of, nowhere-both, some-map, map-undone}
 use Rattle.edit.proofs.Painting.{painted-length, painted-nowhere, painted-avoids, pixels-back}
 use Rattle.edit.proofs.Passed.{RemoveFits}
 

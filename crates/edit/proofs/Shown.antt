@@ -5,13 +5,13 @@ use mathlib.Core.List.{List}
 use Prim.Native.Nat.{ℕ}
 use borrow.Author.Tests.{leb-false}
 use lib.Dec.{leb}
-use Rattle.base_limits.specs.Checks.{firstOf}
-use Rattle.base_limits.specs.declared.Rgb.{Rgb}
-use Rattle.base_limits.specs.declared.Lab.{Lab}
+use Rattle.base.specs.Checks.{firstOf}
+use Rattle.base.specs.declared.Rgb.{Rgb}
+use Rattle.base.specs.declared.Lab.{Lab}
 use Rattle.sheet.specs.Sheet.{Sheet, view}
 use Rattle.sheet.specs.Checks.{WellFormed}
-use Rattle.edit.specs.declared.Edit.{Edit}
-use Rattle.edit.specs.declared.Edit.the-variants.{Pixels, PaletteSet, PaletteAdd, PaletteRemove}
+use Rattle.base.specs.declared.Edit.{Edit}
+use Rattle.base.specs.declared.Edit.the-variants.{Pixels, PaletteSet, PaletteAdd, PaletteRemove}
 use Rattle.edit.specs.Change.{Change}
 use Rattle.edit.specs.Checks.{Permitted, pixelChecks, misdirected, remapChecks, ownChecks, asSheet}
 use Rattle.edit.specs.Accepted.{Accepted}

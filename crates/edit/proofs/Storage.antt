@@ -7,9 +7,9 @@ use Prim.Native.Nat.{ℕ, _+_, _-_, _≤_}
 use native.Mathlib.Omega.{arith}
 use lib.ListN.{length, take, drop, length-append, length-take, length-drop, take-append-drop}
 use lib.Seq.{take-at, drop-at, take-append-le, drop-append-le, take-take, drop-drop, length-take-le}
-use Rattle.base_lists.specs.Lists.{some}
-use Rattle.edit.specs.Storage.{stored, closed, opened, cut}
-use Rattle.base_lists.proofs.Nowhere.{nowhere-append, nowhere-take, nowhere-drop}
+use Rattle.base.specs.Lists.{some}
+use Rattle.edit.specs.Storage.{stored, closed, reinserted, cut}
+use Rattle.base.proofs.Nowhere.{nowhere-append, nowhere-take, nowhere-drop}
 
 -- the three numbers at `at`; an entry put into a list of just the entries
 abbrev pub entryAt : {A : Type 0} → ℕ → List A → List A
@@ -28,8 +28,8 @@ module _ {A : Type 0} where
   unfolding closed
   closed-length at n l b c = simp (length-append, length-take, length-drop) (omega arith)
 
-  pub opened-length : (at n : ℕ) (v l : List A) → length v ≡ 3 → at ≤ n → n + 3 ≤ length l → length (opened at n v l) ≡ length l
-  unfolding opened
+  pub opened-length : (at n : ℕ) (v l : List A) → length v ≡ 3 → at ≤ n → n + 3 ≤ length l → length (reinserted at n v l) ≡ length l
+  unfolding reinserted
   opened-length at n v l e b c = simp (length-append, length-take, length-drop) (omega arith)
 
   pub cut-length : (at n : ℕ) (l : List A) → at + 3 ≤ n → length l ≡ n → length (cut at l) ≡ n - 3
@@ -68,8 +68,8 @@ module _ {A : Type 0} where
       rw (← append-assoc (take at l) (drop (at + 3) (take n l)) (drop (n - 3) l), take-take at n l f)
       (take-at (take at l ++ drop (at + 3) (take n l)) (drop (n - 3) l) (n - 3) (simp (length-append, length-take, length-drop) (omega arith)))
 
-  pub opened-shows : (at n : ℕ) (v l : List A) → length v ≡ 3 → at ≤ n → n + 3 ≤ length l → take (n + 3) (opened at n v l) ≡ inserted at v (take n l)
-  unfolding opened
+  pub opened-shows : (at n : ℕ) (v l : List A) → length v ≡ 3 → at ≤ n → n + 3 ≤ length l → take (n + 3) (reinserted at n v l) ≡ inserted at v (take n l)
+  unfolding reinserted
   opened-shows at n v l e b c =
       let K = take at l ++ (v ++ drop at (take n l)) in
       let q : take at l ++ (v ++ (drop at (take n l) ++ drop (n + 3) l)) ≡ K ++ drop (n + 3) l = simp append-assoc in
@@ -117,7 +117,7 @@ module _ {A : Type 0} where
         ∙ rw (q, ← entry-shown at n before fits long) (stored-back at v (take n before) e f)
 
     pub remove-undone : (m : ℕ) → m ≡ n - 3 → n ≤ length now → take m now ≡ cut at (take n before)
-        → take (m + 3) (opened at m (entryAt at before) now) ≡ take n before
+        → take (m + 3) (reinserted at m (entryAt at before) now) ≡ take n before
     remove-undone m k c q =
         opened-shows at m (entryAt at before) now (entry-length at before (omega arith)) (omega arith) (omega arith)
         ∙ rw (q, ← entry-shown at n before fits long) (cut-back at (take n before) (omega (arith, first)))
@@ -128,7 +128,7 @@ module _ {A : Type 0} where
       sym (take-take n (n + 3) now b) ∙ rw q (take-at (take n before) v n (length-take-le n before c))
 
   -- the gap closed and opened again
-  pub opened-closed : (at n : ℕ) (l : List A) → at + 3 ≤ n → n ≤ length l → take n (opened at (n - 3) (entryAt at l) (closed at n l)) ≡ take n l
+  pub opened-closed : (at n : ℕ) (l : List A) → at + 3 ≤ n → n ≤ length l → take n (reinserted at (n - 3) (entryAt at l) (closed at n l)) ≡ take n l
   opened-closed at n l b c =
       let e : n - 3 + 3 ≡ n = omega arith in
       rw e at (remove-undone (closed at n l) l at n b c (n - 3) (omega arith) (rw (closed-length at n l b c) c) (closed-shows at n l b c))
@@ -149,8 +149,8 @@ module _ {A : Type 0} where
         nowhere-append p (take at l) _ (nowhere-take p at l b)
         (nowhere-append p (drop (at + 3) (take n l)) _ (nowhere-drop p (at + 3) (take n l) (nowhere-take p n l b)) (nowhere-drop p (n - 3) l b))
 
-    pub opened-nowhere : (at n : ℕ) (v l : List A) → some p v ≡ false → some p l ≡ false → some p (opened at n v l) ≡ false
-    unfolding opened
+    pub opened-nowhere : (at n : ℕ) (v l : List A) → some p v ≡ false → some p l ≡ false → some p (reinserted at n v l) ≡ false
+    unfolding reinserted
     opened-nowhere at n v l a b =
         nowhere-append p (take at l) _ (nowhere-take p at l b)
         (nowhere-append p v _ a (nowhere-append p (drop at (take n l)) _ (nowhere-drop p at (take n l) (nowhere-take p n l b)) (nowhere-drop p (n + 3) l b)))

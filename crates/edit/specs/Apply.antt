@@ -6,15 +6,15 @@ use lib.Dec.{ltb, leb, eqb}
 use lib.IntN.{ℤ}
 use lib.Ieee.{Float}
 use lib.ListN.{length}
-use Rattle.base_limits.specs.declared.Rgb.{Rgb}
-use Rattle.base_limits.specs.declared.Lab.{Lab}
-use Rattle.base_lists.specs.Lists.{some}
+use Rattle.base.specs.declared.Rgb.{Rgb}
+use Rattle.base.specs.declared.Lab.{Lab}
+use Rattle.base.specs.Lists.{some}
 use Rattle.sheet.specs.Sheet.{Sheet, Picture, sheetOf}
-use Rattle.base_storage.specs.Triples.{rgbAt, labAt}
-use Rattle.edit.specs.declared.Edit.{Edit}
-use Rattle.edit.specs.declared.Edit.the-variants.{Pixels, PaletteSet, PaletteAdd, PaletteRemove}
+use Rattle.base.specs.Triples.{rgbAt, labAt}
+use Rattle.base.specs.declared.Edit.{Edit}
+use Rattle.base.specs.declared.Edit.the-variants.{Pixels, PaletteSet, PaletteAdd, PaletteRemove}
 use Rattle.edit.specs.Change.{Change, outside, painted, newOf, oldOf, filledIn}
-use Rattle.edit.specs.Storage.{bytesOf, numbersOf, stored, closed, opened, cut, lowered, raised}
+use Rattle.edit.specs.Storage.{bytesOf, numbersOf, stored, closed, reinserted, cut, lowered, raised}
 
 -- ---- "an empty pixel list"; "a removal with no remap is not empty"
 unfoldable pub noPixels : Edit → List Change → Bool
@@ -51,7 +51,8 @@ module _ (curve : Rgb → Lab) where
   redone s (PaletteAdd c) cs =
       withEntries s (suc (s .k)) (stored (3 * s .k) (bytesOf c) (s .palette)) (stored (3 * s .k) (numbersOf (curve c)) (s .lab))
   redone s (PaletteRemove i c lab) cs =
-      withEntries (withIndices s (map (lowered i) (painted newOf (s .w) cs (s .indices)))) (s .k - 1) (closed (3 * i) (3 * s .k) (s .palette)) (closed (3 * i) (3 * s .k) (s .lab))
+      withEntries (withIndices s (map (lowered i) (painted newOf (s .w) cs (s .indices)))) (s .k - 1)
+      (closed (3 * i) (3 * s .k) (s .palette)) (closed (3 * i) (3 * s .k) (s .lab))
 
   -- the ledger: "pixels paint each new at its place, in list order; set gives the entry the colour and its LAB; add appends both; remove paints likewise,
   -- lowers every index above the entry by one, takes the entry out"
@@ -59,7 +60,14 @@ module _ (curve : Rgb → Lab) where
   nextPicture p (Pixels tool) cs =
       record { w = p .w; h = p .h; k = p .k; indices = painted newOf (p .w) cs (p .indices); colours = p .colours; labs = p .labs }
   nextPicture p (PaletteSet i old new lab) cs =
-      record { w = p .w; h = p .h; k = p .k; indices = p .indices; colours = stored (3 * i) (bytesOf new) (p .colours); labs = stored (3 * i) (numbersOf (curve new)) (p .labs) }
+      record {
+        w = p .w;
+        h = p .h;
+        k = p .k;
+        indices = p .indices;
+        colours = stored (3 * i) (bytesOf new) (p .colours);
+        labs = stored (3 * i) (numbersOf (curve new)) (p .labs);
+      }
   nextPicture p (PaletteAdd c) cs =
       record { w = p .w; h = p .h; k = suc (p .k); indices = p .indices; colours = p .colours ++ bytesOf c; labs = p .labs ++ numbersOf (curve c) }
   nextPicture p (PaletteRemove i c lab) cs =
@@ -78,7 +86,9 @@ reverted s (Pixels tool) cs = withIndices s (painted oldOf (s .w) cs (s .indices
 reverted s (PaletteSet i old new lab) cs = withEntries s (s .k) (stored (3 * i) (bytesOf old) (s .palette)) (stored (3 * i) (numbersOf lab) (s .lab))
 reverted s (PaletteAdd c) cs = withEntries s (s .k - 1) (s .palette) (s .lab)
 reverted s (PaletteRemove i c lab) cs =
-    withEntries (withIndices s (painted oldOf (s .w) cs (map (raised i) (s .indices)))) (suc (s .k)) (opened (3 * i) (3 * s .k) (bytesOf c) (s .palette)) (opened (3 * i) (3 * s .k) (numbersOf lab) (s .lab))
+    withEntries (withIndices s (painted oldOf (s .w) cs (map (raised i) (s .indices)))) (suc (s .k))
+    (reinserted (3 * i) (3 * s .k) (bytesOf c) (s .palette))
+    (reinserted (3 * i) (3 * s .k) (numbersOf lab) (s .lab))
 
 -- `can_revert` of document.rs
 unfoldable pub canRevert : Sheet → Edit → List Change → Bool

@@ -6,16 +6,16 @@ use mathlib.Core.List.{List, [], _∷_, _++_, flatMap}
 use lib.Dec.{ltb, leb, eqb}
 use lib.IntN.{ℤ, pos, negsuc}
 use lib.ListN.{getD}
-use Rattle.base_limits.specs.Limits.{maxEntries}
-use Rattle.base_limits.specs.Numbers.{offTheSheet, noSuchIndex, noSuchEntry, paletteFull, lastEntry, colourNotPermitted, stale, badRemap, stillUsed}
-use Rattle.base_limits.specs.Checks.{Check, _when_}
-use Rattle.base_limits.specs.declared.Rgb.{Rgb}
-use Rattle.base_lists.specs.Lists.{some}
-use Rattle.base_ints.specs.Ints.{eqZ}
+use Rattle.base.specs.Limits.{maxEntries}
+use Rattle.base.specs.Numbers.{offTheSheet, noSuchIndex, noSuchEntry, paletteFull, lastEntry, colourNotPermitted, stale, badRemap, stillUsed}
+use Rattle.base.specs.Checks.{Check, _when_}
+use Rattle.base.specs.declared.Rgb.{Rgb}
+use Rattle.base.specs.Lists.{some}
+use Rattle.base.specs.Ints.{eqZ}
 use Rattle.sheet.specs.Sheet.{Sheet, Picture, sheetOf, stray}
-use Rattle.base_storage.specs.Triples.{rgbAt}
-use Rattle.edit.specs.declared.Edit.{Edit}
-use Rattle.edit.specs.declared.Edit.the-variants.{Pixels, PaletteSet, PaletteAdd, PaletteRemove}
+use Rattle.base.specs.Triples.{rgbAt}
+use Rattle.base.specs.declared.Edit.{Edit}
+use Rattle.base.specs.declared.Edit.the-variants.{Pixels, PaletteSet, PaletteAdd, PaletteRemove}
 use Rattle.edit.specs.Change.{Change, place, outside}
 
 unfoldable pub sameRgb : Rgb → Rgb → Bool

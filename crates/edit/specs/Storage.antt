@@ -6,8 +6,8 @@ use lib.Signed.{ltZ, leZ}
 use lib.Ieee.{Float}
 use lib.ListN.{take, drop}
 use mathlib.Core.Bool.{cond}
-use Rattle.base_limits.specs.declared.Rgb.{Rgb}
-use Rattle.base_limits.specs.declared.Lab.{Lab}
+use Rattle.base.specs.declared.Rgb.{Rgb}
+use Rattle.base.specs.declared.Lab.{Lab}
 
 -- an entry's three numbers
 abbrev pub bytesOf : Rgb → List ℕ
@@ -25,8 +25,8 @@ unfoldable pub closed : {A : Type 0} → ℕ → ℕ → List A → List A
 closed at n l = take at l ++ (drop (at + 3) (take n l) ++ drop (n - 3) l)
 
 -- an entry reinserted at `at`
-unfoldable pub opened : {A : Type 0} → ℕ → ℕ → List A → List A → List A
-opened at n v l = take at l ++ (v ++ (drop at (take n l) ++ drop (n + 3) l))
+unfoldable pub reinserted : {A : Type 0} → ℕ → ℕ → List A → List A → List A
+reinserted at n v l = take at l ++ (v ++ (drop at (take n l) ++ drop (n + 3) l))
 
 -- the entry taken out of a list of just the entries
 unfoldable pub cut : {A : Type 0} → ℕ → List A → List A

@@ -1,9 +1,9 @@
 // An edit that no check refuses: its record filled in, and the edit done.
-use base_limits::Rgb;
-use base_storage::lab_at;
-use base_storage::rgb_at;
+use base::Edit;
+use base::Rgb;
+use base::lab_at;
+use base::rgb_at;
 use color::rgb8_to_lab;
-use edit::Edit;
 use edit_entries::close_lab_gap;
 use edit_entries::close_palette_gap;
 use edit_entries::store_lab;
@@ -16,7 +16,7 @@ ghost use mathlib.Core.List.{List, map};
 ghost use Prim.Native.Nat.{ℕ, _+_, _*_, _<_, _≤_};
 ghost use lib.IntN.{ℤ};
 ghost use lib.ListN.{length};
-ghost use Rattle.base_lists.specs.Lists.{some};
+ghost use Rattle.base.specs.Lists.{some};
 ghost use Rattle.color_lab.specs.Convert.{labOf};
 ghost use Rattle.sheet.specs.Sheet.{sheetOf};
 ghost use Rattle.edit.specs.Change.{unpacked, painted, newOf};
@@ -28,7 +28,10 @@ ghost use Rattle.edit_apply.specs.Redoable.{EntryIn, Redoable};
 // The edit with the colour and the LAB that its entry has now, as the journal keeps it.
 pub fn fill_edit(palette: &[u8], lab: &[f64], edit: Edit) -> Edit
     requires { ⌜ EntryIn (length (now palette)) edit × EntryIn (length (now lab)) edit ⌝ }
-    ensures { λ r. ⌜ ((w h k : ℕ) (indices : List ℤ) → r ≡ filledEdit (sheetOf w h k (now (palette .entry)) (now (lab .entry)) indices) edit) ⌝ }
+    ensures { λ r. ⌜
+        ((w h k : ℕ) (indices : List ℤ)
+        → r ≡ filledEdit (sheetOf w h k (now (palette .entry)) (now (lab .entry)) indices) edit)
+        ⌝ }
 {
     match edit {
         Edit::Pixels { tool: _ } => edit,
@@ -88,7 +91,10 @@ fn remove_entry(
     requires { ⌜ some (past w (length (now indices))) (map unpacked (now list)) ≡ false ⌝ }
     ensures { λ _. ⌜ now (palette .exit) ≡ closed (3 * index) (3 * k) (now (palette .entry)) ⌝ }
     ensures { λ _. ⌜ now (lab .exit) ≡ closed (3 * index) (3 * k) (now (lab .entry)) ⌝ }
-    ensures { λ _. ⌜ now (indices .exit) ≡ map (lowered index) (painted newOf w (map unpacked (now (list .entry))) (now (indices .entry))) ⌝ }
+    ensures { λ _. ⌜
+        now (indices .exit)
+        ≡ map (lowered index) (painted newOf w (map unpacked (now (list .entry))) (now (indices .entry)))
+        ⌝ }
 {
     paint_news(indices, w, list);
     lower_above(indices, index);
@@ -107,7 +113,11 @@ pub fn redo_edit(
     list: &[u64],
 ) -> usize
     requires { ⌜ Redoable w k (now palette) (now lab) (now indices) edit (map unpacked (now list)) ⌝ }
-    ensures { λ r. ⌜ ((h : ℕ) → sheetOf w h r (now (palette .exit)) (now (lab .exit)) (now (indices .exit)) ≡ redone labOf (sheetOf w h k (now (palette .entry)) (now (lab .entry)) (now (indices .entry))) edit (map unpacked (now (list .entry)))) ⌝ }
+    ensures { λ r. ⌜
+        ((h : ℕ) → sheetOf w h r (now (palette .exit)) (now (lab .exit)) (now (indices .exit))
+        ≡ redone labOf (sheetOf w h k (now (palette .entry)) (now (lab .entry)) (now (indices .entry))) edit
+        (map unpacked (now (list .entry))))
+        ⌝ }
 {
     match edit {
         Edit::Pixels { tool: _ } => {

@@ -1,15 +1,15 @@
 // The checks of an edit, in document 01's order: one function a kind.
-use base_limits::COLOUR_NOT_PERMITTED;
-use base_limits::LAST_ENTRY;
-use base_limits::MAX_ENTRIES;
-use base_limits::NO_SUCH_ENTRY;
-use base_limits::PALETTE_FULL;
-use base_limits::Rgb;
-use base_limits::STALE;
-use edit::Edit;
+use base::COLOUR_NOT_PERMITTED;
+use base::Edit;
+use base::LAST_ENTRY;
+use base::MAX_ENTRIES;
+use base::NO_SUCH_ENTRY;
+use base::PALETTE_FULL;
+use base::Rgb;
+use base::STALE;
+use base::both;
 use edit_entries::check_color;
 use edit_entries::has_rgb;
-use edit_pixels::both;
 use edit_pixels::pixels_no;
 use edit_remap::removal_no;
 ghost use mathlib.Core.Path.{_≡_};
@@ -19,11 +19,11 @@ ghost use Prim.Native.Nat.{ℕ, _+_, _*_, _≤_};
 ghost use lib.IntN.{ℤ};
 ghost use lib.Ieee.{Float};
 ghost use lib.ListN.{length};
-ghost use Rattle.base_limits.specs.Checks.{firstOf};
-ghost use Rattle.base_limits.specs.declared.Lab.{Lab};
+ghost use Rattle.base.specs.Checks.{firstOf};
+ghost use Rattle.base.specs.declared.Lab.{Lab};
 ghost use Rattle.sheet.specs.Sheet.{sheetOf};
-ghost use Rattle.base_storage.specs.Triples.{rgbAt};
-ghost use Rattle.edit.specs.declared.Edit.the-variants.{PaletteSet, PaletteAdd, PaletteRemove};
+ghost use Rattle.base.specs.Triples.{rgbAt};
+ghost use Rattle.base.specs.declared.Edit.the-variants.{PaletteSet, PaletteAdd, PaletteRemove};
 ghost use Rattle.edit.specs.Change.{Change, unpacked};
 ghost use Rattle.edit.specs.Checks.{Permitted, permittedOf, sameRgb, ownChecks};
 
@@ -47,7 +47,11 @@ pub fn set_no(
     replay: bool,
 ) -> u8
     requires { ⌜ (k ≤ 255) × (length (now palette) ≡ 765) ⌝ }
-    ensures { λ r. ⌜ ((w h : ℕ) (lab : List Float) (indices : List ℤ) (x : Lab) (cs : List Change) → r ≡ firstOf (ownChecks replay (sheetOf w h k (now (palette .entry)) lab indices) (permittedOf limited (now (permitted .entry))) (PaletteSet index old new x) cs)) ⌝ }
+    ensures { λ r. ⌜
+        ((w h : ℕ) (lab : List Float) (indices : List ℤ) (x : Lab) (cs : List Change) → r
+        ≡ firstOf (ownChecks replay (sheetOf w h k (now (palette .entry)) lab indices)
+        (permittedOf limited (now (permitted .entry))) (PaletteSet index old new x) cs))
+        ⌝ }
 {
     if k <= index {
         return NO_SUCH_ENTRY;
@@ -63,7 +67,11 @@ pub fn set_no(
 
 // The number of the first check that applies to an add, or 0: "8, 10".
 pub fn add_no(k: usize, limited: bool, permitted: &[u8], c: Rgb) -> u8
-    ensures { λ r. ⌜ ((w h : ℕ) (palette : List ℕ) (lab : List Float) (indices : List ℤ) (replay : Bool) (cs : List Change) → r ≡ firstOf (ownChecks replay (sheetOf w h k palette lab indices) (permittedOf limited (now (permitted .entry))) (PaletteAdd c) cs)) ⌝ }
+    ensures { λ r. ⌜
+        ((w h : ℕ) (palette : List ℕ) (lab : List Float) (indices : List ℤ) (replay : Bool) (cs : List Change) → r
+        ≡ firstOf (ownChecks replay (sheetOf w h k palette lab indices) (permittedOf limited (now (permitted .entry)))
+        (PaletteAdd c) cs))
+        ⌝ }
 {
     if MAX_ENTRIES <= k {
         return PALETTE_FULL;
@@ -89,7 +97,12 @@ fn remove_no(
 ) -> u8
     requires { ⌜ (k ≤ 255) × (length (now palette) ≡ 765) ⌝ }
     requires { ⌜ (length (now indices) ≡ w * h) × (w * h ≤ length (now marks)) ⌝ }
-    ensures { λ r. ⌜ ((lab : List Float) (p : Permitted) (x : Lab) → r ≡ firstOf (ownChecks replay (sheetOf w h k (now (palette .entry)) lab (now (indices .entry))) p (PaletteRemove index c x) (map unpacked (now (list .entry))))) ⌝ }
+    ensures { λ r. ⌜
+        ((lab : List Float) (p : Permitted) (x : Lab) → r
+        ≡ firstOf
+        (ownChecks replay (sheetOf w h k (now (palette .entry)) lab (now (indices .entry))) p (PaletteRemove index c x)
+        (map unpacked (now (list .entry)))))
+        ⌝ }
 {
     if k <= index {
         return NO_SUCH_ENTRY;
@@ -121,7 +134,11 @@ pub fn own_no(
 ) -> u8
     requires { ⌜ (k ≤ 255) × (length (now palette) ≡ 765) ⌝ }
     requires { ⌜ (length (now indices) ≡ w * h) × (w * h ≤ length (now marks)) ⌝ }
-    ensures { λ r. ⌜ ((lab : List Float) → r ≡ firstOf (ownChecks replay (sheetOf w h k (now (palette .entry)) lab (now (indices .entry))) (permittedOf limited (now (permitted .entry))) edit (map unpacked (now (list .entry))))) ⌝ }
+    ensures { λ r. ⌜
+        ((lab : List Float) → r
+        ≡ firstOf (ownChecks replay (sheetOf w h k (now (palette .entry)) lab (now (indices .entry)))
+        (permittedOf limited (now (permitted .entry))) edit (map unpacked (now (list .entry)))))
+        ⌝ }
 {
     match edit {
         Edit::Pixels { tool: _ } => pixels_no(w, h, k, indices, list, replay),

@@ -7,7 +7,7 @@ use native.Mathlib.Numerals.{add-one, add-two}
 use borrow.Rule.Slice.PartMut.{putMid}
 use lib.ListN.{length, take, drop, set, length-drop, length-take, drop-of-length-le}
 use lib.Seq.{drop-drop, take-all, take-at, drop-at, drop-append-add, length-take-le, sets-eq}
-use Rattle.edit.specs.Storage.{stored, closed, opened}
+use Rattle.edit.specs.Storage.{stored, closed, reinserted}
 use Rattle.edit_entries.proofs.Gaps.{drop-take}
 
 module _ {A : Type 0} where
@@ -17,8 +17,8 @@ module _ {A : Type 0} where
   stored-is l at a b c h = rw (add-one, add-two) (sets-eq (a ∷ b ∷ c ∷ []) l at h ∙ append-assoc (take at l) (a ∷ b ∷ c ∷ []) (drop (at + 3) l))
 
   -- an entry stored where one was put in
-  pub stored-opened : (l m u v : List A) (at n : ℕ) → at ≤ length l → length u ≡ 3 → m ≡ opened at n u l → stored at v m ≡ opened at n v l
-  unfolding stored opened
+  pub stored-opened : (l m u v : List A) (at n : ℕ) → at ≤ length l → length u ≡ 3 → m ≡ reinserted at n u l → stored at v m ≡ reinserted at n v l
+  unfolding stored reinserted
   stored-opened l m u v at n h e q =
       let S : List A = drop at (take n l) ++ drop (n + 3) l in
       let k : length (take at l) ≡ at = length-take-le at l h in
@@ -43,8 +43,8 @@ module _ {A : Type 0} where
         let q : at + (n - at - 3) ≡ n - 3 = omega arith in
         given-back ys ∙ rw (e, lent, ← drop-take at n l, drop-drop 3 at (take n l), drop-drop (n - at - 3) at l, q)
 
-    pub opened-part : (n : ℕ) (ys : List A) → at ≤ n → (let d = take (length l - at) (drop at l) in ys ≡ opened 0 (n - at) (take 3 d) d) → putMid at (length l - at) l ys ≡ opened at n (take 3 (drop at l)) l
-    unfolding opened
+    pub opened-part : (n : ℕ) (ys : List A) → at ≤ n → (let d = take (length l - at) (drop at l) in ys ≡ reinserted 0 (n - at) (take 3 d) d) → putMid at (length l - at) l ys ≡ reinserted at n (take 3 (drop at l)) l
+    unfolding reinserted
     opened-part n ys k e =
         let q : at + (n - at + 3) ≡ n + 3 = omega arith in
         given-back ys ∙ rw (e, lent, ← drop-take at n l, drop-drop (n - at + 3) at l, q)

@@ -7,7 +7,7 @@ use native.Mathlib.Nat.{add-zero, zero-add, add-suc, suc-add, add-comm, sub-self
 use native.Mathlib.Numerals.{add-one}
 use lib.ListN.{length, getD, set, take, drop, length-append, length-drop, length-set, List·getD-append}
 use lib.Seq.{paste, paste-zero, paste-suc, drop-paste, getD-drop, getD-take, drop-cons, set-append-left, take-set-lt, take-suc-set, take-nil, append-snoc, length-take-le}
-use Rattle.edit.specs.Storage.{closed, opened}
+use Rattle.edit.specs.Storage.{closed, reinserted}
 
 module _ {A : Type 0} where
   pub drop-take : (a n : ℕ) (l : List A) → drop a (take n l) ≡ take (n - a) (drop a l)
@@ -87,6 +87,6 @@ module _ {A : Type 0} {l p : List A} {n j : ℕ} (c : Opening l n j p) where
         is = rw (add-comm 3 i) (up-step l p (i + 3) i (3 + j) j (n - j) (n - i) z (omega arith) (omega arith) (omega arith) (c .is) (omega arith) (omega arith));
       }
 
-  pub opening-all : j ≡ 0 → p ≡ opened 0 n (take 3 l) l
-  unfolding opened
+  pub opening-all : j ≡ 0 → p ≡ reinserted 0 n (take 3 l) l
+  unfolding reinserted
   opening-all e = (rw (e, add-zero, sub-zero, add-comm 3 n) at (c .is)) ∙ append-assoc (take 3 l) (take n l) (drop (n + 3) l)

@@ -7,8 +7,8 @@ use native.Mathlib.Omega.{arith}
 use native.Mathlib.Numerals.{towards-suc}
 use lib.ListN.{length, getD, drop, length-drop}
 use lib.Seq.{drop-cons}
-use Rattle.base_limits.specs.declared.Rgb.{Rgb}
-use Rattle.base_storage.specs.Triples.{rgbAt}
+use Rattle.base.specs.declared.Rgb.{Rgb}
+use Rattle.base.specs.Triples.{rgbAt}
 use Rattle.edit.specs.Checks.{sameRgb, listed}
 
 -- three elements that stand one after the other

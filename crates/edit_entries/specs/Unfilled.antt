@@ -1,5 +1,5 @@
 -- The LAB that an edit of palette.rs has until it is pushed. Definitions only. Assumes nothing.
-use Rattle.base_limits.specs.declared.Lab.{Lab}
+use Rattle.base.specs.declared.Lab.{Lab}
 use Rattle.color_doubles.specs.Arithmetic.{decimal}
 
 -- `[0.0; 3]`: what is filled in from the sheet when the edit is pushed

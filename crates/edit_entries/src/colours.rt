@@ -1,12 +1,12 @@
 // Number 10: whether a colour is permitted; an entry's colour, and the LAB of one that is not pushed yet.
-use base_limits::Lab;
-use base_limits::Rgb;
-use base_lists::either;
-use edit_pixels::both;
+use base::Lab;
+use base::Rgb;
+use base::both;
+use base::either;
 ghost use mathlib.Core.Path.{_≡_};
 ghost use Prim.Native.Nat.{_+_, _*_, _≤_};
 ghost use lib.ListN.{length};
-ghost use Rattle.base_storage.specs.Triples.{rgbAt};
+ghost use Rattle.base.specs.Triples.{rgbAt};
 ghost use Rattle.edit.specs.Checks.{sameRgb, listed, permittedOf, barred};
 ghost use Rattle.edit_entries.specs.Unfilled.{noLab};
 

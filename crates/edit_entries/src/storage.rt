@@ -1,12 +1,12 @@
 // Palette storage and LAB storage, three numbers an entry: an entry stored, taken out and put back.
 //
 // A shift works on the part from the entry on, so that it is compiled to one move of memory.
-use base_limits::Lab;
-use base_limits::Rgb;
+use base::Lab;
+use base::Rgb;
 ghost use mathlib.Core.Path.{_≡_};
 ghost use Prim.Native.Nat.{_+_, _*_, _<_, _≤_};
 ghost use lib.ListN.{length, take};
-ghost use Rattle.edit.specs.Storage.{bytesOf, numbersOf, stored, closed, opened};
+ghost use Rattle.edit.specs.Storage.{bytesOf, numbersOf, stored, closed, reinserted};
 
 // Takes the first entry of n bytes out: the others move down, and the last stays where it was, too.
 fn bytes_down(p: &mut [u8], n: usize)
@@ -25,7 +25,7 @@ fn bytes_down(p: &mut [u8], n: usize)
 // Moves n bytes up by an entry, the last first. The first three stay.
 fn bytes_up(p: &mut [u8], n: usize)
     requires { ⌜ n + 3 ≤ length (now p) ⌝ }
-    ensures { λ _. ⌜ now (p .exit) ≡ opened 0 n (take 3 (now (p .entry))) (now (p .entry)) ⌝ }
+    ensures { λ _. ⌜ now (p .exit) ≡ reinserted 0 n (take 3 (now (p .entry))) (now (p .entry)) ⌝ }
 {
     let mut j: usize = n;
     while 0 < j {
@@ -58,7 +58,7 @@ pub fn close_palette_gap(palette: &mut [u8], i: usize, k: usize)
 // Puts a colour back into a palette of k entries, as entry i.
 pub fn open_palette_gap(palette: &mut [u8], i: usize, k: usize, c: Rgb)
     requires { ⌜ (i ≤ k) × (3 * k + 3 ≤ length (now palette)) ⌝ }
-    ensures { λ _. ⌜ now (palette .exit) ≡ opened (3 * i) (3 * k) (bytesOf c) (now (palette .entry)) ⌝ }
+    ensures { λ _. ⌜ now (palette .exit) ≡ reinserted (3 * i) (3 * k) (bytesOf c) (now (palette .entry)) ⌝ }
 {
     let at = 3 * i;
     bytes_up(&mut palette[at..], 3 * k - at);
@@ -82,7 +82,7 @@ fn numbers_down(p: &mut [f64], n: usize)
 // The same of n doubles.
 fn numbers_up(p: &mut [f64], n: usize)
     requires { ⌜ n + 3 ≤ length (now p) ⌝ }
-    ensures { λ _. ⌜ now (p .exit) ≡ opened 0 n (take 3 (now (p .entry))) (now (p .entry)) ⌝ }
+    ensures { λ _. ⌜ now (p .exit) ≡ reinserted 0 n (take 3 (now (p .entry))) (now (p .entry)) ⌝ }
 {
     let mut j: usize = n;
     while 0 < j {
@@ -115,7 +115,7 @@ pub fn close_lab_gap(lab: &mut [f64], i: usize, k: usize)
 // Puts the LAB of entry i back, in front of the later of k entries.
 pub fn open_lab_gap(lab: &mut [f64], i: usize, k: usize, v: Lab)
     requires { ⌜ (i ≤ k) × (3 * k + 3 ≤ length (now lab)) ⌝ }
-    ensures { λ _. ⌜ now (lab .exit) ≡ opened (3 * i) (3 * k) (numbersOf v) (now (lab .entry)) ⌝ }
+    ensures { λ _. ⌜ now (lab .exit) ≡ reinserted (3 * i) (3 * k) (numbersOf v) (now (lab .entry)) ⌝ }
 {
     let at = 3 * i;
     numbers_up(&mut lab[at..], 3 * k - at);

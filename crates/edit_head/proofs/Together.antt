@@ -5,12 +5,12 @@ use mathlib.Core.Bool.{Bool}
 use mathlib.Core.List.{List, [], _∷_, _++_, flatMap}
 use Prim.Native.Nat.{ℕ}
 use lib.IntN.{ℤ}
-use Rattle.base_limits.specs.Checks.{Check, orElse, firstOf}
-use Rattle.base_limits.proofs.First.{or-else-zero, first-append}
+use Rattle.base.specs.Checks.{Check, orElse, firstOf}
+use Rattle.base.proofs.First.{or-else-zero, first-append}
 use Rattle.sheet.specs.Sheet.{Sheet}
 use Rattle.color_lab.specs.Convert.{labOf}
-use Rattle.edit.specs.declared.Edit.{Edit}
-use Rattle.edit.specs.declared.Edit.the-variants.{Pixels, PaletteSet, PaletteAdd, PaletteRemove}
+use Rattle.base.specs.declared.Edit.{Edit}
+use Rattle.base.specs.declared.Edit.the-variants.{Pixels, PaletteSet, PaletteAdd, PaletteRemove}
 use Rattle.edit.specs.Change.{Change, painted, newOf}
 use Rattle.edit.specs.Checks.{Permitted, ownChecks}
 use Rattle.edit.specs.Apply.{withIndices, redone}

@@ -6,13 +6,13 @@ use mathlib.Core.List.{List, [], _∷_}
 use Prim.Native.Nat.{ℕ, _+_, _*_, _<_, _≤_}
 use lib.Dec.{ltb, leb}
 use lib.ListN.{take, replicate}
-use Rattle.base_limits.specs.Limits.{maxEntries}
-use Rattle.base_limits.specs.Numbers.{noSuchEntry, paletteFull, lastEntry, colourNotPermitted, stillUsed}
-use Rattle.base_limits.specs.Checks.{Check, _when_}
+use Rattle.base.specs.Limits.{maxEntries}
+use Rattle.base.specs.Numbers.{noSuchEntry, paletteFull, lastEntry, colourNotPermitted, stillUsed}
+use Rattle.base.specs.Checks.{Check, _when_}
 use Rattle.sheet.specs.Sheet.{Sheet}
-use Rattle.base_storage.specs.Triples.{rgbAt}
-use Rattle.edit.specs.declared.Edit.{Edit}
-use Rattle.edit.specs.declared.Edit.the-variants.{Pixels, PaletteSet, PaletteAdd, PaletteRemove}
+use Rattle.base.specs.Triples.{rgbAt}
+use Rattle.base.specs.declared.Edit.{Edit}
+use Rattle.base.specs.declared.Edit.the-variants.{Pixels, PaletteSet, PaletteAdd, PaletteRemove}
 use Rattle.edit.specs.Change.{Change}
 use Rattle.edit.specs.Checks.{Permitted, sameRgb, barred, staleWhen, pixelChecks, remapChecks, leftFrom}
 use Rattle.edit_pixels.specs.Inside.{Marks}

@@ -1,11 +1,11 @@
 // An edit apart from its list, which the caller goes through by itself: the checks before the list, a removal's
 // marks and its check after the list, and what is left to do when the list is painted.
-use base_limits::LAST_ENTRY;
-use base_limits::NO_SUCH_ENTRY;
-use base_limits::Rgb;
-use base_limits::STALE;
-use base_limits::STILL_USED;
-use edit::Edit;
+use base::Edit;
+use base::LAST_ENTRY;
+use base::NO_SUCH_ENTRY;
+use base::Rgb;
+use base::STALE;
+use base::STILL_USED;
 use edit_apply::store_entry;
 use edit_checks::add_no;
 use edit_checks::is_stale;
@@ -21,11 +21,11 @@ ghost use Prim.Native.Nat.{ℕ, _*_, _≤_};
 ghost use lib.IntN.{ℤ};
 ghost use lib.Ieee.{Float};
 ghost use lib.ListN.{length};
-ghost use Rattle.base_limits.specs.Checks.{firstOf};
-ghost use Rattle.base_limits.specs.declared.Lab.{Lab};
+ghost use Rattle.base.specs.Checks.{firstOf};
+ghost use Rattle.base.specs.declared.Lab.{Lab};
 ghost use Rattle.color_lab.specs.Convert.{labOf};
 ghost use Rattle.sheet.specs.Sheet.{sheetOf};
-ghost use Rattle.edit.specs.declared.Edit.the-variants.{PaletteRemove};
+ghost use Rattle.base.specs.declared.Edit.the-variants.{PaletteRemove};
 ghost use Rattle.edit.specs.Change.{Change};
 ghost use Rattle.edit.specs.Checks.{Permitted, permittedOf};
 ghost use Rattle.edit.specs.Apply.{redone};
@@ -35,7 +35,10 @@ ghost use Rattle.edit_head.specs.Apart.{headChecks, leftChecks, Markable
 // The number of the first of a removal's checks before its list that applies, or 0: "7, 9, 11".
 fn entry_no(k: usize, palette: &[u8], index: usize, c: Rgb, replay: bool) -> u8
     requires { ⌜ (k ≤ 255) × (length (now palette) ≡ 765) ⌝ }
-    ensures { λ r. ⌜ ((w h : ℕ) (lab : List Float) (indices : List ℤ) (p : Permitted) (x : Lab) → r ≡ firstOf (headChecks replay (sheetOf w h k (now (palette .entry)) lab indices) p (PaletteRemove index c x))) ⌝ }
+    ensures { λ r. ⌜
+        ((w h : ℕ) (lab : List Float) (indices : List ℤ) (p : Permitted) (x : Lab)
+        → r ≡ firstOf (headChecks replay (sheetOf w h k (now (palette .entry)) lab indices) p (PaletteRemove index c x)))
+        ⌝ }
 {
     if k <= index {
         return NO_SUCH_ENTRY;
@@ -59,7 +62,11 @@ pub fn head_no(
     replay: bool,
 ) -> u8
     requires { ⌜ (k ≤ 255) × (length (now palette) ≡ 765) ⌝ }
-    ensures { λ r. ⌜ ((w h : ℕ) (lab : List Float) (indices : List ℤ) → r ≡ firstOf (headChecks replay (sheetOf w h k (now (palette .entry)) lab indices) (permittedOf limited (now (permitted .entry))) edit)) ⌝ }
+    ensures { λ r. ⌜
+        ((w h : ℕ) (lab : List Float) (indices : List ℤ) → r
+        ≡ firstOf (headChecks replay (sheetOf w h k (now (palette .entry)) lab indices)
+        (permittedOf limited (now (permitted .entry))) edit))
+        ⌝ }
 {
     match edit {
         Edit::Pixels { tool: _ } => 0,
@@ -99,7 +106,10 @@ pub fn clear_marks(edit: Edit, n: usize, marks: &mut [u8])
 // The number of an edit's check after its list, or 0: 13 of a removal whose places are marked.
 pub fn left_no(edit: Edit, w: usize, h: usize, indices: &[i16], marks: &[u8]) -> u8
     requires { ⌜ (length (now indices) ≡ w * h) × Markable edit (w * h) (length (now marks)) ⌝ }
-    ensures { λ r. ⌜ ((cs : List Change) → MarksFor edit w (w * h) cs (now (marks .entry)) → r ≡ firstOf (leftChecks (bare w h 0 (now (indices .entry))) edit cs)) ⌝ }
+    ensures { λ r. ⌜
+        ((cs : List Change) → MarksFor edit w (w * h) cs (now (marks .entry))
+        → r ≡ firstOf (leftChecks (bare w h 0 (now (indices .entry))) edit cs))
+        ⌝ }
 {
     match edit {
         Edit::Pixels { tool: _ } => 0,
@@ -133,7 +143,10 @@ pub fn finish_edit(
     edit: Edit,
 ) -> usize
     requires { ⌜ Finishable k (length (now palette)) (length (now lab)) edit ⌝ }
-    ensures { λ r. ⌜ ((w h : ℕ) → sheetOf w h r (now (palette .exit)) (now (lab .exit)) (now (indices .exit)) ≡ redone labOf (sheetOf w h k (now (palette .entry)) (now (lab .entry)) (now (indices .entry))) edit []) ⌝ }
+    ensures { λ r. ⌜
+        ((w h : ℕ) → sheetOf w h r (now (palette .exit)) (now (lab .exit)) (now (indices .exit))
+        ≡ redone labOf (sheetOf w h k (now (palette .entry)) (now (lab .entry)) (now (indices .entry))) edit [])
+        ⌝ }
 {
     match edit {
         Edit::Pixels { tool: _ } => k,

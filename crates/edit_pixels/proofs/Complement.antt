@@ -11,7 +11,7 @@ use lib.Signed.{ltZ, nonNeg}
 use mir.Syntax.{w16}
 use mir.Val.{Fits, SFits, toZ, ofZ}
 use mir.Facts.{toZ-ofZ}
-use Rattle.base_ints.proofs.Back.{never}
+use Rattle.base.proofs.Back.{never}
 
 abbrev flipped : ℤ → ℤ
 flipped (pos n) = negsuc n

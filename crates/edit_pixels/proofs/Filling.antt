@@ -10,7 +10,7 @@ use lib.Signed.{mag}
 use mir.Syntax.{w16}
 use mir.Val.{toZ, ofZ, hbits}
 use mir.ValLaws.{ofZ-fits}
-use Rattle.base_ints.proofs.Back.{back}
+use Rattle.base.proofs.Back.{back}
 use Rattle.edit.specs.Change.{unpacked, place, filledIn}
 
 -- the parts of a number that is put together

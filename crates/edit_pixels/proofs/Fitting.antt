@@ -10,9 +10,9 @@ use lib.IntN.{ℤ, pos, negsuc}
 use lib.ListN.{getD}
 use mir.Syntax.{w16}
 use mir.Val.{SFits}
-use Rattle.base_lists.specs.Lists.{some}
-use Rattle.base_lists.proofs.Nowhere.{first-not, rest-not}
-use Rattle.base_ints.proofs.Back.{never}
+use Rattle.base.specs.Lists.{some}
+use Rattle.base.proofs.Nowhere.{first-not, rest-not}
+use Rattle.base.proofs.Back.{never}
 use Rattle.sheet.specs.Sheet.{stray}
 
 index-fits : (k : ℕ) (z : ℤ) → k ≤ 255 → stray k z ≡ false → SFits w16 z

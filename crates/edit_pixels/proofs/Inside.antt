@@ -6,9 +6,9 @@ use Prim.Native.Nat.{ℕ, _*_, _<_}
 use borrow.Author.Tests.{leb-false, lt-leb}
 use lib.Dec.{leb}
 use lib.ListN.{length, getD}
-use Rattle.base_lists.specs.Lists.{some}
-use Rattle.base_lists.proofs.Scan.{or-left, or-right}
-use Rattle.base_lists.proofs.Nowhere.{nowhere-weaker}
+use Rattle.base.specs.Lists.{some}
+use Rattle.base.proofs.Scan.{or-left, or-right}
+use Rattle.base.proofs.Nowhere.{nowhere-weaker}
 use Rattle.sheet.proofs.Places as places
 use Rattle.edit.specs.Change.{Change, unpacked, place, outside}
 use Rattle.edit_pixels.specs.Inside.{past}

@@ -5,8 +5,8 @@ use mathlib.Core.List.{List, map}
 use Prim.Native.Nat.{ℕ, _+_, _<_, _≤_}
 use lib.IntN.{ℤ}
 use lib.ListN.{length, drop, getD, set, length-set}
-use Rattle.base_lists.specs.Lists.{some}
-use Rattle.base_lists.proofs.Scan.{drop-next, drop-end}
+use Rattle.base.specs.Lists.{some}
+use Rattle.base.proofs.Scan.{drop-next, drop-end}
 use Rattle.edit.specs.Change.{Change, unpacked, place, painted}
 use Rattle.edit_pixels.specs.Inside.{past}
 use Rattle.edit_pixels.proofs.Inside.{inside-at}

@@ -4,9 +4,9 @@ use mathlib.Core.Bool.{Bool, true, false}
 use mathlib.Core.List.{List, [], _∷_, _++_, map, flatMap}
 use Prim.Native.Nat.{ℕ, suc, _+_, _<_, _≤_}
 use lib.ListN.{length, drop, getD}
-use Rattle.base_limits.specs.Checks.{Check, _when_, firstOf}
-use Rattle.base_limits.proofs.First.{first-past, first-here}
-use Rattle.base_lists.proofs.Scan.{drop-next, drop-end}
+use Rattle.base.specs.Checks.{Check, _when_, firstOf}
+use Rattle.base.proofs.First.{first-past, first-here}
+use Rattle.base.proofs.Scan.{drop-next, drop-end}
 use Rattle.edit.specs.Change.{Change, unpacked}
 
 pub record Passing (f : Change → List Check) (list : List ℕ) (i : ℕ) : Type 0 where

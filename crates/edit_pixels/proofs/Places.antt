@@ -8,9 +8,9 @@ use native.Mathlib.Omega.{arith}
 use lib.IntN.{ℤ, pos}
 use lib.ListN.{length, getD, set, take, drop, length-append, length-map, length-set, take-append-drop}
 use lib.Seq.{length-take-le, take-all}
-use Rattle.base_lists.specs.Lists.{over}
-use Rattle.base_lists.proofs.Over.{over-none, over-set}
-use Rattle.base_ints.specs.Ints.{eqZ}
+use Rattle.base.specs.Lists.{over}
+use Rattle.base.proofs.Over.{over-none, over-set}
+use Rattle.base.specs.Ints.{eqZ}
 use Rattle.sheet.proofs.Front.{take-next}
 use Rattle.edit_pixels.specs.Listing.{placesFrom}
 

@@ -5,8 +5,8 @@ use mathlib.Core.List.{List, [], _∷_, map}
 use Prim.Native.Nat.{ℕ, zero, suc, _<_}
 use native.Mathlib.Nat.{le-of-suc-le-suc, not-suc-le-zero}
 use lib.ListN.{length, getD}
-use Rattle.base_lists.specs.Lists.{some}
-use Rattle.base_lists.proofs.Scan.{or-left, or-right}
+use Rattle.base.specs.Lists.{some}
+use Rattle.base.proofs.Scan.{or-left, or-right}
 use Rattle.edit.specs.Change.{Change, unpacked}
 
 pub none-unpacked : (p : Change → Bool) (l : List ℕ) (i : ℕ) → some p (map unpacked l) ≡ false → i < length l → p (unpacked (getD l i 0)) ≡ false

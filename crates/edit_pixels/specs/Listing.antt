@@ -3,7 +3,7 @@ use Prim.Native.Nat.{ℕ, suc}
 use mathlib.Core.Bool.{cond}
 use mathlib.Core.List.{List, [], _∷_}
 use lib.IntN.{ℤ}
-use Rattle.base_ints.specs.Ints.{eqZ}
+use Rattle.base.specs.Ints.{eqZ}
 
 -- the places, from p on, of the pixels that have index i
 unfoldable pub placesFrom : ℤ → ℕ → List ℤ → List ℕ

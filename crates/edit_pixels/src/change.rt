@@ -1,6 +1,6 @@
 // One change, a number of 64 bits: from its lowest bits on, column, row, old index and new index, 16 bits
 // each. The indices are in two's complement.
-use base_lists::either;
+use base::either;
 ghost use mathlib.Core.Path.{_≡_};
 ghost use Prim.Native.Nat.{_^_, _<_};
 ghost use lib.ListN.{length};

@@ -3,27 +3,19 @@ use crate::change::is_outside;
 use crate::change::new_of;
 use crate::change::old_of;
 use crate::change::place_of;
-use base_ints::same;
-use base_limits::NO_SUCH_INDEX;
-use base_limits::OFF_THE_SHEET;
-use base_limits::STALE;
+use base::NO_SUCH_INDEX;
+use base::OFF_THE_SHEET;
+use base::STALE;
+use base::same;
 ghost use mathlib.Core.Path.{_≡_};
-ghost use mathlib.Core.Bool.{_&&_};
 ghost use mathlib.Core.List.{map, flatMap};
 ghost use Prim.Native.Nat.{_*_};
 ghost use lib.ListN.{length};
-ghost use Rattle.base_limits.specs.Checks.{firstOf};
+ghost use Rattle.base.specs.Checks.{firstOf};
 ghost use Rattle.sheet.specs.Sheet.{stray};
 ghost use Rattle.edit.specs.Change.{unpacked};
 ghost use Rattle.edit.specs.Checks.{pixelChecks};
 ghost use Rattle.edit_pixels.specs.Inside.{bare};
-
-// Whether both hold. Both are computed.
-pub fn both(a: bool, b: bool) -> bool
-    ensures { λ r. ⌜ r ≡ a && b ⌝ }
-{
-    a && b
-}
 
 // Whether an index lies outside -1..k-1.
 pub fn is_stray(z: i16, k: usize) -> bool
@@ -56,7 +48,10 @@ pub fn pixel_no(w: usize, h: usize, k: usize, indices: &[i16], c: u64, replay: b
 // The number of the first check that applies to a list, or 0.
 pub fn pixels_no(w: usize, h: usize, k: usize, indices: &[i16], list: &[u64], replay: bool) -> u8
     requires { ⌜ length (now indices) ≡ w * h ⌝ }
-    ensures { λ r. ⌜ r ≡ firstOf (flatMap (pixelChecks replay (bare w h k (now (indices .entry)))) (map unpacked (now (list .entry)))) ⌝ }
+    ensures { λ r. ⌜
+        r
+        ≡ firstOf (flatMap (pixelChecks replay (bare w h k (now (indices .entry)))) (map unpacked (now (list .entry))))
+        ⌝ }
 {
     let mut i: usize = 0;
     while i < list.len() {

@@ -15,7 +15,6 @@ pub use change::new_of;
 pub use change::old_of;
 pub use change::place_of;
 pub use change::row;
-pub use checks::both;
 pub use checks::is_stray;
 pub use checks::pixel_no;
 pub use checks::pixels_no;

@@ -1,12 +1,12 @@
 // The pixels of one index among those of a row: how many there are, and the list of the changes that
 // replace them.
 use crate::change::bits_of;
-use base_ints::same;
+use base::same;
 ghost use mathlib.Core.Path.{_≡_};
 ghost use mathlib.Core.List.{map};
 ghost use Prim.Native.Nat.{_+_, _^_, _<_, _≤_};
 ghost use lib.ListN.{length};
-ghost use Rattle.base_lists.specs.Lists.{over};
+ghost use Rattle.base.specs.Lists.{over};
 ghost use Rattle.edit.specs.Change.{packed};
 ghost use Rattle.edit_pixels.specs.Listing.{placesFrom};
 
@@ -46,7 +46,10 @@ pub fn count_on(row: &[i16], index: i16) -> usize
 // change of the row's first pixel. What the list has past them keeps.
 pub fn list_row(row: &[i16], index: i16, first: u64, list: &mut [u64]) -> usize
     requires { ⌜ (first + length (now row) < 2 ^ 64) × (length (placesFrom index 0 (now row)) ≤ length (now list)) ⌝ }
-    ensures { λ r. ⌜ (r ≡ length (placesFrom index 0 (now (row .entry)))) × (now (list .exit) ≡ over (map (λ x. first + x) (placesFrom index 0 (now (row .entry)))) (now (list .entry))) ⌝ }
+    ensures { λ r. ⌜
+        (r ≡ length (placesFrom index 0 (now (row .entry))))
+        × (now (list .exit) ≡ over (map (λ x. first + x) (placesFrom index 0 (now (row .entry)))) (now (list .entry)))
+        ⌝ }
 {
     let mut n: usize = 0;
     let mut x: usize = 0;

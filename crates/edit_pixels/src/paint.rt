@@ -7,7 +7,7 @@ ghost use mathlib.Core.Bool.{false};
 ghost use mathlib.Core.List.{map};
 ghost use Prim.Native.Nat.{_<_};
 ghost use lib.ListN.{length, set};
-ghost use Rattle.base_lists.specs.Lists.{some};
+ghost use Rattle.base.specs.Lists.{some};
 ghost use Rattle.edit.specs.Change.{unpacked, place, painted, newOf, oldOf};
 ghost use Rattle.edit_pixels.specs.Inside.{past};
 

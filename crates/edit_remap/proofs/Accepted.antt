@@ -4,9 +4,9 @@ use mathlib.Core.Bool.{Bool, true, false}
 use mathlib.Core.List.{List, [], _∷_, flatMap}
 use Prim.Native.Nat.{ℕ, suc}
 use native.Mathlib.Omega.{arith}
-use Rattle.base_limits.specs.Checks.{Check, _when_, firstOf}
-use Rattle.base_limits.proofs.First.{first-passes, first-append}
-use Rattle.base_lists.specs.Lists.{some}
+use Rattle.base.specs.Checks.{Check, _when_, firstOf}
+use Rattle.base.proofs.First.{first-passes, first-append}
+use Rattle.base.specs.Lists.{some}
 use Rattle.sheet.specs.Sheet.{Sheet}
 use Rattle.edit.specs.Change.{Change, outside}
 use Rattle.edit.specs.Checks.{pixelChecks, remapChecks}

@@ -14,11 +14,11 @@ use lib.Seq.{getD-take, getD-drop, length-take-le}
 use lib.Signed.{mag}
 use mir.Syntax.{w16}
 use mir.Val.{toZ, ofZ, hbits}
-use Rattle.base_lists.specs.Lists.{some, range}
-use Rattle.base_lists.proofs.Scan.{Flagged, flag-step, flag-end, some-none}
-use Rattle.base_lists.proofs.Collect.{length-range}
-use Rattle.base_ints.specs.Ints.{eqZ}
-use Rattle.base_ints.proofs.Back.{by-value}
+use Rattle.base.specs.Lists.{some, range}
+use Rattle.base.proofs.Scan.{Flagged, flag-step, flag-end, some-none}
+use Rattle.base.proofs.Collect.{length-range}
+use Rattle.base.specs.Ints.{eqZ}
+use Rattle.base.proofs.Back.{by-value}
 use Rattle.edit.specs.Change.{Change}
 use Rattle.edit.specs.Checks.{named, leftFrom}
 use Rattle.edit_pixels.specs.Inside.{marked, Marks, leftAt}

@@ -7,7 +7,7 @@ use borrow.Author.Tests.{eqb-true, eqb-false}
 use lib.Dec.{eqb}
 use lib.ListN.{length, getD, set, replicate, length-set}
 use lib.Seq.{getD-set-same, getD-set-other}
-use Rattle.base_lists.proofs.Scan.{Flagged, flag-step, flag-end}
+use Rattle.base.proofs.Scan.{Flagged, flag-step, flag-end}
 use Rattle.edit.specs.Change.{unpacked, place}
 use Rattle.edit.specs.Checks.{named}
 use Rattle.edit_pixels.specs.Inside.{marked, Marks}

@@ -1,11 +1,11 @@
 // The checks of a removal's list: 5 and 12, change by change, then 13: each pixel of the entry is named. The
 // named places are marked in a scratch of a byte a pixel, and the sheet is scanned once.
-use base_ints::same;
-use base_limits::BAD_REMAP;
-use base_limits::OFF_THE_SHEET;
-use base_limits::STILL_USED;
-use base_lists::either;
-use edit_pixels::both;
+use base::BAD_REMAP;
+use base::OFF_THE_SHEET;
+use base::STILL_USED;
+use base::both;
+use base::either;
+use base::same;
 use edit_pixels::is_outside;
 use edit_pixels::is_stray;
 use edit_pixels::new_of;
@@ -18,10 +18,10 @@ ghost use Prim.Native.Nat.{ℕ, _*_, _<_, _≤_};
 ghost use lib.Dec.{eqb};
 ghost use lib.IntN.{pos, negsuc};
 ghost use lib.ListN.{length, replicate};
-ghost use Rattle.base_limits.specs.Numbers.{stillUsed};
-ghost use Rattle.base_limits.specs.Checks.{_when_, firstOf};
-ghost use Rattle.base_lists.specs.Lists.{some, range};
-ghost use Rattle.base_ints.specs.Ints.{eqZ};
+ghost use Rattle.base.specs.Numbers.{stillUsed};
+ghost use Rattle.base.specs.Checks.{_when_, firstOf};
+ghost use Rattle.base.specs.Lists.{some, range};
+ghost use Rattle.base.specs.Ints.{eqZ};
 ghost use Rattle.sheet.specs.Sheet.{stray};
 ghost use Rattle.edit.specs.Change.{Change, unpacked, place};
 ghost use Rattle.edit.specs.Checks.{misdirected, remapChecks, leftFrom};
@@ -71,7 +71,9 @@ pub fn move_no(w: usize, h: usize, k: usize, index: usize, indices: &[i16], c: u
 // The number of the first of 5 and 12 that applies to a remap, or 0.
 fn remap_no(w: usize, h: usize, k: usize, index: usize, indices: &[i16], list: &[u64]) -> u8
     requires { ⌜ (index ≤ 255) × (length (now indices) ≡ w * h) ⌝ }
-    ensures { λ r. ⌜ r ≡ firstOf (flatMap (remapChecks (bare w h k (now (indices .entry))) index) (map unpacked (now (list .entry)))) ⌝ }
+    ensures { λ r. ⌜
+        r ≡ firstOf (flatMap (remapChecks (bare w h k (now (indices .entry))) index) (map unpacked (now (list .entry))))
+        ⌝ }
 {
     let mut i: usize = 0;
     while i < list.len() {
@@ -121,7 +123,9 @@ fn is_left(z: i16, mark: u8, index: usize) -> bool
 // code.
 fn row_left(row: &[i16], marks: &[u8], index: usize) -> bool
     requires { ⌜ (index ≤ 255) × (length (now marks) ≡ length (now row)) ⌝ }
-    ensures { λ r. ⌜ r ≡ some (leftAt index (now (row .entry)) (now (marks .entry))) (range 0 (length (now (row .entry)))) ⌝ }
+    ensures { λ r. ⌜
+        r ≡ some (leftAt index (now (row .entry)) (now (marks .entry))) (range 0 (length (now (row .entry))))
+        ⌝ }
 {
     let mut left = false;
     let mut x: usize = 0;
@@ -136,7 +140,9 @@ fn row_left(row: &[i16], marks: &[u8], index: usize) -> bool
 // first one. The columns are looked through only in a row that has one.
 pub fn any_left(w: usize, h: usize, index: usize, indices: &[i16], marks: &[u8]) -> bool
     requires { ⌜ (index ≤ 255) × (length (now indices) ≡ w * h) × (length (now marks) ≡ w * h) ⌝ }
-    ensures { λ r. ⌜ ((cs : List Change) → Marks w cs (now (marks .entry)) → r ≡ leftFrom w index cs 0 (now (indices .entry))) ⌝ }
+    ensures { λ r. ⌜
+        ((cs : List Change) → Marks w cs (now (marks .entry)) → r ≡ leftFrom w index cs 0 (now (indices .entry)))
+        ⌝ }
 {
     let mut left = false;
     let mut y: usize = 0;
@@ -171,7 +177,11 @@ pub fn removal_no(
     marks: &mut [u8],
 ) -> u8
     requires { ⌜ (index ≤ 255) × (length (now indices) ≡ w * h) × (length (now marks) ≡ w * h) ⌝ }
-    ensures { λ r. ⌜ r ≡ firstOf (flatMap (remapChecks (bare w h k (now (indices .entry))) index) (map unpacked (now (list .entry))) ++ (stillUsed when leftFrom w index (map unpacked (now (list .entry))) 0 (now (indices .entry)) ∷ [])) ⌝ }
+    ensures { λ r. ⌜
+        r
+        ≡ firstOf (flatMap (remapChecks (bare w h k (now (indices .entry))) index) (map unpacked (now (list .entry)))
+        ++ (stillUsed when leftFrom w index (map unpacked (now (list .entry))) 0 (now (indices .entry)) ∷ []))
+        ⌝ }
 {
     let no = remap_no(w, h, k, index, indices, list);
     if no != 0 {

@@ -10,9 +10,9 @@ use lib.Signed.{mag}
 use lib.ListN.{length, getD, set, length-set}
 use mir.Syntax.{w16}
 use mir.Val.{toZ, ofZ, hbits}
-use Rattle.base_lists.specs.Lists.{some}
-use Rattle.base_lists.proofs.Scan.{some-none}
-use Rattle.base_ints.proofs.Back.{back, by-value}
+use Rattle.base.specs.Lists.{some}
+use Rattle.base.proofs.Scan.{some-none}
+use Rattle.base.proofs.Back.{back, by-value}
 
 module _ (f : ℤ → ℤ) where
   -- f at the elements below i

@@ -9,7 +9,7 @@ use lib.Signed.{mag, ltZ, leZ}
 use mir.Syntax.{w16}
 use mir.Val.{toZ, ofZ, hbits, SFits}
 use mir.Facts.{toZ-ofZ}
-use Rattle.base_ints.proofs.Back.{never, ltZ-back, leZ-back}
+use Rattle.base.proofs.Back.{never, ltZ-back, leZ-back}
 use Rattle.sheet.specs.Sheet.{stray}
 use Rattle.edit.specs.Storage.{lowered, raised}
 

@@ -2,11 +2,11 @@
 use mathlib.Core.Path.{refl}
 use mathlib.Core.List.{flatMap}
 use lib.Ieee.{span, climb, odd, units, ofFields, ofBits, toBits, size}
-use Rattle.base_limits.specs.Checks.{firstOf, refusedOr}
-use Rattle.base_lists.specs.Lists as lists
+use Rattle.base.specs.Checks.{firstOf, refusedOr}
+use Rattle.base.specs.Lists as lists
 use Rattle.color_doubles.specs.Finite.{unfit}
-use Rattle.base_storage.specs.Triples.{labAt, rgbAt}
-use Rattle.base_ints.specs.Ints.{eqZ}
+use Rattle.base.specs.Triples.{labAt, rgbAt}
+use Rattle.base.specs.Ints.{eqZ}
 use Rattle.sheet.specs.Sheet.{view, stray}
 use Rattle.sheet.specs.Checks.{limitChecks, permittedChecks, indexChecks, labChecks, sheetChecks}
 use Rattle.edit.specs.Change.{unpacked, place, outside, painted, filledIn}
@@ -18,12 +18,12 @@ use Rattle.journal_record.specs.Record as record-forms
 use Rattle.journal_read.specs.Sound.{undoable}
 use Rattle.history_ledger.specs.Handle.{clauses, sound, savedPosition}
 use Rattle.history_ledger.specs.Calls.{play}
-use Rattle.history_ledger.specs.Journal.{written, pushed, pushOf, over, undoOf, markOf}
+use Rattle.history_ledger.specs.Journal.{written, pushed, pushOf, stepOver, undoOf, markOf}
 use Rattle.history_model.specs.Editing.{tooLong, undoneBy}
 use Rattle.history.specs.Examples.{Examples}
 
 pub examples : Examples
-unfolding flatMap span climb odd units ofFields ofBits toBits size pixelChecks firstOf refusedOr lists.some unfit labAt eqZ view stray limitChecks permittedChecks indexChecks labChecks sheetChecks rgbAt unpacked place outside painted filledIn barred misdirected remapChecks named leftFrom ownChecks storage.stored storage.closed storage.opened storage.lowered storage.raised filledEdit filledChanges redone reverted canRevert le unle leAt record-forms.changeBytes record-forms.labBytes record-forms.listBytes record-forms.bodyOf record-forms.recordLength record-forms.recordOf record-forms.rgbIn record-forms.doubleIn record-forms.labIn record-forms.changesIn record-forms.byKind record-forms.told record-forms.closed record-forms.agreed record-forms.readForth record-forms.ofLength record-forms.readBack undoable clauses sound savedPosition play written pushed pushOf over undoOf markOf noPixels tooLong undoneBy
+unfolding flatMap span climb odd units ofFields ofBits toBits size pixelChecks firstOf refusedOr lists.some unfit labAt eqZ view stray limitChecks permittedChecks indexChecks labChecks sheetChecks rgbAt unpacked place outside painted filledIn barred misdirected remapChecks named leftFrom ownChecks storage.stored storage.closed storage.reinserted storage.lowered storage.raised filledEdit filledChanges redone reverted canRevert le unle leAt record-forms.changeBytes record-forms.labBytes record-forms.listBytes record-forms.bodyOf record-forms.recordLength record-forms.recordOf record-forms.rgbIn record-forms.doubleIn record-forms.labIn record-forms.changesIn record-forms.byKind record-forms.contents record-forms.closed record-forms.agreed record-forms.readForth record-forms.ofLength record-forms.readBack undoable clauses sound savedPosition play written pushed pushOf stepOver undoOf markOf noPixels tooLong undoneBy
 examples =
     record {
       removed-done = refl;

@@ -8,11 +8,12 @@ use Prim.Native.Nat.{ℕ}
 use lib.IntN.{ℤ, pos}
 use lib.Ieee.{Float, fin}
 use lib.ListN.{replicate}
-use Rattle.base_limits.specs.declared.Rgb.{Rgb}
-use Rattle.base_limits.specs.declared.Answer.the-variants.{Done, Refused}
+use Rattle.base.specs.declared.Rgb.{Rgb}
+use Rattle.base.specs.Answer.{Done}
+use Rattle.base.specs.Answer.Told.{alone}
 use Rattle.sheet.specs.Sheet.{Sheet, sheetOf}
-use Rattle.edit.specs.declared.Edit.{Edit}
-use Rattle.edit.specs.declared.Edit.the-variants.{Pixels, PaletteAdd, PaletteRemove}
+use Rattle.base.specs.declared.Edit.{Edit}
+use Rattle.base.specs.declared.Edit.the-variants.{Pixels, PaletteAdd, PaletteRemove}
 use Rattle.edit.specs.Change.{Change}
 use Rattle.edit.specs.Checks.{permittedOf}
 use Rattle.history_ledger.specs.Handle.{savedPosition}
@@ -75,14 +76,14 @@ pub record Examples : Type 0 where
   pub undone-done : undoOf editing (removed .leaves) .answer ≡ Done
   pub undone-indices : undoOf editing (removed .leaves) .leaves .sheet .indices ≡ pos 0 ∷ pos 1 ∷ pos 2 ∷ []
   -- "k 1: removal gives 9"
-  pub last-entry : pushOf editing 0 (openedIn 64 (rowOf 0 [] 1)) (removal 0 []) .answer ≡ Refused 9
+  pub last-entry : pushOf editing 0 (openedIn 64 (rowOf 0 [] 1)) (removal 0 []) .answer ≡ alone 9
   -- "k 254: add done; 255: 8"
   pub add-at-254 : pushOf editing 0 (openedIn 64 (rowOf 0 [] 254)) blueGrey .answer ≡ Done
-  pub add-at-255 : pushOf editing 0 (openedIn 64 (rowOf 0 [] 255)) blueGrey .answer ≡ Refused 8
+  pub add-at-255 : pushOf editing 0 (openedIn 64 (rowOf 0 [] 255)) blueGrey .answer ≡ alone 8
   -- "in 8 bytes: 03 10 20 30 08 00 00 00; in 7: 14"
   pub in-8 : addedIn 8 .answer ≡ Done
   pub bytes-8 : addedIn 8 .leaves .journal ≡ 0x03 ∷ 0x10 ∷ 0x20 ∷ 0x30 ∷ 0x08 ∷ 0x00 ∷ 0x00 ∷ 0x00 ∷ []
-  pub in-7 : addedIn 7 .answer ≡ Refused 14
+  pub in-7 : addedIn 7 .answer ≡ alone 14
   -- "Push, mark, undo, push: no saved mark"
   pub all-done : pushedAgain .answers ≡ Done ∷ Done ∷ Done ∷ Done ∷ []
   pub no-mark : savedPosition (pushedAgain .ends .handle) ≡ none

@@ -8,25 +8,9 @@
 mod mark;
 mod op;
 
-use base_limits::Answer;
-pub use history_ledger::Handle;
-pub use history_ledger::NOWHERE;
-pub use history_model::Moved;
+pub use history_ledger::fresh;
 pub use history_push::push;
 pub use history_redo::redo;
 pub use history_undo::undo;
-pub use mark::fresh;
 pub use mark::mark_saved;
 pub use op::replay;
-
-// What `mark_saved` answers, and the handle that it leaves.
-pub struct Marked {
-    pub answer: Answer,
-    pub handle: Handle,
-}
-
-// What `replay` answers, and the palette count after it.
-pub struct Replayed {
-    pub answer: Answer,
-    pub k: usize,
-}

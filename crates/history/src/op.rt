@@ -1,11 +1,11 @@
 // An edit done to a sheet apart from any history, where the sheet is as the edit says that it was:
 // `replay` of op.rs.
-use crate::Replayed;
-use base_limits::Answer;
-use base_limits::LIST_TOO_LONG;
-use base_limits::MAX_CHANGES;
-use base_limits::NO_SPACE;
-use edit::Edit;
+use base::Answer;
+use base::Edit;
+use base::LIST_TOO_LONG;
+use base::MAX_CHANGES;
+use base::NO_SPACE;
+use base::Replayed;
 use edit_apply::redo_edit;
 use edit_checks::own_no;
 use sheet::check;
@@ -13,7 +13,7 @@ use sheet::permitted_no;
 ghost use mathlib.Core.Path.{_≡_};
 ghost use mathlib.Core.List.{map};
 ghost use lib.ListN.{length};
-ghost use Rattle.base_limits.specs.Checks.{firstOf};
+ghost use Rattle.base.specs.Checks.{firstOf};
 ghost use Rattle.sheet.specs.Sheet.{sheetOf};
 ghost use Rattle.edit.specs.Change.{unpacked};
 ghost use Rattle.edit.specs.Checks.{permittedOf};
@@ -33,7 +33,13 @@ fn replay_no(
     list: &[u64],
     scratch: &mut [u8],
 ) -> u8
-    ensures { λ r. ⌜ r ≡ firstOf (replayChecks (length (now (scratch .entry))) (sheetOf w h k (now (palette .entry)) (now (lab .entry)) (now (indices .entry))) (permittedOf limited (now (permitted .entry))) edit (map unpacked (now (list .entry)))) ⌝ }
+    ensures { λ r. ⌜ (
+        let sheet = sheetOf w h k (now (palette .entry)) (now (lab .entry)) (now (indices .entry)) in
+        r
+        ≡ firstOf
+        (replayChecks (length (now (scratch .entry))) sheet (permittedOf limited (now (permitted .entry))) edit
+        (map unpacked (now (list .entry))))
+        ) ⌝ }
 {
     let given = permitted_no(limited, permitted);
     if given != 0 {
@@ -79,7 +85,12 @@ pub fn replay(
     list: &[u64],
     scratch: &mut [u8],
 ) -> Replayed
-    ensures { λ r. ⌜ replayed (r .answer) (sheetOf w h (r .k) (now (palette .exit)) (now (lab .exit)) (now (indices .exit))) ≡ replayOf (length (now (scratch .entry))) (sheetOf w h k (now (palette .entry)) (now (lab .entry)) (now (indices .entry))) (permittedOf limited (now (permitted .entry))) edit (map unpacked (now (list .entry))) ⌝ }
+    ensures { λ r. ⌜ (
+        let sheet = sheetOf w h k (now (palette .entry)) (now (lab .entry)) (now (indices .entry)) in
+        replayed (r .answer) (sheetOf w h (r .k) (now (palette .exit)) (now (lab .exit)) (now (indices .exit)))
+        ≡ replayOf (length (now (scratch .entry))) sheet (permittedOf limited (now (permitted .entry))) edit
+        (map unpacked (now (list .entry)))
+        ) ⌝ }
     ensures { λ _. ⌜ length (now (scratch .exit)) ≡ length (now (scratch .entry)) ⌝ }
 {
     let no = replay_no(

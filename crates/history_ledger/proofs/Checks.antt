@@ -6,16 +6,16 @@ use Prim.Native.Nat.{ℕ, zero, suc, _+_, _≤_}
 use lib.ListN.{length}
 use lib.Dec.{ltb}
 use borrow.Author.Tests.{le-ltb}
-use Rattle.base_limits.specs.Limits.{maxJournal}
-use Rattle.base_limits.specs.Numbers.{journalFull, listTooLong}
-use Rattle.base_limits.specs.Checks.{_when_, orElse, firstOf}
-use Rattle.base_limits.proofs.First.{or-else-zero}
+use Rattle.base.specs.Limits.{maxJournal}
+use Rattle.base.specs.Numbers.{journalFull, listTooLong}
+use Rattle.base.specs.Checks.{_when_, orElse, firstOf}
+use Rattle.base.proofs.First.{or-else-zero}
 use Rattle.history_ledger.specs.Handle.{sound}
 use Rattle.history_ledger.specs.Calls.{group}
 use Rattle.history_ledger.specs.Algebra.{Algebra}
 use Rattle.history_ledger.specs.Laws.{Laws}
 use Rattle.history_ledger.specs.Journal.{longJournal, unsound, shortScratch, entryChecks, pushChecks, moveChecks}
-use Rattle.history_ledger.specs.Ledger.{standing, pictureChecks}
+use Rattle.history_ledger.specs.Ledger.{standing, ledgerChecks}
 use Rattle.history_ledger.proofs.Refusals.{when-passes, each-passes}
 use Rattle.history_ledger.proofs.Trace.{total, Trace, Holds, sizes, journalOf, handleOf, stateOf, ledgerOf, stands}
 use Rattle.history_ledger.proofs.Lengths.{sound-handle}
@@ -47,7 +47,7 @@ module _ (A : Algebra) where
     pub entry : firstOf (entryChecks A (stateOf A k) e) ≡ givenCheck e
     pub rest : firstOf (pushChecks A room (stateOf A k) e)
         ≡ orElse (late (view (k .sheet)) e) (cond (ltb (length (journalOf A k)) (total (sizes A (k .past)) + size e)) journalFull 0)
-    pub ledger : firstOf (pictureChecks A (standing A (ledgerOf A k)) e) ≡ orElse (givenCheck e) (late (view (k .sheet)) e)
+    pub ledger : firstOf (ledgerChecks A (standing A (ledgerOf A k)) e) ≡ orElse (givenCheck e) (late (view (k .sheet)) e)
 
   module _ (L : Laws A) where
     pub late-empty : (p : Picture) (e : Edit) → isEmpty e ≡ true → late p e ≡ 0

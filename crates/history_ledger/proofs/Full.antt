@@ -7,22 +7,23 @@ use Prim.Native.Nat.{ℕ}
 use lib.ListN.{length}
 use lib.Dec.{ltb, eqb}
 use borrow.Author.Tests.{lt-ltb, le-ltb, ltb-true, ltb-false, not-false}
-use Rattle.base_limits.specs.Numbers.{journalDamaged, journalFull, noSpace, listTooLong}
-use Rattle.base_limits.specs.Checks.{firstOf, refusedOr}
-use Rattle.base_limits.specs.declared.Answer.the-variants.{Refused}
-use Rattle.history_ledger.specs.declared.Handle.{Handle}
+use Rattle.base.specs.Numbers.{journalDamaged, journalFull, noSpace, listTooLong}
+use Rattle.base.specs.Checks.{firstOf, refusedOr}
+use Rattle.base.specs.Answer.Told.{alone}
+use Rattle.base.proofs.Told.{same-number}
+use Rattle.base.specs.declared.Handle.{Handle}
 use Rattle.history_ledger.specs.Calls.{Outcome, guarded}
 use Rattle.history_ledger.specs.Calls.Call.{push, undo, redo, mark}
-use Rattle.history_ledger.specs.Algebra.{Algebra, Reading}
+use Rattle.history_ledger.specs.Algebra.{Algebra, Taken}
 use Rattle.history_ledger.specs.Laws.{Laws}
-use Rattle.history_ledger.specs.Journal.{State, shortScratch, entryChecks, pushChecks, pushOf, over, moveChecks, undoOf, redoOf, markOf}
+use Rattle.history_ledger.specs.Journal.{State, shortScratch, entryChecks, pushChecks, pushOf, stepOver, moveChecks, undoOf, redoOf, markOf}
 use Rattle.history_ledger.specs.Demand.{FullFirst, FullExactly}
-use Rattle.history_ledger.proofs.Refusals.{one, four, sixteen, twenty-one, when-other, when-passes, when-full, first-other, each-passes, done-other, same-number, still-full, guarded-full, done-full}
+use Rattle.history_ledger.proofs.Refusals.{one, four, sixteen, twenty-one, when-other, when-passes, when-full, first-other, each-passes, done-other, still-full, guarded-full, done-full}
 
 module _ (A : Algebra) (L : Laws A) where
   open Algebra A using (Sheet, Edit, view, places, ownCheck, isEmpty, isLong)
 
-  to-first : (room : ℕ) (st : State A) (e : Edit) → pushOf A room st e .answer ≡ Refused journalFull → FullFirst A room st e
+  to-first : (room : ℕ) (st : State A) (e : Edit) → pushOf A room st e .answer ≡ alone journalFull → FullFirst A room st e
   unfolding pushOf firstOf
   to-first room st e p =
       let a = guarded-full st (entryChecks A st e) _ (one, (L .given-not-full e, (L .sheet-not-full (st .sheet), (four, tt)))) p in
@@ -44,7 +45,7 @@ module _ (A : Algebra) (L : Laws A) where
         does-not-fit = ltb-true _ _ (when-full _ (own .1));
       }
 
-  from-first : (room : ℕ) (st : State A) (e : Edit) → FullFirst A room st e → pushOf A room st e .answer ≡ Refused journalFull
+  from-first : (room : ℕ) (st : State A) (e : Edit) → FullFirst A room st e → pushOf A room st e .answer ≡ alone journalFull
   unfolding pushOf firstOf refusedOr
   from-first room st e f =
       rw (
@@ -59,26 +60,26 @@ module _ (A : Algebra) (L : Laws A) where
         lt-ltb _ _ (f .does-not-fit),
       )
 
-  over-other : (st : State A) (reading : Option (Reading Sheet)) (inside : ℕ → Bool) (stepped : ℕ → Handle → Handle)
-      → ¬ (over A st reading inside stepped .answer ≡ Refused journalFull)
-  unfolding over
-  over-other st none inside stepped e = four (same-number journalDamaged journalFull e)
+  over-other : (st : State A) (reading : Option (Taken Sheet)) (inside : ℕ → Bool) (stepped : ℕ → Handle → Handle)
+      → ¬ (stepOver A st reading inside stepped .answer ≡ alone journalFull)
+  unfolding stepOver
+  over-other st none inside stepped e = four (same-number e)
   over-other st (some r) inside stepped e = done-other (guarded-full st _ _ (four, (four, tt)) e .1)
 
-  move-full : (st : State A) (o : Outcome (State A)) → guarded st (moveChecks A st) o .answer ≡ Refused journalFull → o .answer ≡ Refused journalFull
+  move-full : (st : State A) (o : Outcome (State A)) → guarded st (moveChecks A st) o .answer ≡ alone journalFull → o .answer ≡ alone journalFull
   move-full st o e = guarded-full st _ o (one, (L .sheet-not-full (st .sheet), (four, tt))) e .1
 
-  undo-other : (st : State A) → ¬ (undoOf A st .answer ≡ Refused journalFull)
+  undo-other : (st : State A) → ¬ (undoOf A st .answer ≡ alone journalFull)
   unfolding undoOf
   undo-other st e = over-other st _ _ _ (still-full st (eqb (st .handle .position) 0) _ (move-full st _ e) .1)
 
-  redo-other : (room : ℕ) (st : State A) → ¬ (redoOf A room st .answer ≡ Refused journalFull)
+  redo-other : (room : ℕ) (st : State A) → ¬ (redoOf A room st .answer ≡ alone journalFull)
   unfolding redoOf
   redo-other room st e =
       let a = still-full st (eqb (st .handle .position) (st .handle .count)) _ (move-full st _ e) in
       over-other st _ _ _ (guarded-full st (shortScratch A room st ∷ []) _ (sixteen, tt) (a .1) .1)
 
-  mark-other : (n : ℕ) (h : Handle) → ¬ (markOf n h .answer ≡ Refused journalFull)
+  mark-other : (n : ℕ) (h : Handle) → ¬ (markOf n h .answer ≡ alone journalFull)
   unfolding markOf
   mark-other n h e = done-other (guarded-full h _ _ (one, (four, tt)) e .1)
 

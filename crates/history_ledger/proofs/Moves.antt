@@ -8,16 +8,16 @@ use native.Mathlib.Omega.{arith}
 use lib.ListN.{length, length-append}
 use lib.Dec.{eqb·suc-zero}
 use borrow.Author.Tests.{le-leb, eq-eqb, ne-eqb}
-use Rattle.base_limits.specs.Limits.{maxJournal}
-use Rattle.base_limits.specs.Checks.{firstOf, refusedOr}
-use Rattle.base_limits.specs.declared.Answer.the-variants.{Done, Still}
-use Rattle.history_ledger.specs.declared.Handle.{Handle}
+use Rattle.base.specs.Limits.{maxJournal}
+use Rattle.base.specs.Checks.{firstOf, refusedOr}
+use Rattle.base.specs.Answer.{Done, Still}
+use Rattle.base.specs.declared.Handle.{Handle}
 use Rattle.history_ledger.specs.Handle.{steppedBack, steppedForth}
 use Rattle.history_ledger.specs.Calls.{done}
 use Rattle.history_ledger.specs.Calls.Call.{undo, redo, mark}
-use Rattle.history_ledger.specs.Algebra.{Algebra, Reading}
+use Rattle.history_ledger.specs.Algebra.{Algebra, Taken}
 use Rattle.history_ledger.specs.Laws.{Laws, Reads}
-use Rattle.history_ledger.specs.Journal.{markOf, over, undoOf, redoOf}
+use Rattle.history_ledger.specs.Journal.{markOf, stepOver, undoOf, redoOf}
 use Rattle.history_ledger.specs.Ledger.{enter, movedTo}
 use Rattle.history_ledger.proofs.Soundness.{same-handle}
 use Rattle.history_ledger.proofs.Saved.{SavedWithin}
@@ -30,11 +30,11 @@ module _ (A : Algebra) (L : Laws A) where
   open Algebra A using (Sheet)
 
   -- one step over a sound record, from the state of one trace to that of another with the same journal
-  steps-over : (here there : Trace A) (reading : Option (Reading Sheet)) (inside : ℕ → Bool) (stepped : ℕ → Handle → Handle) (m : ℕ)
+  steps-over : (here there : Trace A) (reading : Option (Taken Sheet)) (inside : ℕ → Bool) (stepped : ℕ → Handle → Handle) (m : ℕ)
       → reading ≡ some (record { length = m; sheet = there .sheet }) → inside m ≡ true → stepped m (handleOf A here) ≡ handleOf A there
       → journalOf A here ≡ journalOf A there → SavedWithin (length (there .past) + length (there .future)) (there .saved)
-      → over A (stateOf A here) reading inside stepped ≡ done (stateOf A there)
-  unfolding over firstOf refusedOr
+      → stepOver A (stateOf A here) reading inside stepped ≡ done (stateOf A there)
+  unfolding stepOver firstOf refusedOr
   steps-over here there reading inside stepped m p q e j s = rw (p, q, e, j, sound-handle A L there s)
 
 module _ (A : Algebra) (L : Laws A) (room n : ℕ) (permitted : n ≤ maxJournal) where

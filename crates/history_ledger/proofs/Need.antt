@@ -8,10 +8,9 @@ use native.Mathlib.Omega.{arith}
 use lib.ListN.{length}
 use lib.Dec.{ltb}
 use borrow.Author.Tests.{ltb-true, ltb-false}
-use Rattle.base_limits.specs.Limits.{maxJournal}
-use Rattle.base_limits.specs.declared.Answer.{Answer}
-use Rattle.history_ledger.specs.Calls.{Call, play, lend}
-use Rattle.history_ledger.specs.Algebra.{Algebra, WellFormed}
+use Rattle.base.specs.Limits.{maxJournal}
+use Rattle.history_ledger.specs.Calls.{Call, play, lend, Answer}
+use Rattle.history_ledger.specs.Algebra.{Algebra, WellFormedIn}
 use Rattle.history_ledger.specs.Laws.{Laws}
 use Rattle.history_ledger.specs.Journal.{opened, stepLent}
 use Rattle.history_ledger.specs.Demand.{isFull, TypedCalls}
@@ -52,7 +51,7 @@ module _ (A : Algebra) where
             rw (turn-fits A n t c fits, enter-unstruck A L (t .ledger) c) (later (omega arith))
 
   module _ (L : Laws A) where
-    pub journal-needed : (s : Sheet) → WellFormed A s → (journal : List ℕ) → length journal ≤ maxJournal → (rooms : ℕ → ℕ) → ((i : ℕ) → places (view s) ≤ rooms i)
+    pub journal-needed : (s : Sheet) → WellFormedIn A s → (journal : List ℕ) → length journal ≤ maxJournal → (rooms : ℕ → ℕ) → ((i : ℕ) → places (view s) ≤ rooms i)
         → (calls : List (Call Edit)) → TypedCalls A calls
         → let answers = play (stepLent A) (opened A s journal) (lend rooms calls) .answers in
         let least = need (tallyOf A (begin A s [])) calls in

@@ -1,8 +1,7 @@
 -- A list of calls, one call at a time. Assumes nothing.
 use mathlib.Core.Path.{_≡_, ap}
 use mathlib.Core.List.{List, _∷_}
-use Rattle.base_limits.specs.declared.Answer.{Answer}
-use Rattle.history_ledger.specs.Calls.{Outcome, Played, play}
+use Rattle.history_ledger.specs.Calls.{Outcome, Played, play, Answer}
 
 abbrev pub played : {S : Type 0} → List Answer → S → Played S
 played answers s = record { answers = answers; ends = s }

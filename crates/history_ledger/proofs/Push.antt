@@ -8,12 +8,12 @@ use lib.ListN.{length, take, drop, length-append, length-drop}
 use lib.Seq.{take-at}
 use lib.Dec.{ltb}
 use borrow.Author.Tests.{lt-ltb, le-ltb, ltb-true, ltb-false}
-use Rattle.base_limits.specs.Numbers.{journalFull}
-use Rattle.base_limits.specs.Checks.{refusedOr}
-use Rattle.base_limits.specs.declared.Answer.{Answer}
-use Rattle.base_limits.specs.declared.Answer.the-variants.{Done, Still, Refused}
+use Rattle.base.specs.Numbers.{journalFull}
+use Rattle.base.specs.Checks.{refusedOr}
+use Rattle.base.specs.Answer.{Done, Still}
+use Rattle.base.specs.Answer.Told.{alone}
 use Rattle.history_ledger.specs.Handle.{afterPush}
-use Rattle.history_ledger.specs.Calls.{done}
+use Rattle.history_ledger.specs.Calls.{done, Answer}
 use Rattle.history_ledger.specs.Calls.Call.{push}
 use Rattle.history_ledger.specs.Algebra.{Algebra}
 use Rattle.history_ledger.specs.Laws.{Laws, Accepts}
@@ -39,7 +39,7 @@ module _ (A : Algebra) (L : Laws A) (room n : ℕ) (k : Trace A) (h : Holds A ro
 
   given-refuses : (m : ℕ) → givenCheck e ≡ suc m → Stepped A room n k (push e)
   unfolding pushOf enter refusedOr
-  given-refuses m g = stays (Refused (suc m)) refl (rw (c .entry, g)) (rw (c .ledger, g))
+  given-refuses m g = stays (alone (suc m)) refl (rw (c .entry, g)) (rw (c .ledger, g))
 
   module _ (g : givenCheck e ≡ 0) where
     empty-still : isEmpty e ≡ true → Stepped A room n k (push e)
@@ -49,7 +49,7 @@ module _ (A : Algebra) (L : Laws A) (room n : ℕ) (k : Trace A) (h : Holds A ro
     module _ (r : isEmpty e ≡ false) where
       late-refuses : (m : ℕ) → late A (view (k .sheet)) e ≡ suc m → Stepped A room n k (push e)
       unfolding pushOf enter refusedOr
-      late-refuses m l = stays (Refused (suc m)) refl (rw (c .entry, g, r, c .rest, l)) (rw (c .ledger, g, l))
+      late-refuses m l = stays (alone (suc m)) refl (rw (c .entry, g, r, c .rest, l)) (rw (c .ledger, g, l))
 
       module _ (l : late A (view (k .sheet)) e ≡ 0) (typed : EditTyped e) where
         enters : enter A (ledgerOf A k) (push e) ≡ done (appended A (ledgerOf A k) (paint (standing A (ledgerOf A k)) e))
@@ -64,7 +64,7 @@ module _ (A : Algebra) (L : Laws A) (room n : ℕ) (k : Trace A) (h : Holds A ro
         full b =
             let t : ltb (length (journalOf A k)) (offset + size e) ≡ true = rw (h .sized) (lt-ltb n (offset + size e) b) in
             record {
-              answer = Refused journalFull;
+              answer = alone journalFull;
               to = k;
               holds = h;
               code = rw (c .entry, g, r, c .rest, l, t);

@@ -1,17 +1,18 @@
 -- Where an answer "journal full" comes from: from the first check that applies, or from what comes after the checks. Assumes nothing.
-use mathlib.Core.Path.{_≡_, refl, ap}
+use mathlib.Core.Path.{_≡_, refl, sym, ap}
 use mathlib.Core.Bool.{Bool, true, false, cond}
 use mathlib.Core.List.{List, [], _∷_}
 use mathlib.Core.Logic.{_⊎_, inl, inr, ⊎-elim}
 use Prim.Native.Nat.{ℕ, zero, suc}
 use native.Mathlib.Omega.{arith}
 use borrow.Author.Tests.{ne-eqb}
-use Rattle.base_limits.specs.Numbers.{badSheet, journalDamaged, journalFull, noSpace, listTooLong}
-use Rattle.base_limits.specs.Checks.{Check, orElse, firstOf, refusedOr}
-use Rattle.base_limits.specs.declared.Answer.{Answer}
-use Rattle.base_limits.specs.declared.Answer.the-variants.{Done, Still, Refused}
-use Rattle.base_limits.proofs.First.{first-passes}
-use Rattle.history_ledger.specs.Calls.{Outcome, done, still, refused, guarded}
+use Rattle.base.specs.Numbers.{badSheet, journalDamaged, journalFull, noSpace, listTooLong}
+use Rattle.base.specs.Checks.{Check, orElse, firstOf, refusedOr}
+use Rattle.base.specs.Answer.{Done, Still}
+use Rattle.base.specs.Answer.Told.{result, alone}
+use Rattle.base.proofs.Told.{alone-other, same-number}
+use Rattle.base.proofs.First.{first-passes}
+use Rattle.history_ledger.specs.Calls.{Outcome, done, still, refused, guarded, Answer}
 use Rattle.history_ledger.specs.Demand.{isFull}
 
 -- ---- numbers
@@ -71,38 +72,34 @@ each-passes [] e = tt
 each-passes (c ∷ cs) e = let both = first-passes (numberOf c) (firstOf cs) e in (both .0, each-passes cs (both .1))
 
 -- ---- answers
-pub same-number : (m n : ℕ) → Refused m ≡ Refused n → m ≡ n
-same-number m n e = cc
+pub done-other : ¬ (Done ≡ alone journalFull)
+done-other e = alone-other (sym e)
 
-pub done-other : ¬ (Done ≡ Refused journalFull)
-done-other e = let z : _≡_ {A = ℕ} 0 1 = cc in omega arith
+still-other : ¬ (Still ≡ alone journalFull)
+still-other e = let z : _≡_ {A = ℕ} 255 journalFull = same-number e in omega arith
 
-still-other : ¬ (Still ≡ Refused journalFull)
-still-other e = let z : _≡_ {A = ℕ} 0 1 = cc in omega arith
-
-pub not-full : (a : Answer) → ¬ (a ≡ Refused journalFull) → isFull a ≡ false
-not-full Done h = refl
-not-full Still h = refl
-not-full (Refused n) h = ne-eqb n journalFull (λ e. h (ap Refused e))
+pub not-full : (a : Answer) → ¬ (a ≡ alone journalFull) → isFull a ≡ false
+not-full (result done) h = refl
+not-full (alone n) h = ne-eqb n journalFull (λ e. h (ap alone e))
 
 -- ---- outcomes
 module _ {S : Type 0} (s : S) where
-  pub still-full : (b : Bool) (o : Outcome S) → cond b (still s) o .answer ≡ Refused journalFull → (b ≡ false) × (o .answer ≡ Refused journalFull)
+  pub still-full : (b : Bool) (o : Outcome S) → cond b (still s) o .answer ≡ alone journalFull → (b ≡ false) × (o .answer ≡ alone journalFull)
   still-full true o e = absurd (still-other e)
   still-full false o e = (refl, e)
 
-  guarded-either : (cs : List Check) (o : Outcome S) → guarded s cs o .answer ≡ Refused journalFull
-      → (firstOf cs ≡ journalFull) ⊎ ((firstOf cs ≡ 0) × (o .answer ≡ Refused journalFull))
+  guarded-either : (cs : List Check) (o : Outcome S) → guarded s cs o .answer ≡ alone journalFull
+      → (firstOf cs ≡ journalFull) ⊎ ((firstOf cs ≡ 0) × (o .answer ≡ alone journalFull))
   unfolding refusedOr
   guarded-either cs o e = go (firstOf cs) e
     where
-      go : (m : ℕ) → refusedOr m (refused s) o .answer ≡ Refused journalFull → (m ≡ journalFull) ⊎ ((m ≡ 0) × (o .answer ≡ Refused journalFull))
+      go : (m : ℕ) → refusedOr m (refused s) o .answer ≡ alone journalFull → (m ≡ journalFull) ⊎ ((m ≡ 0) × (o .answer ≡ alone journalFull))
       go zero e = inr (refl, e)
-      go (suc m) e = inl (same-number (suc m) journalFull e)
+      go (suc m) e = inl (same-number e)
 
-  pub guarded-full : (cs : List Check) (o : Outcome S) → NoneFull cs → guarded s cs o .answer ≡ Refused journalFull
-      → (firstOf cs ≡ 0) × (o .answer ≡ Refused journalFull)
+  pub guarded-full : (cs : List Check) (o : Outcome S) → NoneFull cs → guarded s cs o .answer ≡ alone journalFull
+      → (firstOf cs ≡ 0) × (o .answer ≡ alone journalFull)
   guarded-full cs o t e = ⊎-elim (λ z. absurd (none-full cs t z)) (λ z. z) (guarded-either cs o e)
 
-  pub done-full : (cs : List Check) (s′ : S) → guarded s cs (done s′) .answer ≡ Refused journalFull → firstOf cs ≡ journalFull
+  pub done-full : (cs : List Check) (s′ : S) → guarded s cs (done s′) .answer ≡ alone journalFull → firstOf cs ≡ journalFull
   done-full cs s′ e = ⊎-elim (λ z. z) (λ z. absurd (done-other (z .1))) (guarded-either cs (done s′) e)

@@ -8,13 +8,13 @@ use native.Mathlib.Omega.{arith}
 use lib.ListN.{length}
 use lib.Dec.{ltb, eqb}
 use borrow.Author.Tests.{ltb-true, ltb-false}
-use Rattle.base_limits.specs.Numbers.{journalFull}
-use Rattle.base_limits.specs.declared.Answer.the-variants.{Refused}
+use Rattle.base.specs.Numbers.{journalFull}
+use Rattle.base.specs.Answer.Told.{alone}
 use Rattle.history_ledger.specs.Calls.{Call, Played, play}
 use Rattle.history_ledger.specs.Calls.Call.{push, undo, redo, mark}
 use Rattle.history_ledger.specs.Algebra.{Algebra}
 use Rattle.history_ledger.specs.Laws.{Laws}
-use Rattle.history_ledger.specs.Ledger.{Ledger, standing, pictureChecks, enter}
+use Rattle.history_ledger.specs.Ledger.{Ledger, standing, ledgerChecks, enter}
 use Rattle.history_ledger.specs.Demand.{isFull, unstruck}
 use Rattle.history_ledger.proofs.Refusals.{twenty-one, done-other, not-full, still-full, guarded-full}
 use Rattle.history_ledger.proofs.Playing.{played, onward, play-cons}
@@ -24,11 +24,11 @@ module _ (A : Algebra) (L : Laws A) where
   open Algebra A using (Edit, isEmpty)
 
   -- the ledger never answers "journal full"
-  enter-other : (l : Ledger A) (c : Call Edit) → ¬ (enter A l c .answer ≡ Refused journalFull)
+  enter-other : (l : Ledger A) (c : Call Edit) → ¬ (enter A l c .answer ≡ alone journalFull)
   unfolding enter
   enter-other l (push e) p =
       let s = standing A l in
-      let a = guarded-full l (pictureChecks A s e) _ (L .given-not-full e, (L .picture-not-full s, (twenty-one, (L .own-not-full s e, tt)))) p in
+      let a = guarded-full l (ledgerChecks A s e) _ (L .given-not-full e, (L .picture-not-full s, (twenty-one, (L .own-not-full s e, tt)))) p in
       done-other (still-full l (isEmpty e) _ (a .1) .1)
   enter-other l undo p = done-other (still-full l (eqb (l .position) 0) _ p .1)
   enter-other l redo p = done-other (still-full l (eqb (l .position) (length (l .later))) _ p .1)

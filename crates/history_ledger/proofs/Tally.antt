@@ -7,10 +7,9 @@ use Prim.Native.Nat.{ℕ, _+_, _≤_, _<_}
 use native.Mathlib.Omega.{arith}
 use lib.Dec.{ltb}
 use borrow.Author.Tests.{lt-ltb, le-ltb}
-use Rattle.base_limits.specs.Numbers.{journalFull}
-use Rattle.base_limits.specs.declared.Answer.{Answer}
-use Rattle.base_limits.specs.declared.Answer.the-variants.{Done, Still, Refused}
-use Rattle.history_ledger.specs.Calls.{Call, Outcome, refused}
+use Rattle.base.specs.Numbers.{journalFull}
+use Rattle.base.specs.Answer.Told.{result, alone}
+use Rattle.history_ledger.specs.Calls.{Call, Outcome, refused, Answer}
 use Rattle.history_ledger.specs.Calls.Call.{push, undo, redo, mark}
 use Rattle.history_ledger.specs.Algebra.{Algebra}
 use Rattle.history_ledger.specs.Journal.{step}
@@ -18,9 +17,8 @@ use Rattle.history_ledger.specs.Ledger.{Ledger, enter}
 use Rattle.history_ledger.proofs.Trace.{total, Trace, Holds, sizes, stateOf, ledgerOf}
 
 abbrev pub isDone : Answer → Bool
-isDone Done = true
-isDone Still = false
-isDone (Refused n) = false
+isDone (result done) = true
+isDone (alone n) = false
 
 -- the lengths of the records before the standing position, the last first, and after it, the next first
 pub record Lengths : Type 0 where

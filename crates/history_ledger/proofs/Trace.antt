@@ -7,8 +7,8 @@ use Prim.Native.Nat.{ℕ, _+_, _≤_}
 use native.Mathlib.Omega.{arith}
 use lib.ListN.{length, getD, length-append}
 use lib.Seq.{getD-at}
-use Rattle.history_ledger.specs.declared.Handle.{Handle}
-use Rattle.history_ledger.specs.Algebra.{Algebra, WellFormed}
+use Rattle.base.specs.declared.Handle.{Handle}
+use Rattle.history_ledger.specs.Algebra.{Algebra, WellFormedIn}
 use Rattle.history_ledger.specs.Laws.{Accepts}
 use Rattle.history_ledger.specs.Journal.{State}
 use Rattle.history_ledger.specs.Ledger.{Ledger, standing}
@@ -103,7 +103,7 @@ module _ (A : Algebra) where
 
   -- what holds of every trace on the way, in a journal of n bytes and with `room` places of scratch
   pub record Holds (room n : ℕ) (k : Trace) : Type 0 where
-    pub fits : WellFormed A (k .sheet)
+    pub fits : WellFormedIn A (k .sheet)
     pub scratch : places (view (k .sheet)) ≤ room
     pub sized : length (journalOf k) ≡ n
     pub leads : Leads (k .opening) (k .past) (view (k .sheet))
@@ -114,7 +114,7 @@ module _ (A : Algebra) where
   abbrev pub begin : Sheet → List ℕ → Trace
   begin s journal = record { opening = view s; sheet = s; past = []; future = []; rest = journal; saved = some 0 }
 
-  pub begins : (s : Sheet) (journal : List ℕ) (room : ℕ) → WellFormed A s → places (view s) ≤ room → Holds room (length journal) (begin s journal)
+  pub begins : (s : Sheet) (journal : List ℕ) (room : ℕ) → WellFormedIn A s → places (view s) ≤ room → Holds room (length journal) (begin s journal)
   begins s journal room w b = record { fits = w; scratch = b; sized = refl; leads = refl; follows = tt; saves = omega arith }
 
   pub pictures-length : (xs : List Pushed) → length (pastPictures xs) ≡ length xs

@@ -6,9 +6,8 @@ use mathlib.Core.List.{List, [], _∷_}
 use Prim.Native.Nat.{ℕ, suc, _≤_}
 use native.Mathlib.Omega.{arith}
 use lib.ListN.{length}
-use Rattle.base_limits.specs.Limits.{maxJournal}
-use Rattle.base_limits.specs.declared.Answer.{Answer}
-use Rattle.history_ledger.specs.Calls.{Call, play, lend}
+use Rattle.base.specs.Limits.{maxJournal}
+use Rattle.history_ledger.specs.Calls.{Call, play, lend, Answer}
 use Rattle.history_ledger.specs.Calls.Call.{push, undo, redo, mark}
 use Rattle.history_ledger.specs.Algebra.{Algebra}
 use Rattle.history_ledger.specs.Laws.{Laws}

@@ -7,7 +7,7 @@ use mathlib.Core.Option.{Option}
 use Prim.Native.Nat.{ℕ}
 
 -- a sound record that undo or redo has read: its length, and the sheet on its other side
-pub record Reading (Sheet : Type 0) : Type 0 where
+pub record Taken (Sheet : Type 0) : Type 0 where
   pub length : ℕ
   pub sheet : Sheet
 
@@ -37,14 +37,15 @@ pub record Algebra : Type 1 where
   pub make : Sheet → Edit → Sheet
   pub encode : Sheet → Edit → List ℕ
   pub size : Edit → ℕ
-  -- ---- undo and redo: the reading of the record that ends the bytes before the standing offset, and of the one that starts the used bytes after it; none where
-  -- "its kind, counts and lengths" do not agree, or `can_revert`, push's checks or the well-formed sheet fail
-  pub back : List ℕ → Sheet → Option (Reading Sheet)
-  pub forth : List ℕ → Sheet → Option (Reading Sheet)
+  -- ---- undo and redo: the reading of the record that ends the bytes before the standing offset, and of the one that
+  -- starts the used bytes after it; none where "its kind, counts and lengths" do not agree, or `can_revert`, push's
+  -- checks or the well-formed sheet fail
+  pub back : List ℕ → Sheet → Option (Taken Sheet)
+  pub forth : List ℕ → Sheet → Option (Taken Sheet)
   -- ---- ledger: "the picture `redo` makes"
   pub paint : Picture → Edit → Picture
 
 -- "A sheet is well-formed where none of 1 to 3 applies"
-pub record WellFormed (A : Algebra) (s : A .Sheet) : Type 0 where
+pub record WellFormedIn (A : Algebra) (s : A .Sheet) : Type 0 where
   pub typed : A .SheetTyped s
   pub passes : A .sheetCheck s ≡ 0

@@ -2,14 +2,18 @@
 use mathlib.Core.Bool.{true}
 use mathlib.Core.List.{List, [], _∷_}
 use Prim.Native.Nat.{ℕ, suc}
-use Rattle.base_limits.specs.Checks.{Check, _when_, checked}
-use Rattle.base_limits.specs.declared.Answer.{Answer}
-use Rattle.base_limits.specs.declared.Answer.the-variants.{Done, Still, Refused}
+use Rattle.base.specs.Checks.{Check, _when_, checked}
+use Rattle.base.specs.Answer.{Told, Done, Still}
+use Rattle.base.specs.Answer.Told.{alone}
 
 -- the calls of demand 3: "push, undo, redo and mark-saved", a push with its arguments
 pub data Call (Edit : Type 0) : Type 0 where
   push : Edit → Call Edit
   undo redo mark : Call Edit
+
+-- a number: "00 done, FF still, else number"
+abbrev pub Answer : Type 0
+Answer = Told (Unit {0})
 
 -- what a call answers, and what it leaves of what it was handed
 pub record Outcome (S : Type 0) : Type 0 where
@@ -24,7 +28,7 @@ still s = record { answer = Still; leaves = s }
 
 -- "A refusal returns its number alone; lent memory and handle keep their bits"
 abbrev pub refused : {S : Type 0} → S → ℕ → Outcome S
-refused s n = record { answer = Refused n; leaves = s }
+refused s n = record { answer = alone n; leaves = s }
 
 -- the first check that applies refuses, else comes the outcome
 abbrev pub guarded : {S : Type 0} → S → List Check → Outcome S → Outcome S

@@ -7,22 +7,20 @@ use mathlib.Core.List.{List, [], _∷_}
 use Prim.Native.Nat.{ℕ, _+_, _≤_, _<_}
 use lib.ListN.{length}
 use lib.Dec.{eqb}
-use Rattle.base_limits.specs.Limits.{maxJournal}
-use Rattle.base_limits.specs.Numbers.{journalFull}
-use Rattle.base_limits.specs.declared.Answer.{Answer}
-use Rattle.base_limits.specs.declared.Answer.the-variants.{Done, Still, Refused}
+use Rattle.base.specs.Limits.{maxJournal}
+use Rattle.base.specs.Numbers.{journalFull}
+use Rattle.base.specs.Answer.Told.{result, alone}
 use Rattle.history_ledger.specs.Handle.{savedPosition, sound}
-use Rattle.history_ledger.specs.Calls.{Call, Played, play, lend}
+use Rattle.history_ledger.specs.Calls.{Call, Answer, Played, play, lend}
 use Rattle.history_ledger.specs.Calls.Call.{push, undo, redo, mark}
-use Rattle.history_ledger.specs.Algebra.{Algebra, WellFormed}
+use Rattle.history_ledger.specs.Algebra.{Algebra, WellFormedIn}
 use Rattle.history_ledger.specs.Journal.{State, opened, step, stepLent}
 use Rattle.history_ledger.specs.Ledger.{Ledger, begun, standing, enter}
 
 -- a call with the answer "journal full" is struck
 abbrev pub isFull : Answer → Bool
-isFull Done = false
-isFull Still = false
-isFull (Refused n) = eqb n journalFull
+isFull (result done) = false
+isFull (alone n) = eqb n journalFull
 
 -- "the calls not struck", from the calls and their answers; and, in the same way, the answers of these calls
 unfoldable pub unstruck : {X : Type 0} → List X → List Answer → List X
@@ -57,13 +55,14 @@ module _ (A : Algebra) where
     pub first-ends : Matches (first .ends) (ledger .ends)
     pub second-ends : Matches (second .ends) (ledger .ends)
 
-  -- Demand 3, "a statement about the whole list at once": for every list of calls, from every well-formed sheet, in any two permitted journals of which the second is
-  -- not the shorter ("At the start journal and scratch have any contents"). Each call of either run has scratch of its own, of w × h places at least: in the first
-  -- run call number i has `rooms i` places, in the second `rooms′ i`. "Both runs and the ledger start from the same sheet; the second run and the ledger get only
-  -- the calls not struck."
+  -- Demand 3, "a statement about the whole list at once": for every list of calls, from every well-formed sheet, in any
+  -- two permitted journals of which the second is not the shorter ("At the start journal and scratch have any
+  -- contents"). Each call of either run has scratch of its own, of w × h places at least: in the first run call number
+  -- i has `rooms i` places, in the second `rooms′ i`. "Both runs and the ledger start from the same sheet; the second
+  -- run and the ledger get only the calls not struck."
   abbrev pub WholeHistory : Type 0
   WholeHistory =
-      (s : Sheet) → WellFormed A s
+      (s : Sheet) → WellFormedIn A s
       → (shorter longer : List ℕ) → length shorter ≤ length longer → length longer ≤ maxJournal
       → (rooms rooms′ : ℕ → ℕ) → ((i : ℕ) → places (view s) ≤ rooms i) → ((i : ℕ) → places (view s) ≤ rooms′ i)
       → (calls : List (Call Edit)) → TypedCalls calls
@@ -73,8 +72,8 @@ module _ (A : Algebra) where
       let ledger = play (enter A) (begun A (view s)) left in
       SameHistory (unstruck (first .answers) (first .answers)) first second ledger
 
-  -- 14 is the first check to apply to a push: none of 1 to 4 does, nor 21, 16 or one of its own, nor is it "still"; and "standing offset + record length > journal
-  -- length"
+  -- 14 is the first check to apply to a push: none of 1 to 4 does, nor 21, 16 or one of its own, nor is it "still"; and
+  -- "standing offset + record length > journal length"
   pub record FullFirst (room : ℕ) (st : State A) (e : Edit) : Type 0 where
     pub permitted : length (st .journal) ≤ maxJournal
     pub given-passes : givenCheck e ≡ 0
@@ -95,4 +94,4 @@ module _ (A : Algebra) where
 
   -- "journal full" is answered exactly where 14 is the first check to apply, empty pixel lists apart: by every call, in every state
   abbrev pub FullExactly : Type 0
-  FullExactly = (room : ℕ) (st : State A) (c : Call Edit) → (step A room st c .answer ≡ Refused journalFull) ↔ FullCall room st c
+  FullExactly = (room : ℕ) (st : State A) (c : Call Edit) → (step A room st c .answer ≡ alone journalFull) ↔ FullCall room st c

@@ -4,7 +4,7 @@ use mathlib.Core.List.{List, [], _∷_}
 use mathlib.Core.Option.{Option, none, some}
 use Prim.Native.Nat.{ℕ, _+_, _-_, _*_}
 use lib.Dec.{leb, eqb}
-use Rattle.history_ledger.specs.declared.Handle.{Handle}
+use Rattle.base.specs.declared.Handle.{Handle}
 
 -- "saved position or none": all ones for none
 abbrev pub nowhere : ℕ
@@ -17,8 +17,9 @@ savedPosition h = cond (eqb (h .saved) nowhere) none (some (h .saved))
 abbrev pub fresh : Handle
 fresh = record { offset = 0; end = 0; position = 0; count = 0; saved = 0 }
 
--- "It is sound when standing offset ≤ end ≤ journal length, position ≤ count, saved ≤ count, 8 × position ≤ offset, 8 × (count - position) ≤ end - offset, offset 0
--- exactly at position 0, offset = end exactly at position = count": its clauses, in a journal of `size` bytes
+-- "It is sound when standing offset ≤ end ≤ journal length, position ≤ count, saved ≤ count, 8 × position ≤ offset, 8 ×
+-- (count - position) ≤ end - offset, offset 0 exactly at position 0, offset = end exactly at position = count": its
+-- clauses, in a journal of `size` bytes
 unfoldable pub clauses : ℕ → Handle → List Bool
 clauses size h =
     leb (h .offset) (h .end)
@@ -38,8 +39,8 @@ allOf (b ∷ bs) = b && allOf bs
 unfoldable pub sound : ℕ → Handle → Bool
 sound size h = allOf (clauses size h)
 
--- "An accepted push makes end the standing offset after the record", here of n bytes; the ledger's "drop pictures after the standing one, forget a saved position
--- beyond it, append .., step up"
+-- "An accepted push makes end the standing offset after the record", here of n bytes; the ledger's "drop pictures after
+-- the standing one, forget a saved position beyond it, append .., step up"
 abbrev pub afterPush : ℕ → Handle → Handle
 afterPush n h =
     record {

@@ -5,14 +5,14 @@ use mathlib.Core.Option.{Option, none, some}
 use Prim.Native.Nat.{ℕ, _+_, _-_}
 use lib.ListN.{length, take, drop}
 use lib.Dec.{ltb, leb, eqb}
-use Rattle.base_limits.specs.Limits.{maxJournal}
-use Rattle.base_limits.specs.Numbers.{badSheet, journalDamaged, journalFull, noSpace, listTooLong}
-use Rattle.base_limits.specs.Checks.{Check, _when_}
-use Rattle.history_ledger.specs.declared.Handle.{Handle}
+use Rattle.base.specs.Limits.{maxJournal}
+use Rattle.base.specs.Numbers.{badSheet, journalDamaged, journalFull, noSpace, listTooLong}
+use Rattle.base.specs.Checks.{Check, _when_}
+use Rattle.base.specs.declared.Handle.{Handle}
 use Rattle.history_ledger.specs.Handle.{fresh, sound, afterPush, steppedBack, steppedForth, marked}
 use Rattle.history_ledger.specs.Calls.{Call, Outcome, Lent, done, still, refused, guarded, group}
 use Rattle.history_ledger.specs.Calls.Call.{push, undo, redo, mark}
-use Rattle.history_ledger.specs.Algebra.{Algebra, Reading}
+use Rattle.history_ledger.specs.Algebra.{Algebra, Taken}
 
 -- 1: "A journal has at most 2,147,483,647 bytes", this one n
 abbrev pub longJournal : ℕ → Check
@@ -48,7 +48,9 @@ module _ (A : Algebra) where
 
   -- ---- push: 1, 2, 3, 4; "still" for an empty pixel list; 21, 16, its own, 14
   abbrev pub entryChecks : State → Edit → List Check
-  entryChecks st e = longJournal (length (st .journal)) ∷ group (givenCheck e) ∷ group (sheetCheck (st .sheet)) ∷ unsound (length (st .journal)) (st .handle) ∷ []
+  entryChecks st e =
+      longJournal (length (st .journal)) ∷ group (givenCheck e) ∷ group (sheetCheck (st .sheet))
+      ∷ unsound (length (st .journal)) (st .handle) ∷ []
 
   -- 14: "standing offset + record length > journal length"
   abbrev pub pushChecks : ℕ → State → Edit → List Check
@@ -74,11 +76,11 @@ module _ (A : Algebra) where
       (guarded st (pushChecks room st e)
       (done (pushed st e))))
 
-  -- ---- one step over a record, as undo and redo read it: "A record is sound if it is inside the used part .., the handle after the step is sound", and the reading
-  -- is one
-  unfoldable pub over : State → Option (Reading Sheet) → (ℕ → Bool) → (ℕ → Handle → Handle) → Outcome State
-  over st none inside stepped = refused st journalDamaged
-  over st (some r) inside stepped =
+  -- ---- one step over a record, as undo and redo read it: "A record is sound if it is inside the used part .., the
+  -- handle after the step is sound", and the reading is one
+  unfoldable pub stepOver : State → Option (Taken Sheet) → (ℕ → Bool) → (ℕ → Handle → Handle) → Outcome State
+  stepOver st none inside stepped = refused st journalDamaged
+  stepOver st (some r) inside stepped =
       let handle = stepped (r .length) (st .handle) in
       guarded st (journalDamaged when not (inside (r .length)) ∷ unsound (length (st .journal)) handle ∷ [])
       (done (record { sheet = r .sheet; journal = st .journal; handle = handle }))
@@ -93,7 +95,7 @@ module _ (A : Algebra) where
       let offset = st .handle .offset in
       guarded st (moveChecks st)
       (cond (eqb (st .handle .position) 0) (still st)
-      (over st (back (take offset (st .journal)) (st .sheet)) (λ n. leb n offset) steppedBack))
+      (stepOver st (back (take offset (st .journal)) (st .sheet)) (λ n. leb n offset) steppedBack))
 
   -- ---- redo: 1, 2, 3, 4; "still" at the last; 16; 4 for the record
   unfoldable pub redoOf : ℕ → State → Outcome State
@@ -103,7 +105,7 @@ module _ (A : Algebra) where
       guarded st (moveChecks st)
       (cond (eqb (st .handle .position) (st .handle .count)) (still st)
       (guarded st (shortScratch room st ∷ [])
-      (over st (forth (take (end - offset) (drop offset (st .journal))) (st .sheet)) (λ n. leb (offset + n) end) steppedForth)))
+      (stepOver st (forth (take (end - offset) (drop offset (st .journal))) (st .sheet)) (λ n. leb (offset + n) end) steppedForth)))
 
   -- ---- a call, with `room` places of scratch
   abbrev pub step : ℕ → State → Call Edit → Outcome State

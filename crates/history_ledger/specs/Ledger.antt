@@ -5,8 +5,8 @@ use mathlib.Core.Option.{Option, none, some}
 use Prim.Native.Nat.{ℕ, _+_, _-_}
 use lib.ListN.{length, take, getD}
 use lib.Dec.{leb, eqb}
-use Rattle.base_limits.specs.Numbers.{listTooLong}
-use Rattle.base_limits.specs.Checks.{Check, _when_}
+use Rattle.base.specs.Numbers.{listTooLong}
+use Rattle.base.specs.Checks.{Check, _when_}
 use Rattle.history_ledger.specs.Calls.{Call, Outcome, done, still, guarded, group}
 use Rattle.history_ledger.specs.Calls.Call.{push, undo, redo, mark}
 use Rattle.history_ledger.specs.Algebra.{Algebra}
@@ -34,8 +34,8 @@ module _ (A : Algebra) where
   standing l = getD (l .opening ∷ l .later) (l .position) (l .opening)
 
   -- "the first of push's checks, 4, 16 and 14 left out, that applies to standing picture and arguments"
-  abbrev pub pictureChecks : Picture → Edit → List Check
-  pictureChecks p e = group (givenCheck e) ∷ group (pictureCheck p) ∷ listTooLong when isLong e ∷ group (ownCheck p e) ∷ []
+  abbrev pub ledgerChecks : Picture → Edit → List Check
+  ledgerChecks p e = group (givenCheck e) ∷ group (pictureCheck p) ∷ listTooLong when isLong e ∷ group (ownCheck p e) ∷ []
 
   -- "drop pictures after the standing one, forget a saved position beyond it, append the picture `redo` makes, step up"
   unfoldable pub appended : Ledger → Picture → Ledger
@@ -53,7 +53,7 @@ module _ (A : Algebra) where
   unfoldable pub enter : Ledger → Call Edit → Outcome Ledger
   -- "gives its number and no change. Else empty pixels are "still". Else .. "done""
   enter l (push e) =
-      guarded l (pictureChecks (standing l) e)
+      guarded l (ledgerChecks (standing l) e)
       (cond (isEmpty e) (still l)
       (done (appended l (paint (standing l) e))))
   -- "Undo: at 0 "still", else one down, "done""

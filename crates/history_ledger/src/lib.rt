@@ -3,92 +3,80 @@
 //
 // What the calls over these steps do together, whatever the sheet, the edits and the records are, is
 // document 01's demand 3: specs/Demand.antt has the statement.
+use base::Handle;
+use base::NOWHERE;
 ghost use mathlib.Core.Path.{_≡_};
 ghost use Prim.Native.Nat.{_+_, _≤_, _<_};
-ghost use Rattle.base_limits.specs.Limits.{maxJournal};
+ghost use Rattle.base.specs.Limits.{maxJournal};
 ghost use Rattle.history_ledger.specs.Handle.{fresh, sound, afterPush, steppedBack, steppedForth, marked, dirty};
 
-// No saved position.
-pub const NOWHERE: usize = 18_446_744_073_709_551_615;
-
-// Document 01's "handle": standing offset, end offset, standing position, count, saved position or NOWHERE.
-pub struct Handle {
-    pub offset: usize,
-    pub end: usize,
-    pub position: usize,
-    pub count: usize,
-    pub saved: usize,
+// The handle of a history without records, which is as it was saved.
+pub fn fresh() -> Handle
+    ensures { λ r. ⌜ r ≡ fresh ⌝ }
+{
+    Handle {
+        offset: 0,
+        end: 0,
+        position: 0,
+        count: 0,
+        saved: 0,
+    }
 }
 
-impl Handle {
-    // The handle of a history without records.
-    pub fn fresh() -> Handle
-        ensures { λ r. ⌜ r ≡ fresh ⌝ }
-    {
-        Handle {
-            offset: 0,
-            end: 0,
-            position: 0,
-            count: 0,
-            saved: 0,
-        }
+// Whether the handle is sound in a journal of so many bytes: a test for each clause of document 01. A record
+// has 8 bytes or more; the bytes are divided, since 8 * position might not fit.
+pub fn sound(handle: Handle, size: usize) -> bool
+    ensures { λ r. ⌜ r ≡ sound size handle ⌝ }
+{
+    let offset = handle.offset;
+    let end = handle.end;
+    let position = handle.position;
+    let count = handle.count;
+    let saved = handle.saved;
+    if end < offset {
+        return false;
     }
+    if size < end {
+        return false;
+    }
+    if count < position {
+        return false;
+    }
+    if saved != NOWHERE && count < saved {
+        return false;
+    }
+    if offset / 8 < position {
+        return false;
+    }
+    if (end - offset) / 8 < count - position {
+        return false;
+    }
+    if (offset == 0) != (position == 0) {
+        return false;
+    }
+    if (offset == end) != (position == count) {
+        return false;
+    }
+    true
+}
 
-    // Whether the handle is sound in a journal of so many bytes: a test for each clause of document 01. A record
-    // has 8 bytes or more; the bytes are divided, since 8 * position might not fit.
-    pub fn sound(self, size: usize) -> bool
-        ensures { λ r. ⌜ r ≡ sound size self ⌝ }
-    {
-        let offset = self.offset;
-        let end = self.end;
-        let position = self.position;
-        let count = self.count;
-        let saved = self.saved;
-        if end < offset {
-            return false;
-        }
-        if size < end {
-            return false;
-        }
-        if count < position {
-            return false;
-        }
-        if saved != NOWHERE && count < saved {
-            return false;
-        }
-        if offset / 8 < position {
-            return false;
-        }
-        if (end - offset) / 8 < count - position {
-            return false;
-        }
-        if (offset == 0) != (position == 0) {
-            return false;
-        }
-        if (offset == end) != (position == count) {
-            return false;
-        }
-        true
-    }
+// The handle with its standing position saved.
+pub fn marked(mut handle: Handle) -> Handle
+    ensures { λ r. ⌜ r ≡ marked handle ⌝ }
+{
+    handle.saved = handle.position;
+    handle
+}
 
-    // The handle with its standing position saved.
-    pub fn marked(mut self) -> Handle
-        ensures { λ r. ⌜ r ≡ marked self ⌝ }
-    {
-        self.saved = self.position;
-        self
+// Whether no position is saved, or another than the standing one.
+pub fn is_dirty(handle: Handle) -> bool
+    ensures { λ r. ⌜ r ≡ dirty handle ⌝ }
+{
+    let saved = handle.saved;
+    if saved == NOWHERE {
+        return true;
     }
-
-    // Whether no position is saved, or another than the standing one.
-    pub fn is_dirty(self) -> bool
-        ensures { λ r. ⌜ r ≡ dirty self ⌝ }
-    {
-        let saved = self.saved;
-        if saved == NOWHERE {
-            return true;
-        }
-        saved != self.position
-    }
+    saved != handle.position
 }
 
 // The handle after a push of a record of n bytes, which is the last one then. A saved position beyond the

@@ -9,17 +9,17 @@ use lib.Dec.{T}
 use lib.Ieee.{Float, nan, inf, fin, isNan}
 use lib.ListN.{length, take, drop, getD, length-map, length-drop}
 use lib.Seq.{length-take-le, getD-take, drop-drop}
-use Rattle.base_limits.specs.Limits.{maxChanges, maxJournal}
-use Rattle.base_limits.specs.declared.Answer.the-variants.{Done}
-use Rattle.base_lists.specs.Lists.{over}
-use Rattle.base_lists.proofs.Scan.{some-none}
+use Rattle.base.specs.Limits.{maxChanges, maxJournal}
+use Rattle.base.specs.Answer.{Done}
+use Rattle.base.specs.Lists.{over}
+use Rattle.base.proofs.Scan.{some-none}
 use Rattle.color_doubles.specs.Finite.{unfit}
-use Rattle.base_storage.specs.Triples.{labAt}
+use Rattle.base.specs.Triples.{labAt}
 use Rattle.color_lab.specs.Convert.{labOf}
 use Rattle.sheet.specs.Sheet.{Sheet}
 use Rattle.sheet.specs.Checks.{WellFormed}
-use Rattle.edit.specs.declared.Edit.{Edit}
-use Rattle.edit.specs.declared.Edit.the-variants.{Pixels, PaletteSet, PaletteAdd, PaletteRemove}
+use Rattle.base.specs.declared.Edit.{Edit}
+use Rattle.base.specs.declared.Edit.the-variants.{Pixels, PaletteSet, PaletteAdd, PaletteRemove}
 use Rattle.edit.specs.Change.{Change, unpacked}
 use Rattle.edit.specs.Apply.{filledEdit, filledChanges, redone}
 use Rattle.edit.proofs.Passed.{Passed, passed}
@@ -30,7 +30,7 @@ use Rattle.journal_write.specs.Fit.{Numbers, Writable, rowsOf}
 use Rattle.journal_record.specs.Record.{recordLength, recordOf}
 use Rattle.journal_record.proofs.Splice.{splice-lent}
 use Rattle.journal_write.proofs.OnTheSheet.{rows-fill}
-use Rattle.history_ledger.specs.declared.Handle.{Handle}
+use Rattle.base.specs.declared.Handle.{Handle}
 use Rattle.history_ledger.specs.Handle.{afterPush}
 use Rattle.history_ledger.specs.Calls.{done}
 use Rattle.history_ledger.specs.Journal.{State, written, pushed}

@@ -9,18 +9,19 @@ use lib.Dec.{ltb, eqb}
 use lib.IntN.{ℤ}
 use lib.Ieee.{Float}
 use lib.ListN.{length}
-use Rattle.base_limits.specs.Limits.{maxPermitted, maxJournal}
-use Rattle.base_limits.specs.Checks.{Check, orElse, firstOf}
-use Rattle.base_limits.proofs.First.{refused-first, result-first}
-use Rattle.base_limits.specs.declared.Answer.the-variants.{Still, Refused}
+use Rattle.base.specs.Limits.{maxPermitted, maxJournal}
+use Rattle.base.specs.Checks.{Check, orElse, firstOf}
+use Rattle.base.proofs.First.{refused-first, result-first}
+use Rattle.base.specs.Answer.{answerTold}
+use Rattle.base.specs.declared.Answer.the-variants.{Still, Refused}
 use Rattle.sheet.specs.Sheet.{sheetOf}
 use Rattle.sheet.specs.Checks.{permittedChecks, Judged}
-use Rattle.history_ledger.specs.declared.Handle.{Handle}
+use Rattle.base.specs.declared.Handle.{Handle}
 use Rattle.history_ledger.specs.Calls.{refused, still, done, group}
 use Rattle.history_ledger.specs.Handle.{sound}
 use Rattle.history_ledger.specs.Journal.{State, unsound, entryChecks, pushChecks, pushed, pushOf}
 use Rattle.history_model.specs.Editing.{Given, editing}
-use Rattle.history_model.specs.declared.Moved.{Moved}
+use Rattle.base.specs.declared.Moved.{Moved}
 use Rattle.history_model.specs.Calls.{stateOf, leaves, Moves, Enters, Pushes}
 
 one-no : _≡_ {A = ℕ} 1 0 → ⊥
@@ -104,8 +105,8 @@ module _ (st : State editing) where
 module _ (m : Moved) (w h k : ℕ) (palette : List ℕ) (lab : List Float) (indices : List ℤ) (journal : List ℕ) (handle : Handle) where
   pub leaves-refused : (n : ℕ) → (m .answer ≡ Refused n) × (m .k ≡ k) × (m .handle ≡ handle)
       → leaves m w h palette lab indices journal ≡ refused (stateOf (sheetOf w h k palette lab indices) journal handle) n
-  leaves-refused n e i = record { answer = e .0 i; leaves = stateOf (sheetOf w h (e .1 i) palette lab indices) journal (e .2 i) }
+  leaves-refused n e i = record { answer = answerTold (e .0 i); leaves = stateOf (sheetOf w h (e .1 i) palette lab indices) journal (e .2 i) }
 
   pub leaves-still : (m .answer ≡ Still) × (m .k ≡ k) × (m .handle ≡ handle)
       → leaves m w h palette lab indices journal ≡ still (stateOf (sheetOf w h k palette lab indices) journal handle)
-  leaves-still e i = record { answer = e .0 i; leaves = stateOf (sheetOf w h (e .1 i) palette lab indices) journal (e .2 i) }
+  leaves-still e i = record { answer = answerTold (e .0 i); leaves = stateOf (sheetOf w h (e .1 i) palette lab indices) journal (e .2 i) }

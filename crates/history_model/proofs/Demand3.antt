@@ -9,8 +9,8 @@ use mir.Facts.{sfits-toZ}
 use borrow.Author.Tests.{lt-leb}
 use lib.Dec.{T, lit<, leb}
 use lib.Ieee.{Float, binary64, fits}
-use Rattle.base_limits.specs.declared.Rgb.{Rgb}
-use Rattle.base_lists.specs.Lists.{some}
+use Rattle.base.specs.declared.Rgb.{Rgb}
+use Rattle.base.specs.Lists.{some}
 use Rattle.color_lab.specs.Convert.{labOf}
 use Rattle.color_lab.proofs.Bytes.{lab-of-bytes, lab-fits}
 use Rattle.edit.specs.Change.{unpacked}

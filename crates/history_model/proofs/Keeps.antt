@@ -10,17 +10,17 @@ use lib.Dec.{ltb, leb}
 use lib.Ieee.{Float, binary64, fits}
 use lib.ListN.{length, length-map}
 use lib.Seq.{length-take-le}
-use Rattle.base_limits.specs.Limits.{maxChanges}
-use Rattle.base_limits.specs.Numbers.{journalFull}
-use Rattle.base_limits.specs.Checks.{Check, firstOf}
-use Rattle.base_limits.specs.declared.Rgb.{Rgb}
-use Rattle.base_limits.specs.declared.Lab.{Lab}
-use Rattle.base_lists.specs.Lists as lists
+use Rattle.base.specs.Limits.{maxChanges}
+use Rattle.base.specs.Numbers.{journalFull}
+use Rattle.base.specs.Checks.{Check, firstOf}
+use Rattle.base.specs.declared.Rgb.{Rgb}
+use Rattle.base.specs.declared.Lab.{Lab}
+use Rattle.base.specs.Lists as lists
 use Rattle.sheet.specs.Sheet.{Sheet, Picture, view}
 use Rattle.sheet.specs.Checks.{limitChecks, indexChecks, labChecks, permittedChecks, sheetChecks, WellFormed}
 use Rattle.sheet.proofs.Judging.{none-applied, judged-fine}
-use Rattle.edit.specs.declared.Edit.{Edit}
-use Rattle.edit.specs.declared.Edit.the-variants.{Pixels, PaletteSet, PaletteAdd, PaletteRemove}
+use Rattle.base.specs.declared.Edit.{Edit}
+use Rattle.base.specs.declared.Edit.the-variants.{Pixels, PaletteSet, PaletteAdd, PaletteRemove}
 use Rattle.edit.specs.Change.{Change}
 use Rattle.edit.specs.Checks.{Permitted, ownChecks, asSheet}
 use Rattle.edit.specs.Storage.{bytesOf, numbersOf}
@@ -127,7 +127,7 @@ module _ (curve : Rgb → Lab) (good : Curve curve) where
   abbrev A : algebra.Algebra
   A = editingBy curve
 
-  well-formed : {s : Sheet} → algebra.WellFormed A s → WellFormed s
+  well-formed : {s : Sheet} → algebra.WellFormedIn A s → WellFormed s
   well-formed {s} f = none-applied s (f .passes)
 
   passes : {s : Sheet} → WellFormed s → firstOf (sheetChecks [] s) ≡ 0
@@ -175,7 +175,7 @@ module _ (curve : Rgb → Lab) (good : Curve curve) where
   new-typed (PaletteRemove i c lab) h = tt
 
   -- ---- an accepted push
-  make-fits : (s : Sheet) (g : Given) → Accepts A s g → algebra.WellFormed A (redone curve s (g .edit) (g .changes))
+  make-fits : (s : Sheet) (g : Given) → Accepts A s g → algebra.WellFormedIn A (redone curve s (g .edit) (g .changes))
   make-fits s g a =
       record {
         typed = of-typed (typed.redone-typed (leb 256) (λ (v : Float). not (fits binary64 v)) curve s (g .edit) (g .changes) (as-typed (a .fits .typed)) (new-typed (g .edit) (a .typed .new-bytes)));
@@ -207,7 +207,7 @@ module _ (curve : Rgb → Lab) (good : Curve curve) where
   taken-forth s t g h c =
       rw (le-leb _ maxChanges (own-count s (g .edit) (g .changes) (ltb-false maxChanges (length (g .changes)) h)), c)
 
-  back-reads : (before : List ℕ) (s : Sheet) (g : Given) (t : Sheet) → Accepts A s g → algebra.WellFormed A t → view t ≡ nextPicture curve (view s) (g .edit) (g .changes)
+  back-reads : (before : List ℕ) (s : Sheet) (g : Given) (t : Sheet) → Accepts A s g → algebra.WellFormedIn A t → view t ≡ nextPicture curve (view s) (g .edit) (g .changes)
       → Reads A (undoneBy t (readBack (before ++ recordOf (filledEdit s (g .edit)) (filledChanges s (g .edit) (g .changes))))) (recordLength (g .edit) (length (g .changes))) (view s)
   unfolding undoneBy
   back-reads before s g t a f v =
@@ -231,7 +231,7 @@ module _ (curve : Rgb → Lab) (good : Curve curve) where
         shows = u .shows;
       }
 
-  forth-reads : (after : List ℕ) (s : Sheet) (g : Given) (t : Sheet) → Accepts A s g → algebra.WellFormed A t → view t ≡ view s
+  forth-reads : (after : List ℕ) (s : Sheet) (g : Given) (t : Sheet) → Accepts A s g → algebra.WellFormedIn A t → view t ≡ view s
       → Reads A (redoneBy curve t (readForth (recordOf (filledEdit s (g .edit)) (filledChanges s (g .edit) (g .changes)) ++ after))) (recordLength (g .edit) (length (g .changes))) (nextPicture curve (view s) (g .edit) (g .changes))
   unfolding redoneBy
   forth-reads after s g t a f v =

@@ -7,14 +7,14 @@ use native.Mathlib.Omega.{arith}
 use borrow.Author.Tests.{lt-ltb, le-ltb}
 use lib.Dec.{ltb}
 use lib.ListN.{length}
-use Rattle.base_limits.specs.Limits.{maxChanges}
-use Rattle.base_limits.specs.Numbers.{journalFull}
-use Rattle.base_limits.specs.Checks.{_when_, firstOf}
+use Rattle.base.specs.Limits.{maxChanges}
+use Rattle.base.specs.Numbers.{journalFull}
+use Rattle.base.specs.Checks.{_when_, firstOf}
 use Rattle.sheet.specs.Sheet.{view}
 use Rattle.edit.specs.Checks.{ownChecks, asSheet}
 use Rattle.edit.proofs.Shown.{checks-shown}
-use Rattle.edit.specs.declared.Edit.{Edit}
-use Rattle.edit.specs.declared.Edit.the-variants.{Pixels, PaletteSet, PaletteAdd, PaletteRemove}
+use Rattle.base.specs.declared.Edit.{Edit}
+use Rattle.base.specs.declared.Edit.the-variants.{Pixels, PaletteSet, PaletteAdd, PaletteRemove}
 use Rattle.journal_record.specs.Record.{recordLength}
 use Rattle.history_ledger.proofs.Soundness.{sound-facts}
 use Rattle.history_ledger.specs.Journal.{State}

@@ -9,14 +9,14 @@ use lib.Dec.{T}
 use lib.Ieee.{Float, nan, binary64, fits}
 use lib.Ieee.Fits.{nan-fits}
 use lib.ListN.{length, getD, length-map}
-use Rattle.base_limits.specs.Limits.{maxChanges}
-use Rattle.base_lists.specs.Lists.{some}
-use Rattle.base_lists.proofs.Nowhere.{first-not, rest-not}
-use Rattle.base_storage.specs.Triples.{labAt}
+use Rattle.base.specs.Limits.{maxChanges}
+use Rattle.base.specs.Lists.{some}
+use Rattle.base.proofs.Nowhere.{first-not, rest-not}
+use Rattle.base.specs.Triples.{labAt}
 use Rattle.sheet.specs.Sheet.{Sheet}
 use Rattle.sheet.specs.Checks.{WellFormed}
-use Rattle.edit.specs.declared.Edit.{Edit}
-use Rattle.edit.specs.declared.Edit.the-variants.{Pixels, PaletteSet, PaletteAdd, PaletteRemove}
+use Rattle.base.specs.declared.Edit.{Edit}
+use Rattle.base.specs.declared.Edit.the-variants.{Pixels, PaletteSet, PaletteAdd, PaletteRemove}
 use Rattle.edit.specs.Change.{Change, place, filledIn}
 use Rattle.edit.specs.Apply.{noPixels, filledEdit, filledChanges}
 use Rattle.edit_pixels.proofs.Fitting.{pixel-fits}

@@ -9,14 +9,14 @@ use lib.Dec.{ltb}
 use lib.IntN.{ℤ}
 use lib.Ieee.{Float}
 use lib.ListN.{length}
-use Rattle.base_limits.specs.Limits.{maxChanges}
-use Rattle.base_limits.specs.Numbers.{listTooLong, noSpace}
-use Rattle.base_limits.specs.Checks.{_when_, firstOf}
-use Rattle.base_limits.proofs.First.{first-past, first-here, past, past-both}
+use Rattle.base.specs.Limits.{maxChanges}
+use Rattle.base.specs.Numbers.{listTooLong, noSpace}
+use Rattle.base.specs.Checks.{_when_, firstOf}
+use Rattle.base.proofs.First.{first-past, first-here, past, past-both}
 use Rattle.sheet.specs.Sheet.{Sheet, sheetOf}
 use Rattle.sheet.specs.Checks.{permittedChecks, sheetChecks, WellFormed, Judged}
 use Rattle.sheet.proofs.Judging.{none-applied, past-sheet}
-use Rattle.edit.specs.declared.Edit.{Edit}
+use Rattle.base.specs.declared.Edit.{Edit}
 use Rattle.edit.specs.Change.{Change}
 use Rattle.edit.specs.Checks.{Permitted, ownChecks}
 use Rattle.edit_apply.specs.Redoable.{Redoable}

@@ -5,35 +5,35 @@ use mathlib.Core.List.{[], _∷_}
 use mathlib.Core.Option.{Option, none}
 use Prim.Native.Nat.{ℕ}
 use lib.ListN.{length}
-use Rattle.base_limits.specs.Checks.{firstOf, refusedOr}
+use Rattle.base.specs.Checks.{firstOf, refusedOr}
 use Rattle.sheet.specs.Sheet.{Sheet}
-use Rattle.history_ledger.specs.declared.Handle.{Handle}
+use Rattle.base.specs.declared.Handle.{Handle}
 use Rattle.history_ledger.specs.Handle.{sound}
-use Rattle.history_ledger.specs.Algebra.{Reading}
+use Rattle.history_ledger.specs.Algebra.{Taken}
 use Rattle.history_ledger.specs.Calls.{Outcome, refused, done}
-use Rattle.history_ledger.specs.Journal.{State, over}
+use Rattle.history_ledger.specs.Journal.{State, stepOver}
 use Rattle.history_model.specs.Editing.{taken, editing}
 use Rattle.history_model.specs.Calls.{stateOf}
 
 module _ (st : State editing) (inside : ℕ → Bool) (stepped : ℕ → Handle → Handle) where
-  abbrev moved : Option (Reading Sheet) → Outcome (State editing)
-  moved reading = over editing st reading inside stepped
+  abbrev moved : Option (Taken Sheet) → Outcome (State editing)
+  moved reading = stepOver editing st reading inside stepped
 
-  pub over-none : (reading : Option (Reading Sheet)) → reading ≡ none → refused st 4 ≡ moved reading
-  unfolding over
+  pub over-none : (reading : Option (Taken Sheet)) → reading ≡ none → refused st 4 ≡ moved reading
+  unfolding stepOver
   over-none reading e = rw e
 
   -- a record of n bytes that leads to t, where it is taken
-  module _ (n : ℕ) (ok : Bool) (t : Sheet) (reading : Option (Reading Sheet)) (read : reading ≡ taken ok n t) where
+  module _ (n : ℕ) (ok : Bool) (t : Sheet) (reading : Option (Taken Sheet)) (read : reading ≡ taken ok n t) where
     abbrev after : Handle
     after = stepped n (st .handle)
 
     pub over-not : ok ≡ false → refused st 4 ≡ moved reading
-    unfolding over
+    unfolding stepOver
     over-not e = rw (read, e)
 
     pub over-unsound : (next : Handle) → next ≡ after → sound (length (st .journal)) next ≡ false → refused st 4 ≡ moved reading
-    unfolding over firstOf refusedOr
+    unfolding stepOver firstOf refusedOr
     over-unsound next q e = rw read (by-test ok (inside n))
       where
         no : sound (length (st .journal)) after ≡ false
@@ -49,7 +49,7 @@ module _ (st : State editing) (inside : ℕ → Bool) (stepped : ℕ → Handle 
 
     pub over-done : (next : Handle) → next ≡ after → sound (length (st .journal)) next ≡ true → ok ≡ true → inside n ≡ true
         → {u : Sheet} → u ≡ t → done (stateOf u (st .journal) next) ≡ moved reading
-    unfolding over firstOf refusedOr
+    unfolding stepOver firstOf refusedOr
     over-done next q e k i {u} p =
         let yes : sound (length (st .journal)) after ≡ true = ap (sound (length (st .journal))) (sym q) ∙ e in
         (λ a. done (stateOf (p a) (st .journal) (q a))) ∙ rw (read, k, i, yes)

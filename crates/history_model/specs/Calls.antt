@@ -6,20 +6,21 @@ use Prim.Native.Nat.{ℕ, _+_, _≤_}
 use lib.IntN.{ℤ}
 use lib.Ieee.{Float}
 use lib.ListN.{length}
-use Rattle.base_limits.specs.Limits.{maxChanges, maxJournal}
-use Rattle.base_limits.specs.Checks.{Check, firstOf}
-use Rattle.base_limits.specs.declared.Answer.{Answer}
+use Rattle.base.specs.Limits.{maxChanges, maxJournal}
+use Rattle.base.specs.Checks.{Check, firstOf}
+use Rattle.base.specs.Answer.{answerTold}
+use Rattle.base.specs.declared.Answer.{Answer}
 use Rattle.sheet.specs.Sheet.{Sheet, sheetOf}
 use Rattle.sheet.specs.Checks.{WellFormed}
-use Rattle.edit.specs.declared.Edit.{Edit}
+use Rattle.base.specs.declared.Edit.{Edit}
 use Rattle.edit.specs.Change.{Change}
 use Rattle.edit.specs.Checks.{Permitted, ownChecks}
 use Rattle.journal_record.specs.Record.{recordLength}
-use Rattle.history_ledger.specs.declared.Handle.{Handle}
+use Rattle.base.specs.declared.Handle.{Handle}
 use Rattle.history_ledger.specs.Handle.{sound}
 use Rattle.history_ledger.specs.Calls.{Outcome}
 use Rattle.history_ledger.specs.Journal.{State, longJournal, unsound, moveChecks, entryChecks, pushChecks}
-use Rattle.history_model.specs.declared.Moved.{Moved}
+use Rattle.base.specs.declared.Moved.{Moved}
 use Rattle.history_model.specs.Editing.{Given, editing}
 
 -- sheet, journal and handle
@@ -29,7 +30,7 @@ stateOf s journal handle = record { sheet = s; journal = journal; handle = handl
 -- what push, undo and redo leave: answer, handle and k come back by value, the rest in the lent buffers
 abbrev pub leaves : Moved → ℕ → ℕ → List ℕ → List Float → List ℤ → List ℕ → Outcome (State editing)
 leaves m w h palette lab indices journal =
-    record { answer = m .answer; leaves = stateOf (sheetOf w h (m .k) palette lab indices) journal (m .handle) }
+    record { answer = answerTold (m .answer); leaves = stateOf (sheetOf w h (m .k) palette lab indices) journal (m .handle) }
 
 -- ---- a sheet, a journal and a handle that none of 1 to 4 refuses
 pub record Standing (st : State editing) : Type 0 where
@@ -64,4 +65,4 @@ handleChecks n h = longJournal n ∷ unsound n h ∷ []
 
 -- ---- `mark_saved`: what it answers and leaves; `markOf` (history_ledger/specs/Journal.antt) says what these are
 abbrev pub outcomeOf : Answer → Handle → Outcome Handle
-outcomeOf answer handle = record { answer = answer; leaves = handle }
+outcomeOf answer handle = record { answer = answerTold answer; leaves = handle }

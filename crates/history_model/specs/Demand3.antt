@@ -1,18 +1,18 @@
--- DEMAND 3, the whole of it, for the calls of this repository. Proved: `demand-3` in proofs/Demand3.antt. Definitions only. Assumes nothing.
---
--- `step editing` at a push, an undo, a redo and a mark is `pushOf editing`, `undoOf editing`, `redoOf editing` and `markOf`
--- (history_ledger/specs/Journal.antt): the contracts of `push`, `undo`, `redo` and `mark_saved` say that answer, handle, sheet and journal are exactly theirs.
--- `enter editing` (history_ledger/specs/Ledger.antt) is document 01's ledger. Sheets and calls are as a caller hands them in, in the types that the code has for them
--- (Handed.antt).
+-- DEMAND 3, the whole of it, for the calls of this repository. Proved: `demand-3` in proofs/Demand3.antt. Definitions
+-- only. Assumes nothing. `step editing` at a push, an undo, a redo and a mark is `pushOf editing`, `undoOf editing`,
+-- `redoOf editing` and `markOf` (history_ledger/specs/Journal.antt): the contracts of `push`, `undo`, `redo` and
+-- `mark_saved` say that answer, handle, sheet and journal are exactly theirs. `enter editing`
+-- (history_ledger/specs/Ledger.antt) is document 01's ledger. Sheets and calls are as a caller hands them in, in the
+-- types that the code has for them (Handed.antt).
 use mathlib.Core.Path.{_≡_}
 use mathlib.Core.Logic.{_↔_}
 use mathlib.Core.List.{List, [], map}
 use Prim.Native.Nat.{ℕ, _*_, _≤_}
 use lib.ListN.{length}
-use Rattle.base_limits.specs.Limits.{maxJournal}
-use Rattle.base_limits.specs.Numbers.{journalFull}
-use Rattle.base_limits.specs.Checks.{firstOf}
-use Rattle.base_limits.specs.declared.Answer.the-variants.{Refused}
+use Rattle.base.specs.Limits.{maxJournal}
+use Rattle.base.specs.Numbers.{journalFull}
+use Rattle.base.specs.Checks.{firstOf}
+use Rattle.base.specs.Answer.Told.{alone}
 use Rattle.sheet.specs.Sheet.{view}
 use Rattle.sheet.specs.Checks.{sheetChecks}
 use Rattle.history_ledger.specs.Calls.{Call, play, lend}
@@ -23,10 +23,12 @@ use Rattle.history_model.specs.Editing.{Given, editing}
 use Rattle.history_model.specs.Handed.{HandedSheet, HandedPush, sheetBy, callBy}
 
 pub record Demand3 : Type 0 where
-  -- "Demand 3 is a statement about the whole list at once": for every well-formed sheet; any two permitted journals, of any contents, the second not shorter; scratch
-  -- for every pixel, each call its own: call number i has `scratch i` places in the first run, and `scratch′ i` in the second; and every list of calls. "Both runs and
-  -- the ledger start from the same sheet; the second run and the ledger get only the calls not struck. Compared are these calls' answers, numbers included, in order,
-  -- and afterwards sheet, standing position and saved position with the ledger's standing picture and positions."
+  -- "Demand 3 is a statement about the whole list at once": for every well-formed sheet; any two permitted journals, of
+  -- any contents, the second not shorter; scratch for every pixel, each call its own: call number i has `scratch i`
+  -- places in the first run, and `scratch′ i` in the second; and every list of calls. "Both runs and the ledger start
+  -- from the same sheet; the second run and the ledger get only the calls not struck. Compared are these calls'
+  -- answers, numbers included, in order, and afterwards sheet, standing position and saved position with the ledger's
+  -- standing picture and positions."
   pub whole-history : (lent : HandedSheet)
       → let s = sheetBy lent in
       firstOf (sheetChecks [] s) ≡ 0
@@ -40,4 +42,5 @@ pub record Demand3 : Type 0 where
       let ledger = play (enter editing) (begun editing (view s)) left in
       SameHistory editing (unstruck (first .answers) (first .answers)) first second ledger
   -- a call answers "journal full" exactly where it is a push and 14 is the first check to apply, empty pixel lists apart: in every state, reached or not
-  pub journal-full : (scratch : ℕ) (st : State editing) (c : Call Given) → (step editing scratch st c .answer ≡ Refused journalFull) ↔ FullCall editing scratch st c
+  pub journal-full : (scratch : ℕ) (st : State editing) (c : Call Given)
+      → (step editing scratch st c .answer ≡ alone journalFull) ↔ FullCall editing scratch st c

@@ -8,17 +8,17 @@ use Prim.Native.Nat.{ℕ, _*_}
 use lib.Dec.{ltb, leb, eqb}
 use lib.Ieee.{Float, binary64, fits}
 use lib.ListN.{length}
-use Rattle.base_limits.specs.Limits.{maxSide, maxEntries, maxChanges}
-use Rattle.base_limits.specs.Numbers.{badSheet, strayIndex, unfitLab}
-use Rattle.base_limits.specs.Checks.{Check, _when_, firstOf}
-use Rattle.base_limits.specs.declared.Rgb.{Rgb}
-use Rattle.base_limits.specs.declared.Lab.{Lab}
-use Rattle.base_lists.specs.Lists as lists
+use Rattle.base.specs.Limits.{maxSide, maxEntries, maxChanges}
+use Rattle.base.specs.Numbers.{badSheet, strayIndex, unfitLab}
+use Rattle.base.specs.Checks.{Check, _when_, firstOf}
+use Rattle.base.specs.declared.Rgb.{Rgb}
+use Rattle.base.specs.declared.Lab.{Lab}
+use Rattle.base.specs.Lists as lists
 use Rattle.color_doubles.specs.Finite.{unfit}
 use Rattle.color_lab.specs.Convert.{labOf}
 use Rattle.sheet.specs.Sheet.{Sheet, Picture, view, stray}
 use Rattle.sheet.specs.Checks.{permittedChecks, sheetChecks}
-use Rattle.edit.specs.declared.Edit.{Edit}
+use Rattle.base.specs.declared.Edit.{Edit}
 use Rattle.edit.specs.Change.{Change, unpacked}
 use Rattle.edit.specs.Checks.{Permitted, permittedOf, ownChecks, asSheet}
 use Rattle.edit.specs.Accepted.{NewBytes}
@@ -27,7 +27,7 @@ use Rattle.journal_write.specs.Fit.{FitChanges}
 use Rattle.journal_record.specs.Record as records
 use Rattle.journal_record.specs.Record.{recordLength, recordOf, readForth, readBack}
 use Rattle.journal_read.specs.Sound.{undoable, redoable}
-use Rattle.history_ledger.specs.Algebra.{Algebra, Reading}
+use Rattle.history_ledger.specs.Algebra.{Algebra, Taken}
 
 -- ---- what a push is given: "edit, permitted colours", the edit beside its list
 pub record Given : Type 0 where
@@ -65,15 +65,15 @@ unfoldable pub tooLong : List Change → Bool
 tooLong cs = ltb maxChanges (length cs)
 
 -- ---- a record that was read, where undo or redo takes it: its length, and the sheet on its other side
-abbrev pub taken : Bool → ℕ → Sheet → Option (Reading Sheet)
+abbrev pub taken : Bool → ℕ → Sheet → Option (Taken Sheet)
 taken ok n s = cond ok (some (record { length = n; sheet = s })) none
 
-unfoldable pub undoneBy : Sheet → records.Reading → Option (Reading Sheet)
+unfoldable pub undoneBy : Sheet → records.Reading → Option (Taken Sheet)
 undoneBy s none = none
 undoneBy s (some r) = taken (undoable s (r .1) (r .2)) (r .0) (reverted s (r .1) (r .2))
 
 module _ (curve : Rgb → Lab) where
-  unfoldable pub redoneBy : Sheet → records.Reading → Option (Reading Sheet)
+  unfoldable pub redoneBy : Sheet → records.Reading → Option (Taken Sheet)
   redoneBy s none = none
   redoneBy s (some r) = taken (redoable s (r .1) (r .2)) (r .0) (redone curve s (r .1) (r .2))
 

@@ -1,6 +1,7 @@
--- What a caller hands to the calls of a history, in the types that the code has for it, so that demand 3 (Demand3.antt) has no premise on ranges. Where any number
--- does, any number is taken: a change of 64 bits is 16 bits for each of its parts whatever it is, permitted colours are only compared, and push fills in the rest
--- of an edit. Definitions only. Assumes nothing.
+-- What a caller hands to the calls of a history, in the types that the code has for it, so that demand 3 (Demand3.antt)
+-- has no premise on ranges. Where any number does, any number is taken: a change of 64 bits is 16 bits for each of its
+-- parts whatever it is, permitted colours are only compared, and push fills in the rest of an edit. Definitions only.
+-- Assumes nothing.
 use mathlib.Core.Bool.{Bool}
 use mathlib.Core.List.{List, map}
 use Prim.Native.Nat.{ℕ}
@@ -9,11 +10,11 @@ use lib.IntN.{ℤ}
 use lib.Ieee.{Float, binary64, fits}
 use mir.Syntax.{w8}
 use mir.Val.{Fits}
-use Rattle.base_limits.specs.declared.Rgb.{Rgb}
-use Rattle.base_limits.specs.declared.Lab.{Lab}
+use Rattle.base.specs.declared.Rgb.{Rgb}
+use Rattle.base.specs.declared.Lab.{Lab}
 use Rattle.sheet.specs.Sheet.{Sheet, sheetOf}
-use Rattle.edit.specs.declared.Edit.{Edit}
-use Rattle.edit.specs.declared.Edit.the-variants.{Pixels, PaletteSet, PaletteAdd, PaletteRemove}
+use Rattle.base.specs.declared.Edit.{Edit}
+use Rattle.base.specs.declared.Edit.the-variants.{Pixels, PaletteSet, PaletteAdd, PaletteRemove}
 use Rattle.history_ledger.specs.Calls.{Call}
 use Rattle.history_ledger.specs.Calls.Call.{push, undo, redo, mark}
 use Rattle.history_model.specs.Editing.{Given, givenOf}

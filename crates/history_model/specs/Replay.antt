@@ -4,14 +4,15 @@ use Prim.Native.Nat.{ℕ, _*_}
 use lib.Dec.{ltb}
 use lib.ListN.{length}
 use mathlib.Core.Bool.{true}
-use Rattle.base_limits.specs.Limits.{maxChanges}
-use Rattle.base_limits.specs.Numbers.{listTooLong, noSpace}
-use Rattle.base_limits.specs.Checks.{Check, _when_}
-use Rattle.base_limits.specs.declared.Answer.{Answer}
+use Rattle.base.specs.Limits.{maxChanges}
+use Rattle.base.specs.Numbers.{listTooLong, noSpace}
+use Rattle.base.specs.Checks.{Check, _when_}
+use Rattle.base.specs.Answer.{answerTold}
+use Rattle.base.specs.declared.Answer.{Answer}
 use Rattle.color_lab.specs.Convert.{labOf}
 use Rattle.sheet.specs.Sheet.{Sheet}
 use Rattle.sheet.specs.Checks.{permittedChecks, sheetChecks}
-use Rattle.edit.specs.declared.Edit.{Edit}
+use Rattle.base.specs.declared.Edit.{Edit}
 use Rattle.edit.specs.Change.{Change}
 use Rattle.edit.specs.Checks.{Permitted, ownChecks}
 use Rattle.edit.specs.Apply.{redone}
@@ -29,7 +30,7 @@ unfoldable pub replayChecks : ℕ → Sheet → Permitted → Edit → List Chan
 replayChecks room s p e cs = permittedChecks (p .limited) (p .colours) ++ (sheetChecks [] s ++ replayOwn room s p e cs)
 
 abbrev pub replayed : Answer → Sheet → Outcome Sheet
-replayed answer s = record { answer = answer; leaves = s }
+replayed answer s = record { answer = answerTold answer; leaves = s }
 
 -- the edit done as `redo` does it; an empty list of pixels is done too
 unfoldable pub replayOf : ℕ → Sheet → Permitted → Edit → List Change → Outcome Sheet

@@ -1,15 +1,16 @@
 // Checks 1 to 4, which the calls on a history begin with.
-use base_limits::BAD_SHEET;
-use base_limits::JOURNAL_DAMAGED;
-use base_limits::MAX_JOURNAL;
-use history_ledger::Handle;
+use base::BAD_SHEET;
+use base::Handle;
+use base::JOURNAL_DAMAGED;
+use base::MAX_JOURNAL;
+use history_ledger::sound;
 use sheet::check;
 use sheet::permitted_no;
 ghost use mathlib.Core.Path.{_≡_};
 ghost use mathlib.Core.List.{List};
 ghost use Prim.Native.Nat.{ℕ};
-ghost use Rattle.base_limits.specs.Checks.{firstOf};
-ghost use Rattle.edit.specs.declared.Edit.{Edit};
+ghost use Rattle.base.specs.Checks.{firstOf};
+ghost use Rattle.base.specs.declared.Edit.{Edit};
 ghost use Rattle.sheet.specs.Sheet.{sheetOf};
 ghost use Rattle.history_model.specs.Editing.{givenOf};
 ghost use Rattle.history_model.specs.Calls.{stateOf, handleChecks, Moves, Enters};
@@ -21,7 +22,7 @@ pub fn handle_no(size: usize, handle: Handle) -> u8
     if MAX_JOURNAL < size {
         return BAD_SHEET;
     }
-    if !handle.sound(size) {
+    if !sound(handle, size) {
         return JOURNAL_DAMAGED;
     }
     0
@@ -38,7 +39,10 @@ pub fn move_no(
     journal: &[u8],
     handle: Handle,
 ) -> u8
-    ensures { λ r. ⌜ Moves (stateOf (sheetOf w h k (now (palette .entry)) (now (lab .entry)) (now (indices .entry))) (now (journal .entry)) handle) r ⌝ }
+    ensures { λ r. ⌜ (
+        let sheet = sheetOf w h k (now (palette .entry)) (now (lab .entry)) (now (indices .entry)) in
+        Moves (stateOf sheet (now (journal .entry)) handle) r
+        ) ⌝ }
 {
     if MAX_JOURNAL < journal.len() {
         return BAD_SHEET;
@@ -47,7 +51,7 @@ pub fn move_no(
     if no != 0 {
         return no;
     }
-    if !handle.sound(journal.len()) {
+    if !sound(handle, journal.len()) {
         return JOURNAL_DAMAGED;
     }
     0
@@ -66,7 +70,11 @@ pub fn entry_no(
     journal: &[u8],
     handle: Handle,
 ) -> u8
-    ensures { λ r. ⌜ ((e : Edit) (l : List ℕ) → Enters (stateOf (sheetOf w h k (now (palette .entry)) (now (lab .entry)) (now (indices .entry))) (now (journal .entry)) handle) (givenOf limited (now (permitted .entry)) e l) r) ⌝ }
+    ensures { λ r. ⌜
+        ((e : Edit) (l : List ℕ) → Enters
+        (stateOf (sheetOf w h k (now (palette .entry)) (now (lab .entry)) (now (indices .entry))) (now (journal .entry))
+        handle) (givenOf limited (now (permitted .entry)) e l) r)
+        ⌝ }
 {
     let no = permitted_no(limited, permitted);
     if no != 0 {

@@ -5,41 +5,33 @@
 mod entering;
 mod measure;
 
-use base_limits::Answer;
-use history_ledger::Handle;
+use base::Answer;
+use base::Handle;
+use base::Moved;
 ghost use mathlib.Core.Path.{_≡_};
-ghost use Rattle.base_limits.specs.declared.Answer.the-variants.{Still, Refused};
+ghost use Rattle.base.specs.declared.Answer.the-variants.{Still, Refused};
 pub use entering::entry_no;
 pub use entering::handle_no;
 pub use entering::move_no;
 pub use measure::record_length;
 
-// What push, undo and redo answer: the palette count and the handle after the call.
-pub struct Moved {
-    pub answer: Answer,
-    pub k: usize,
-    pub handle: Handle,
+// "A refusal returns its number alone; lent memory and handle keep their bits."
+pub fn refused(no: u8, k: usize, handle: Handle) -> Moved
+    ensures { λ r. ⌜ (r .answer ≡ Refused no) × (r .k ≡ k) × (r .handle ≡ handle) ⌝ }
+{
+    Moved {
+        answer: Answer::Refused(no),
+        k,
+        handle,
+    }
 }
 
-impl Moved {
-    // "A refusal returns its number alone; lent memory and handle keep their bits."
-    pub fn refused(no: u8, k: usize, handle: Handle) -> Moved
-        ensures { λ r. ⌜ (r .answer ≡ Refused no) × (r .k ≡ k) × (r .handle ≡ handle) ⌝ }
-    {
-        Moved {
-            answer: Answer::Refused(no),
-            k,
-            handle,
-        }
-    }
-
-    pub fn still(k: usize, handle: Handle) -> Moved
-        ensures { λ r. ⌜ (r .answer ≡ Still) × (r .k ≡ k) × (r .handle ≡ handle) ⌝ }
-    {
-        Moved {
-            answer: Answer::Still,
-            k,
-            handle,
-        }
+pub fn still(k: usize, handle: Handle) -> Moved
+    ensures { λ r. ⌜ (r .answer ≡ Still) × (r .k ≡ k) × (r .handle ≡ handle) ⌝ }
+{
+    Moved {
+        answer: Answer::Still,
+        k,
+        handle,
     }
 }

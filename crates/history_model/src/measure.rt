@@ -1,8 +1,8 @@
 // How long a record is.
-use edit::Edit;
+use base::Edit;
 ghost use mathlib.Core.Path.{_≡_};
 ghost use Prim.Native.Nat.{_≤_};
-ghost use Rattle.base_limits.specs.Limits.{maxChanges};
+ghost use Rattle.base.specs.Limits.{maxChanges};
 ghost use Rattle.journal_record.specs.Record.{recordLength};
 
 // The bytes of an edit's record with n changes.

@@ -1,18 +1,21 @@
 // `push`: an edit checked, recorded and done.
-use base_limits::Answer;
-use base_limits::JOURNAL_FULL;
-use base_limits::LIST_TOO_LONG;
-use base_limits::MAX_CHANGES;
-use base_limits::NO_SPACE;
-use edit::Edit;
+use base::Answer;
+use base::Edit;
+use base::Handle;
+use base::JOURNAL_FULL;
+use base::LIST_TOO_LONG;
+use base::MAX_CHANGES;
+use base::Moved;
+use base::NO_SPACE;
+use edit::is_empty;
 use edit_apply::fill_edit;
 use edit_apply::redo_edit;
 use edit_checks::own_no;
-use history_ledger::Handle;
 use history_ledger::after_push;
-use history_model::Moved;
 use history_model::entry_no;
 use history_model::record_length;
+use history_model::refused;
+use history_model::still;
 use journal_write::write_record;
 ghost use mathlib.Core.Path.{_≡_};
 ghost use mathlib.Core.Bool.{Bool};
@@ -43,7 +46,11 @@ fn push_no(
     scratch: &mut [u8],
 ) -> u8
     requires { ⌜ Standing (stateOf (sheetOf w h k (now palette) (now lab) (now indices)) (now journal) handle) ⌝ }
-    ensures { λ r. ⌜ Pushes (length (now (scratch .entry))) (stateOf (sheetOf w h k (now (palette .entry)) (now (lab .entry)) (now (indices .entry))) (now (journal .entry)) handle) (givenOf limited (now (permitted .entry)) edit (now (list .entry))) r ⌝ }
+    ensures { λ r. ⌜ (
+        let sheet = sheetOf w h k (now (palette .entry)) (now (lab .entry)) (now (indices .entry)) in
+        Pushes (length (now (scratch .entry))) (stateOf sheet (now (journal .entry)) handle)
+        (givenOf limited (now (permitted .entry)) edit (now (list .entry))) r
+        ) ⌝ }
 {
     if MAX_CHANGES < list.len() {
         return LIST_TOO_LONG;
@@ -88,8 +95,17 @@ fn accept(
     handle: Handle,
 ) -> Moved
     requires { ⌜ Standing (stateOf (sheetOf w h k (now palette) (now lab) (now indices)) (now journal) handle) ⌝ }
-    requires { ⌜ Acceptable (stateOf (sheetOf w h k (now palette) (now lab) (now indices)) (now journal) handle) edit (map unpacked (now list)) ⌝ }
-    ensures { λ r. ⌜ ((limited : Bool) (permitted : List ℕ) → leaves r w h (now (palette .exit)) (now (lab .exit)) (now (indices .exit)) (now (journal .exit)) ≡ done (pushed editing (stateOf (sheetOf w h k (now (palette .entry)) (now (lab .entry)) (now (indices .entry))) (now (journal .entry)) handle) (givenOf limited permitted edit (now (list .entry))))) ⌝ }
+    requires { ⌜ (
+        let sheet = sheetOf w h k (now palette) (now lab) (now indices) in
+        Acceptable (stateOf sheet (now journal) handle) edit (map unpacked (now list))
+        ) ⌝ }
+    ensures { λ r. ⌜
+        ((limited : Bool) (permitted : List ℕ)
+        → leaves r w h (now (palette .exit)) (now (lab .exit)) (now (indices .exit)) (now (journal .exit))
+        ≡ done (pushed editing
+        (stateOf (sheetOf w h k (now (palette .entry)) (now (lab .entry)) (now (indices .entry))) (now (journal .entry))
+        handle) (givenOf limited permitted edit (now (list .entry)))))
+        ⌝ }
 {
     let offset = handle.offset;
     let filled = fill_edit(palette, lab, edit);
@@ -120,7 +136,12 @@ pub fn push(
     handle: Handle,
     scratch: &mut [u8],
 ) -> Moved
-    ensures { λ r. ⌜ leaves r w h (now (palette .exit)) (now (lab .exit)) (now (indices .exit)) (now (journal .exit)) ≡ pushOf editing (length (now (scratch .entry))) (stateOf (sheetOf w h k (now (palette .entry)) (now (lab .entry)) (now (indices .entry))) (now (journal .entry)) handle) (givenOf limited (now (permitted .entry)) edit (now (list .entry))) ⌝ }
+    ensures { λ r. ⌜ (
+        let sheet = sheetOf w h k (now (palette .entry)) (now (lab .entry)) (now (indices .entry)) in
+        leaves r w h (now (palette .exit)) (now (lab .exit)) (now (indices .exit)) (now (journal .exit))
+        ≡ pushOf editing (length (now (scratch .entry))) (stateOf sheet (now (journal .entry)) handle)
+        (givenOf limited (now (permitted .entry)) edit (now (list .entry)))
+        ) ⌝ }
     ensures { λ _. ⌜ length (now (scratch .exit)) ≡ length (now (scratch .entry)) ⌝ }
 {
     let no = entry_no(
@@ -136,10 +157,10 @@ pub fn push(
         handle,
     );
     if no != 0 {
-        return Moved::refused(no, k, handle);
+        return refused(no, k, handle);
     }
-    if edit.is_empty(list.len()) {
-        return Moved::still(k, handle);
+    if is_empty(edit, list.len()) {
+        return still(k, handle);
     }
     let no = push_no(
         w,
@@ -157,7 +178,7 @@ pub fn push(
         scratch,
     );
     if no != 0 {
-        return Moved::refused(no, k, handle);
+        return refused(no, k, handle);
     }
     accept(w, h, k, palette, lab, indices, edit, list, journal, handle)
 }

@@ -1,20 +1,21 @@
 -- The record that `applied` shows is one of the chain: as many records stand before it, one after the other from the journal's first byte, as its number says. Assumes nothing.
 use mathlib.Core.Path.{_≡_, refl}
 use mathlib.Core.List.{List}
-use mathlib.Core.Option.{some}
+use mathlib.Core.Option.{Option, none, some}
 use Prim.Native.Nat.{ℕ, zero, suc, _+_, _-_}
 use native.Mathlib.Omega.{arith}
 use lib.Dec.{leb}
 use lib.ListN.{length, take, drop}
-use Rattle.base_limits.specs.Checks.{firstOf}
-use Rattle.edit.specs.declared.Edit.{Edit}
+use Rattle.base.specs.Checks.{firstOf}
+use Rattle.base.specs.declared.Edit.{Edit}
 use Rattle.journal_record.specs.Record.{changesIn, readForth}
-use Rattle.history_ledger.specs.declared.Handle.{Handle}
+use Rattle.base.specs.declared.Handle.{Handle}
 use Rattle.history_ledger.specs.Handle.{steppedForth}
 use Rattle.history_model.specs.Calls.{handleChecks}
-use Rattle.history_queries.specs.declared.Next.{Next}
-use Rattle.history_queries.specs.declared.Next.the-variants as next
-use Rattle.history_queries.specs.Looks.{nextRedoOf, rewound, past, shownAfter, appliedOf, Starts}
+use Rattle.base.specs.Answer.{Told, Shown}
+use Rattle.base.specs.Answer.Told.{result, alone}
+use Rattle.base.proofs.Told.{alone-other}
+use Rattle.history_queries.specs.Looks.{shows, nextRedoOf, rewound, past, shownAfter, appliedOf, Starts}
 use Rattle.history_queries.specs.Looks.Starts.{oldest, after}
 use Rattle.history_queries.proofs.NextTold.{unrefused, something, redo-told}
 
@@ -24,37 +25,37 @@ pub record Chained (journal : List ℕ) (end number : ℕ) (e : Edit) (start n l
   pub reads : readForth (take (end - start) (drop start journal)) ≡ some (n, e, changesIn journal list count)
 
 -- ---- a record that is shown past another
-record Past (x : Next) (more : ℕ → Next) (y : Next) : Type 0 where
+record Past (x : Told (Option Shown)) (more : ℕ → Told (Option Shown)) (y : Told (Option Shown)) : Type 0 where
   edit : Edit
   start : ℕ
   length : ℕ
   list : ℕ
   count : ℕ
-  first : x ≡ next.Record edit start length list count
+  first : x ≡ shows edit start length list count
   then : more length ≡ y
 
 module _ {e : Edit} {start n list count : ℕ} where
-  shown-past : (x : Next) (more : ℕ → Next) → past x more ≡ next.Record e start n list count → Past x more (next.Record e start n list count)
+  shown-past : (x : Told (Option Shown)) (more : ℕ → Told (Option Shown)) → past x more ≡ shows e start n list count → Past x more (shows e start n list count)
   unfolding past
-  shown-past (next.Record f at m l c) more p = record { edit = f; start = at; length = m; list = l; count = c; first = refl; then = p }
-  shown-past next.Nothing more p = absurd (let z : _≡_ {A = ℕ} 0 1 = cc in omega arith)
-  shown-past (next.Refused a) more p = absurd (let z : _≡_ {A = ℕ} 0 1 = cc in omega arith)
+  shown-past (result (some r)) more p = record { edit = r .edit; start = r .start; length = r .length; list = r .list; count = r .count; first = refl; then = p }
+  shown-past (result none) more p = absurd (let z : _≡_ {A = ℕ} 0 1 = cc in omega arith)
+  shown-past (alone a) more p = absurd (alone-other p)
 
   module _ (journal : List ℕ) where
-    chained : (number : ℕ) (h : Handle) (before : ℕ) → Starts journal (h .end) before (h .offset) → shownAfter journal number h ≡ next.Record e start n list count
+    chained : (number : ℕ) (h : Handle) (before : ℕ) → Starts journal (h .end) before (h .offset) → shownAfter journal number h ≡ shows e start n list count
         → Chained journal (h .end) (before + number) e start n list count
     unfolding shownAfter
     chained zero h before s p =
         let t = redo-told journal h p in
-        let none : before + 0 ≡ before = omega arith in
-        record { starts = rw (t .starts, none) s; reads = rw (t .starts) (t .reads) }
+        let last : before + 0 ≡ before = omega arith in
+        record { starts = rw (t .starts, last) s; reads = rw (t .starts) (t .reads) }
     chained (suc number) h before s p =
         let one = shown-past (nextRedoOf journal h) (λ m. shownAfter journal number (steppedForth m h)) p in
         let r = redo-told journal h (one .first) .reads in
         let step : before + suc number ≡ suc before + number = omega arith in
         rw step (chained number (steppedForth (one .length) h) (suc before) (after (one .length, one .edit, changesIn journal (one .list) (one .count)) s r) (one .then))
 
-    pub applied-chained : (h : Handle) (number : ℕ) → appliedOf journal h number ≡ next.Record e start n list count → Chained journal (h .offset) number e start n list count
+    pub applied-chained : (h : Handle) (number : ℕ) → appliedOf journal h number ≡ shows e start n list count → Chained journal (h .offset) number e start n list count
     unfolding appliedOf
     applied-chained h number p =
         let fine = unrefused (firstOf (handleChecks (length journal) h)) _ p in

@@ -6,10 +6,10 @@ use Prim.Native.Nat.{ℕ, zero, suc, _+_, _-_, _*_, _≤_}
 use native.Mathlib.Omega.{arith}
 use borrow.Author.Tests.{not-false}
 use lib.ListN.{length, take, drop}
-use Rattle.base_limits.specs.Checks.{firstOf}
-use Rattle.base_limits.proofs.First.{past}
-use Rattle.edit.specs.declared.Edit.{Edit}
-use Rattle.edit.specs.declared.Edit.the-variants.{Pixels, PaletteSet, PaletteAdd, PaletteRemove}
+use Rattle.base.specs.Checks.{firstOf}
+use Rattle.base.proofs.First.{past}
+use Rattle.base.specs.declared.Edit.{Edit}
+use Rattle.base.specs.declared.Edit.the-variants.{Pixels, PaletteSet, PaletteAdd, PaletteRemove}
 use Rattle.edit.specs.Change.{Change}
 use Rattle.journal_record.specs.declared.Found.the-variants.{Record, Unsound}
 use Rattle.journal_record.specs.Record.{recordLength, changesIn, Reading, byKind, readForth, readBack}
@@ -17,7 +17,7 @@ use Rattle.journal_record.specs.Found.{foundAt, foundBefore}
 use Rattle.journal_record.proofs.Holds.{Tells, tells-at, tells-before}
 use Rattle.journal_read.specs.Lies.{editAt, changesAt, Lies}
 use Rattle.journal_read.proofs.Searched.{Searched, searched-forth, searched-back}
-use Rattle.history_ledger.specs.declared.Handle.{Handle}
+use Rattle.base.specs.declared.Handle.{Handle}
 use Rattle.history_ledger.specs.Journal.{longJournal, unsound}
 use Rattle.history_ledger.proofs.Soundness.{Sound, sound-facts}
 use Rattle.history_model.specs.Calls.{handleChecks}

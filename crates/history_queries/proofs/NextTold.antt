@@ -2,25 +2,26 @@
 use mathlib.Core.Path.{_≡_, refl, sym, ap, ap₂, _∙_}
 use mathlib.Core.Bool.{Bool, true, false, cond}
 use mathlib.Core.List.{List}
-use mathlib.Core.Option.{none, some, Option·some-injective}
-use Prim.Native.Nat.{ℕ, zero, suc, _+_, _-_, _≤_, _<_}
+use mathlib.Core.Option.{Option, none, some, Option·some-injective}
+use Prim.Native.Nat.{ℕ, zero, suc, _+_, _-_, _*_, _≤_, _<_}
 use native.Mathlib.Omega.{arith}
 use borrow.Author.Tests.{eqb-false}
 use lib.Dec.{leb, eqb}
 use lib.ListN.{length, take, drop}
-use Rattle.base_limits.specs.Checks.{firstOf, refusedOr}
-use Rattle.edit.specs.declared.Edit.{Edit}
+use Rattle.base.specs.Checks.{firstOf, refusedOr}
+use Rattle.base.specs.Answer.{Told, Shown}
+use Rattle.base.specs.Answer.Told.{result, alone}
+use Rattle.base.proofs.Told.{alone-other, same-result}
+use Rattle.base.specs.declared.Edit.{Edit}
 use Rattle.edit.specs.Change.{Change}
 use Rattle.journal_record.specs.declared.Found.the-variants as found
 use Rattle.journal_record.specs.Record.{changesIn, Reading, readForth, readBack}
 use Rattle.journal_record.specs.Found.{kindOf, foundAt, foundBefore}
 use Rattle.journal_read.specs.Lies.{editAt}
-use Rattle.history_ledger.specs.declared.Handle.{Handle}
+use Rattle.base.specs.declared.Handle.{Handle}
 use Rattle.history_ledger.specs.Handle.{steppedBack, steppedForth}
-use Rattle.history_queries.specs.declared.Next.{Next}
-use Rattle.history_queries.specs.declared.Next.the-variants as next
 use Rattle.history_model.specs.Calls.{handleChecks}
-use Rattle.history_queries.specs.Looks.{shown, stepShown, nextUndoOf, nextRedoOf}
+use Rattle.history_queries.specs.Looks.{shows, shown, stepShown, nextUndoOf, nextRedoOf}
 use Rattle.history_queries.proofs.NextFound.{listAt, handle-sound, Seen, seen-back, seen-forth}
 
 -- ---- the next record to redo: what is read of it, that it starts at the standing offset and ends in the used part, and that there is one
@@ -31,7 +32,7 @@ pub record Redoes (journal : List ℕ) (h : Handle) (e : Edit) (start n list cou
   pub left : h .position < h .count
 
 -- ---- a reading that is shown
-record Told (r : Reading) (from : ℕ → ℕ) (e : Edit) (start n list count : ℕ) : Type 0 where
+record Meant (r : Reading) (from : ℕ → ℕ) (e : Edit) (start n list count : ℕ) : Type 0 where
   changes : List Change
   reads : r ≡ some (n, e, changes)
   starts : start ≡ from n
@@ -40,48 +41,52 @@ record Told (r : Reading) (from : ℕ → ℕ) (e : Edit) (start n list count : 
 
 module _ {e : Edit} {start n list count : ℕ} where
   -- ---- back from a record that is shown to the tests before it
-  pub unrefused : (m : ℕ) (x : Next) → refusedOr m next.Refused x ≡ next.Record e start n list count → (m ≡ 0) × (x ≡ next.Record e start n list count)
+  pub unrefused : (m : ℕ) (x : Told (Option Shown)) → refusedOr m alone x ≡ shows e start n list count → (m ≡ 0) × (x ≡ shows e start n list count)
   unfolding refusedOr
   unrefused zero x p = (refl, p)
-  unrefused (suc m) x p = absurd (let z : _≡_ {A = ℕ} 0 1 = cc in omega arith)
+  unrefused (suc m) x p = absurd (alone-other p)
 
-  pub something : (b : Bool) (x : Next) → cond b next.Nothing x ≡ next.Record e start n list count → (b ≡ false) × (x ≡ next.Record e start n list count)
+  pub something : (b : Bool) (x : Told (Option Shown)) → cond b (result none) x ≡ shows e start n list count → (b ≡ false) × (x ≡ shows e start n list count)
   something true x p = absurd (let z : _≡_ {A = ℕ} 0 1 = cc in omega arith)
   something false x p = (refl, p)
 
   -- ---- to its reading
-  told-by : (t : ℕ × Edit × List Change) (from : ℕ → ℕ) → shown (from (t .0)) t ≡ next.Record e start n list count → Told (some t) from e start n list count
+  told-by : (t : ℕ × Edit × List Change) (from : ℕ → ℕ) → shown (from (t .0)) t ≡ shows e start n list count → Meant (some t) from e start n list count
   unfolding shown
   told-by t from p =
-      let long : t .0 ≡ n = cc in
-      let edit : t .1 ≡ e = cc in
-      record { changes = t .2; reads = ap₂ (λ (m : ℕ) (x : Edit). some (m, x, t .2)) long edit; starts = (cc); lists = (cc); counts = (cc) }
+      let q = Option·some-injective _ _ (same-result p) in
+      let long : t .0 ≡ n = ap (λ (x : Shown). x .length) q in
+      let edit : t .1 ≡ e = ap (λ (x : Shown). x .edit) q in
+      let begins : from (t .0) ≡ start = ap (λ (x : Shown). x .start) q in
+      let lies : from (t .0) + t .0 - 4 - 8 * length (t .2) ≡ list = ap (λ (x : Shown). x .list) q in
+      let many : length (t .2) ≡ count = ap (λ (x : Shown). x .count) q in
+      record { changes = t .2; reads = ap₂ (λ (m : ℕ) (x : Edit). some (m, x, t .2)) long edit; starts = (cc); lists = (cc); counts = many }
 
   step-told : (size : ℕ) (h : Handle) (r : Reading) (from : ℕ → ℕ) (inside : ℕ → Bool) (stepped : ℕ → Handle → Handle)
-      → stepShown size h r from inside stepped ≡ next.Record e start n list count → Told r from e start n list count
+      → stepShown size h r from inside stepped ≡ shows e start n list count → Meant r from e start n list count
   unfolding stepShown
-  step-told size h none from inside stepped p = absurd (let z : _≡_ {A = ℕ} 0 1 = cc in omega arith)
+  step-told size h none from inside stepped p = absurd (alone-other p)
   step-told size h (some t) from inside stepped p = told-by t from (unrefused _ (shown (from (t .0)) t) p .1)
 
   -- ---- its changes
-  told-changes : {journal : List ℕ} {r : Reading} {from : ℕ → ℕ} (t : Told r from e start n list count) → Seen journal r (kindOf e) (from n) n count → r ≡ some (n, e, changesIn journal list count)
+  told-changes : {journal : List ℕ} {r : Reading} {from : ℕ → ℕ} (t : Meant r from e start n list count) → Seen journal r (kindOf e) (from n) n count → r ≡ some (n, e, changesIn journal list count)
   told-changes {journal} {r} {from} t s =
       let same = Option·some-injective _ _ (sym (s .reads) ∙ t .reads) in
       let edit : editAt journal (kindOf e) (from n) ≡ e = ap (λ (x : ℕ × Edit × List Change). x .1) same in
       let there : listAt (from n) n count ≡ list = rw (← t .starts) (sym (t .lists)) in
       s .reads ∙ ap₂ (λ (x : Edit) (m : ℕ). some (n, x, changesIn journal m count)) edit there
 
-  told-back : {r : Reading} (offset : ℕ) (t : Told r (λ m. offset - m) e start n list count) → foundBefore offset r ≡ found.Record (kindOf e) (offset - n) n count
+  told-back : {r : Reading} (offset : ℕ) (t : Meant r (λ m. offset - m) e start n list count) → foundBefore offset r ≡ found.Record (kindOf e) (offset - n) n count
   unfolding foundBefore
   told-back offset t = rw (t .reads, t .counts)
 
-  told-forth : {r : Reading} (offset : ℕ) (t : Told r (λ m. offset) e start n list count) → foundAt offset r ≡ found.Record (kindOf e) offset n count
+  told-forth : {r : Reading} (offset : ℕ) (t : Meant r (λ m. offset) e start n list count) → foundAt offset r ≡ found.Record (kindOf e) offset n count
   unfolding foundAt
   told-forth offset t = rw (t .reads, t .counts)
 
   -- ---- the two calls
   module _ (journal : List ℕ) (h : Handle) where
-    pub undo-told : nextUndoOf journal h ≡ next.Record e start n list count → readBack (take (h .offset) journal) ≡ some (n, e, changesIn journal list count)
+    pub undo-told : nextUndoOf journal h ≡ shows e start n list count → readBack (take (h .offset) journal) ≡ some (n, e, changesIn journal list count)
     unfolding nextUndoOf
     undo-told p =
         let fine = unrefused (firstOf (handleChecks (length journal) h)) _ p in
@@ -90,7 +95,7 @@ module _ {e : Edit} {start n list count : ℕ} where
         let t = step-told (length journal) h (readBack (take (h .offset) journal)) (λ m. h .offset - m) (λ m. leb m (h .offset)) steppedBack step in
         told-changes t (seen-back journal (h .offset) (kindOf e) (h .offset - n) n count (omega (arith, s .ends, s .fits)) (told-back (h .offset) t) .found)
 
-    pub redo-told : nextRedoOf journal h ≡ next.Record e start n list count → Redoes journal h e start n list count
+    pub redo-told : nextRedoOf journal h ≡ shows e start n list count → Redoes journal h e start n list count
     unfolding nextRedoOf
     redo-told p =
         let fine = unrefused (firstOf (handleChecks (length journal) h)) _ p in

@@ -9,17 +9,17 @@ use native.Mathlib.Omega.{arith}
 use borrow.Author.Tests.{le-ltb, le-leb, ne-eqb}
 use lib.Dec.{eqb·suc-zero}
 use lib.ListN.{length, length-append}
-use Rattle.base_limits.specs.Limits.{maxJournal}
-use Rattle.base_limits.specs.Checks.{firstOf, refusedOr}
+use Rattle.base.specs.Limits.{maxJournal}
+use Rattle.base.specs.Checks.{firstOf, refusedOr}
 use Rattle.sheet.specs.Sheet.{Sheet, Picture}
 use Rattle.sheet.proofs.Judging.{none-applied}
-use Rattle.edit.specs.declared.Edit.{Edit}
+use Rattle.base.specs.declared.Edit.{Edit}
 use Rattle.edit.specs.Change.{Change}
 use Rattle.edit.specs.Apply.{filledEdit, filledChanges}
 use Rattle.journal_record.specs.Record.{recordLength, readForth, readBack}
 use Rattle.journal_write.specs.Fit.{Fit}
 use Rattle.journal_write.proofs.ReadAgain.{read-forth, read-back}
-use Rattle.history_ledger.specs.declared.Handle.{Handle}
+use Rattle.base.specs.declared.Handle.{Handle}
 use Rattle.history_ledger.specs.Handle.{sound, steppedBack, steppedForth}
 use Rattle.history_ledger.specs.Laws.{Laws}
 use Rattle.history_ledger.proofs.Soundness.{same-handle}

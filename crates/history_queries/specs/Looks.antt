@@ -3,27 +3,25 @@
 use mathlib.Core.Path.{_≡_}
 use mathlib.Core.Bool.{Bool, not, cond}
 use mathlib.Core.List.{List, [], _∷_}
-use mathlib.Core.Option.{none, some}
+use mathlib.Core.Option.{Option, none, some}
 use Prim.Native.Nat.{ℕ, zero, suc, _+_, _-_, _*_}
 use lib.Dec.{leb, eqb}
 use lib.ListN.{length, take, drop}
-use Rattle.base_limits.specs.Numbers.{journalDamaged}
-use Rattle.base_limits.specs.Checks.{_when_, checked}
-use Rattle.edit.specs.declared.Edit.{Edit}
+use Rattle.base.specs.Numbers.{journalDamaged}
+use Rattle.base.specs.Checks.{_when_, checked}
+use Rattle.base.specs.Answer.{Told, Shown, shownAs}
+use Rattle.base.specs.Answer.Told.{result, alone}
+use Rattle.base.specs.declared.Edit.{Edit}
 use Rattle.edit.specs.Change.{Change}
 use Rattle.journal_record.specs.Record.{Reading, readForth, readBack}
-use Rattle.history_ledger.specs.declared.Handle.{Handle}
+use Rattle.base.specs.declared.Handle.{Handle}
 use Rattle.history_ledger.specs.Handle.{steppedBack, steppedForth}
 use Rattle.history_ledger.specs.Journal.{unsound}
 use Rattle.history_model.specs.Calls.{handleChecks}
-use Rattle.history_queries.specs.declared.Truth.{Truth}
-use Rattle.history_queries.specs.declared.Truth.the-variants as truth
-use Rattle.history_queries.specs.declared.Next.{Next}
-use Rattle.history_queries.specs.declared.Next.the-variants as next
 
 -- ---- questions
-unfoldable pub asked : ℕ → Handle → Bool → Truth
-asked n h b = checked (handleChecks n h) truth.Refused (truth.Is b)
+unfoldable pub asked : ℕ → Handle → Bool → Told Bool
+asked n h b = checked (handleChecks n h) alone (result b)
 
 -- "Undo: at 0 "still"", "Redo: at the last "still"": else there is a record
 abbrev pub undoLeft : Handle → Bool
@@ -32,56 +30,61 @@ undoLeft h = not (eqb (h .position) 0)
 abbrev pub redoLeft : Handle → Bool
 redoLeft h = not (eqb (h .position) (h .count))
 
--- ---- a record that was read from `start` on: its edit, where it lies, and where its changes lie, which stand before the last 4 bytes
-unfoldable pub shown : ℕ → ℕ × Edit × List Change → Next
-shown start r = let n = length (r .2) in next.Record (r .1) start (r .0) (start + r .0 - 4 - 8 * n) n
+-- ---- a record that is shown
+abbrev pub shows : Edit → ℕ → ℕ → ℕ → ℕ → Told (Option Shown)
+shows edit start length list count = result (some (shownAs edit start length list count))
+
+-- a record that was read from `start` on: its edit, where it lies, and where its changes lie, which stand before the last 4 bytes
+unfoldable pub shown : ℕ → ℕ × Edit × List Change → Told (Option Shown)
+shown start r = let n = length (r .2) in shows (r .1) start (r .0) (start + r .0 - 4 - 8 * n) n
 
 -- the record that one step goes over: "A record is sound if it is inside the used part .., the handle after the step is sound", as `over`
 -- (history_ledger/specs/Journal.antt) tests it; what it holds is judged by undo and redo, on a sheet
-unfoldable pub stepShown : ℕ → Handle → Reading → (ℕ → ℕ) → (ℕ → Bool) → (ℕ → Handle → Handle) → Next
-stepShown n h none start inside stepped = next.Refused journalDamaged
+unfoldable pub stepShown : ℕ → Handle → Reading → (ℕ → ℕ) → (ℕ → Bool) → (ℕ → Handle → Handle) → Told (Option Shown)
+stepShown n h none start inside stepped = alone journalDamaged
 stepShown n h (some r) start inside stepped =
-    checked (journalDamaged when not (inside (r .0)) ∷ unsound n (stepped (r .0) h) ∷ []) next.Refused (shown (start (r .0)) r)
+    checked (journalDamaged when not (inside (r .0)) ∷ unsound n (stepped (r .0) h) ∷ []) alone (shown (start (r .0)) r)
 
 -- ---- `next_undo`: "The op undo would revert", `next_redo`: "The op redo would apply"
-unfoldable pub nextUndoOf : List ℕ → Handle → Next
+unfoldable pub nextUndoOf : List ℕ → Handle → Told (Option Shown)
 nextUndoOf journal h =
     let offset = h .offset in
-    checked (handleChecks (length journal) h) next.Refused
-    (cond (eqb (h .position) 0) next.Nothing
+    checked (handleChecks (length journal) h) alone
+    (cond (eqb (h .position) 0) (result none)
     (stepShown (length journal) h (readBack (take offset journal)) (λ n. offset - n) (λ n. leb n offset) steppedBack))
 
-unfoldable pub nextRedoOf : List ℕ → Handle → Next
+unfoldable pub nextRedoOf : List ℕ → Handle → Told (Option Shown)
 nextRedoOf journal h =
     let offset = h .offset in
     let end = h .end in
-    checked (handleChecks (length journal) h) next.Refused
-    (cond (eqb (h .position) (h .count)) next.Nothing
+    checked (handleChecks (length journal) h) alone
+    (cond (eqb (h .position) (h .count)) (result none)
     (stepShown (length journal) h (readForth (take (end - offset) (drop offset journal))) (λ n. offset) (λ n. leb (offset + n) end) steppedForth))
 
--- ---- `applied`: "The applied ops, oldest first", by number: what `next_redo` would show after that many steps, were every applied record undone and none past them
--- there. So the journal is read from its first byte, record by record
+-- ---- `applied`: "The applied ops, oldest first", by number: what `next_redo` would show after that many steps, were
+-- every applied record undone and none past them there. So the journal is read from its first byte, record by record
 abbrev pub rewound : Handle → Handle
 rewound h = record { offset = 0; end = h .offset; position = 0; count = h .position; saved = 0 }
 
 -- what comes after a record that is shown, by its length
-unfoldable pub past : Next → (ℕ → Next) → Next
-past (next.Record e start n list count) more = more n
-past next.Nothing more = next.Nothing
-past (next.Refused number) more = next.Refused number
+unfoldable pub past : Told (Option Shown) → (ℕ → Told (Option Shown)) → Told (Option Shown)
+past (result (some r)) more = more (r .length)
+past (result none) more = result none
+past (alone number) more = alone number
 
-unfoldable pub shownAfter : List ℕ → ℕ → Handle → Next
+unfoldable pub shownAfter : List ℕ → ℕ → Handle → Told (Option Shown)
 shownAfter journal zero h = nextRedoOf journal h
 shownAfter journal (suc n) h = past (nextRedoOf journal h) (λ m. shownAfter journal n (steppedForth m h))
 
-unfoldable pub appliedOf : List ℕ → Handle → ℕ → Next
+unfoldable pub appliedOf : List ℕ → Handle → ℕ → Told (Option Shown)
 appliedOf journal h number =
-    checked (handleChecks (length journal) h) next.Refused
-    (cond (leb (h .position) number) next.Nothing
+    checked (handleChecks (length journal) h) alone
+    (cond (leb (h .position) number) (result none)
     (shownAfter journal number (rewound h)))
 
 -- the chain of the records that end before `end` or at it: the oldest starts at 0, each next one where the one before ends. `applied` shows a record of it
 -- (`applied-chained` in proofs/Chained), in a history that was pushed the pushed ones (`applied-pushed` in proofs/Pushed)
 pub data Starts (journal : List ℕ) (end : ℕ) : ℕ → ℕ → Type 0 where
   oldest : Starts journal end 0 0
-  after : {n at : ℕ} (r : ℕ × Edit × List Change) → Starts journal end n at → readForth (take (end - at) (drop at journal)) ≡ some r → Starts journal end (suc n) (at + r .0)
+  after : {n at : ℕ} (r : ℕ × Edit × List Change) → Starts journal end n at
+      → readForth (take (end - at) (drop at journal)) ≡ some r → Starts journal end (suc n) (at + r .0)

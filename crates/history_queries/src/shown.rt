@@ -1,10 +1,11 @@
 // The records of a history, looked at: the one that undo would revert, the one that redo would apply, and
 // the applied ones, oldest first. What is read is the edit and where its changes lie; the changes stay in
 // the journal. proofs/NextTold says that they are the ones that undo and redo read.
-use crate::Next;
-use base_limits::JOURNAL_DAMAGED;
-use edit::Edit;
-use history_ledger::Handle;
+use base::Edit;
+use base::Handle;
+use base::JOURNAL_DAMAGED;
+use base::Next;
+use history_ledger::sound;
 use history_ledger::stepped_back;
 use history_ledger::stepped_forth;
 use history_model::handle_no;
@@ -18,8 +19,8 @@ ghost use mathlib.Core.Path.{_≡_};
 ghost use Prim.Native.Nat.{_+_, _-_, _*_, _≤_};
 ghost use lib.ListN.{length};
 ghost use Rattle.journal_read.specs.Lies.{editAt, Lies};
-ghost use Rattle.history_queries.specs.declared.Next.the-variants as next;
-ghost use Rattle.history_queries.specs.Looks.{nextUndoOf, nextRedoOf, shownAfter, rewound, appliedOf};
+ghost use Rattle.base.specs.Answer.{nextTold};
+ghost use Rattle.history_queries.specs.Looks.{shows, nextUndoOf, nextRedoOf, shownAfter, rewound, appliedOf};
 
 // The edit of a record that lies in the journal.
 fn edit_at(journal: &[u8], kind: u8, start: usize) -> Edit
@@ -57,7 +58,9 @@ fn edit_at(journal: &[u8], kind: u8, start: usize) -> Edit
 // What is shown of a record of n bytes that lies in the journal.
 fn record_at(journal: &[u8], kind: u8, start: usize, n: usize, count: usize) -> Next
     requires { ⌜ Lies (now journal) kind start count × (start + n ≤ length (now journal)) × (4 + 8 * count ≤ n) ⌝ }
-    ensures { λ r. ⌜ r ≡ next.Record (editAt (now (journal .entry)) kind start) start n (start + n - 4 - 8 * count) count ⌝ }
+    ensures { λ r. ⌜
+        nextTold r ≡ shows (editAt (now (journal .entry)) kind start) start n (start + n - 4 - 8 * count) count
+        ⌝ }
 {
     let edit = edit_at(journal, kind, start);
     let list = start + n - 4 - 8 * count;
@@ -72,7 +75,7 @@ fn record_at(journal: &[u8], kind: u8, start: usize, n: usize, count: usize) -> 
 
 // The record that undo would revert: the one that ends at the standing offset.
 pub fn next_undo(journal: &[u8], handle: Handle) -> Next
-    ensures { λ r. ⌜ r ≡ nextUndoOf (now (journal .entry)) handle ⌝ }
+    ensures { λ r. ⌜ nextTold r ≡ nextUndoOf (now (journal .entry)) handle ⌝ }
 {
     let size = journal.len();
     let no = handle_no(size, handle);
@@ -89,7 +92,7 @@ pub fn next_undo(journal: &[u8], handle: Handle) -> Next
             length,
             count,
         } => {
-            if !stepped_back(handle, length).sound(size) {
+            if !sound(stepped_back(handle, length), size) {
                 return Next::Refused(JOURNAL_DAMAGED);
             }
             record_at(journal, kind, start, length, count)
@@ -100,7 +103,7 @@ pub fn next_undo(journal: &[u8], handle: Handle) -> Next
 
 // The record that redo would apply: the one that starts at the standing offset, inside the used part.
 pub fn next_redo(journal: &[u8], handle: Handle) -> Next
-    ensures { λ r. ⌜ r ≡ nextRedoOf (now (journal .entry)) handle ⌝ }
+    ensures { λ r. ⌜ nextTold r ≡ nextRedoOf (now (journal .entry)) handle ⌝ }
 {
     let size = journal.len();
     let no = handle_no(size, handle);
@@ -117,7 +120,7 @@ pub fn next_redo(journal: &[u8], handle: Handle) -> Next
             length,
             count,
         } => {
-            if !stepped_forth(handle, length).sound(size) {
+            if !sound(stepped_forth(handle, length), size) {
                 return Next::Refused(JOURNAL_DAMAGED);
             }
             record_at(journal, kind, start, length, count)
@@ -128,7 +131,7 @@ pub fn next_redo(journal: &[u8], handle: Handle) -> Next
 
 // What `next_redo` shows after n steps forth, each over the record that it shows.
 fn shown_after(journal: &[u8], handle: Handle, n: usize) -> Next
-    ensures { λ r. ⌜ r ≡ shownAfter (now (journal .entry)) n handle ⌝ }
+    ensures { λ r. ⌜ nextTold r ≡ shownAfter (now (journal .entry)) n handle ⌝ }
 {
     let mut cursor = handle;
     let mut left = n;
@@ -165,7 +168,7 @@ fn rewound(handle: Handle) -> Handle
 // An applied record by its number, 0 for the oldest. The journal is read from its first byte, record by record: what
 // lies inside a record is never taken for one, and where one on the way is unsound the answer is 4.
 pub fn applied(journal: &[u8], handle: Handle, number: usize) -> Next
-    ensures { λ r. ⌜ r ≡ appliedOf (now (journal .entry)) handle number ⌝ }
+    ensures { λ r. ⌜ nextTold r ≡ appliedOf (now (journal .entry)) handle number ⌝ }
 {
     let no = handle_no(journal.len(), handle);
     if no != 0 {

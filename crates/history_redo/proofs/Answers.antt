@@ -5,14 +5,14 @@ use native.Mathlib.Omega.{arith}
 use borrow.Author.Tests.{lt-ltb, le-ltb, eq-eqb, ne-eqb}
 use lib.Dec.{leb}
 use lib.ListN.{length, take, drop}
-use Rattle.base_limits.specs.Checks.{firstOf, refusedOr}
-use Rattle.base_limits.proofs.First.{refused-first, result-first}
+use Rattle.base.specs.Checks.{firstOf, refusedOr}
+use Rattle.base.proofs.First.{refused-first, result-first}
 use Rattle.color_lab.specs.Convert.{labOf}
 use Rattle.sheet.specs.Sheet.{view}
 use Rattle.journal_record.specs.Record.{readForth}
 use Rattle.history_ledger.specs.Handle.{steppedForth}
 use Rattle.history_ledger.specs.Calls.{refused, still}
-use Rattle.history_ledger.specs.Journal.{State, moveChecks, over, redoOf}
+use Rattle.history_ledger.specs.Journal.{State, moveChecks, stepOver, redoOf}
 use Rattle.history_ledger.proofs.Soundness.{Sound, sound-facts}
 use Rattle.history_model.specs.Editing.{redoneBy, editing}
 use Rattle.history_model.specs.Calls.{Standing, Moves}
@@ -34,7 +34,7 @@ module _ (st : State editing) where
           rw (ne-eqb (st .handle .position) (st .handle .count) e, sym (m .value) ∙ z, lt-ltb room (st .sheet .w * st .sheet .h) (rw (m .fine z .fits .limits .indices-length) at h))
 
       pub redo-over : length (st .sheet .indices) ≤ room
-          → over editing st (redoneBy labOf (st .sheet) (readForth (take (st .handle .end - st .handle .offset) (drop (st .handle .offset) (st .journal))))) (λ i. leb (st .handle .offset + i) (st .handle .end)) steppedForth
+          → stepOver editing st (redoneBy labOf (st .sheet) (readForth (take (st .handle .end - st .handle .offset) (drop (st .handle .offset) (st .journal))))) (λ i. leb (st .handle .offset + i) (st .handle .end)) steppedForth
           ≡ redoOf editing room st
       unfolding redoOf view firstOf refusedOr
       redo-over h =

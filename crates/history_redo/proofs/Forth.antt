@@ -10,7 +10,7 @@ use lib.Dec.{leb}
 use lib.ListN.{length, take, drop}
 use Rattle.color_lab.specs.Convert.{labOf}
 use Rattle.sheet.specs.Sheet.{Sheet}
-use Rattle.edit.specs.declared.Edit.{Edit}
+use Rattle.base.specs.declared.Edit.{Edit}
 use Rattle.edit.specs.Change.{Change}
 use Rattle.edit.specs.Apply.{redone}
 use Rattle.journal_record.specs.declared.Found.the-variants.{Record, Unsound}
@@ -19,10 +19,10 @@ use Rattle.journal_record.specs.Found.{foundAt}
 use Rattle.journal_read.specs.Lies.{editAt, changesAt, Lies}
 use Rattle.journal_read.specs.Sound.{redoable}
 use Rattle.journal_read.proofs.Searched.{SearchedForth, searched-forth}
-use Rattle.history_ledger.specs.declared.Handle.{Handle}
+use Rattle.base.specs.declared.Handle.{Handle}
 use Rattle.history_ledger.specs.Handle.{sound, steppedForth}
 use Rattle.history_ledger.specs.Calls.{Outcome, refused, done}
-use Rattle.history_ledger.specs.Journal.{State, over}
+use Rattle.history_ledger.specs.Journal.{State, stepOver}
 use Rattle.history_ledger.proofs.Soundness.{sound-facts}
 use Rattle.history_model.specs.Editing.{taken, redoneBy, editing}
 use Rattle.history_model.specs.Calls.{stateOf, Standing}
@@ -49,7 +49,7 @@ module _ (st : State editing) (kind start n count : ℕ) (stands : Standing st) 
   inside m = leb (handle .offset + m) (handle .end)
 
   abbrev stepped : Outcome (State editing)
-  stepped = over editing st (redoneBy labOf (st .sheet) (readForth used)) inside steppedForth
+  stepped = stepOver editing st (redoneBy labOf (st .sheet) (readForth used)) inside steppedForth
 
   -- no record was found
   nothing : (r : Reading) → foundAt (handle .offset) r ≡ Unsound → r ≡ none

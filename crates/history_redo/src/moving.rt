@@ -1,11 +1,14 @@
 // `redo`: one step over the record after the standing offset. It does not write the journal.
-use base_limits::Answer;
-use base_limits::JOURNAL_DAMAGED;
-use base_limits::NO_SPACE;
-use history_ledger::Handle;
+use base::Answer;
+use base::Handle;
+use base::JOURNAL_DAMAGED;
+use base::Moved;
+use base::NO_SPACE;
+use history_ledger::sound;
 use history_ledger::stepped_forth;
-use history_model::Moved;
 use history_model::move_no;
+use history_model::refused;
+use history_model::still;
 use journal_record::Found;
 use journal_record::find_forth;
 use journal_redo::can_redo;
@@ -20,7 +23,7 @@ ghost use Rattle.journal_record.specs.declared.Found.the-variants.{Record};
 ghost use Rattle.journal_record.specs.Record.{readForth};
 ghost use Rattle.journal_record.specs.Found.{foundAt};
 ghost use Rattle.history_ledger.specs.Handle.{steppedForth};
-ghost use Rattle.history_ledger.specs.Journal.{over, redoOf};
+ghost use Rattle.history_ledger.specs.Journal.{stepOver, redoOf};
 ghost use Rattle.history_model.specs.Editing.{redoneBy, editing};
 ghost use Rattle.history_model.specs.Calls.{stateOf, leaves, Standing};
 
@@ -43,15 +46,24 @@ fn redo_at(
 ) -> Moved
     requires { ⌜ Standing (stateOf (sheetOf w h k (now palette) (now lab) (now indices)) (now journal) handle) ⌝ }
     requires { ⌜ (handle .position < handle .count) × (length (now indices) ≤ length (now scratch)) ⌝ }
-    requires { ⌜ foundAt (handle .offset) (readForth (take (handle .end - handle .offset) (drop (handle .offset) (now journal)))) ≡ Record kind start n count ⌝ }
-    ensures { λ r. ⌜ leaves r w h (now (palette .exit)) (now (lab .exit)) (now (indices .exit)) (now (journal .entry)) ≡ over editing (stateOf (sheetOf w h k (now (palette .entry)) (now (lab .entry)) (now (indices .entry))) (now (journal .entry)) handle) (redoneBy labOf (sheetOf w h k (now (palette .entry)) (now (lab .entry)) (now (indices .entry))) (readForth (take (handle .end - handle .offset) (drop (handle .offset) (now (journal .entry)))))) (λ m. leb (handle .offset + m) (handle .end)) steppedForth ⌝ }
+    requires { ⌜
+        foundAt (handle .offset) (readForth (take (handle .end - handle .offset) (drop (handle .offset) (now journal))))
+        ≡ Record kind start n count
+        ⌝ }
+    ensures { λ r. ⌜ (
+        let sheet = sheetOf w h k (now (palette .entry)) (now (lab .entry)) (now (indices .entry)) in
+        leaves r w h (now (palette .exit)) (now (lab .exit)) (now (indices .exit)) (now (journal .entry))
+        ≡ stepOver editing (stateOf sheet (now (journal .entry)) handle) (redoneBy labOf sheet
+        (readForth (take (handle .end - handle .offset) (drop (handle .offset) (now (journal .entry))))))
+        (λ m. leb (handle .offset + m) (handle .end)) steppedForth
+        ) ⌝ }
 {
     let next = stepped_forth(handle, n);
-    if !next.sound(journal.len()) {
-        return Moved::refused(JOURNAL_DAMAGED, k, handle);
+    if !sound(next, journal.len()) {
+        return refused(JOURNAL_DAMAGED, k, handle);
     }
     if !can_redo(w, h, k, indices, journal, kind, start, count, scratch) {
-        return Moved::refused(JOURNAL_DAMAGED, k, handle);
+        return refused(JOURNAL_DAMAGED, k, handle);
     }
     let k = redo_record(w, k, palette, lab, indices, journal, kind, start, count);
     Moved {
@@ -76,8 +88,18 @@ fn redo_found(
 ) -> Moved
     requires { ⌜ Standing (stateOf (sheetOf w h k (now palette) (now lab) (now indices)) (now journal) handle) ⌝ }
     requires { ⌜ (handle .position < handle .count) × (length (now indices) ≤ length (now scratch)) ⌝ }
-    requires { ⌜ found ≡ foundAt (handle .offset) (readForth (take (handle .end - handle .offset) (drop (handle .offset) (now journal)))) ⌝ }
-    ensures { λ r. ⌜ leaves r w h (now (palette .exit)) (now (lab .exit)) (now (indices .exit)) (now (journal .entry)) ≡ over editing (stateOf (sheetOf w h k (now (palette .entry)) (now (lab .entry)) (now (indices .entry))) (now (journal .entry)) handle) (redoneBy labOf (sheetOf w h k (now (palette .entry)) (now (lab .entry)) (now (indices .entry))) (readForth (take (handle .end - handle .offset) (drop (handle .offset) (now (journal .entry)))))) (λ m. leb (handle .offset + m) (handle .end)) steppedForth ⌝ }
+    requires { ⌜
+        found
+        ≡ foundAt (handle .offset)
+        (readForth (take (handle .end - handle .offset) (drop (handle .offset) (now journal))))
+        ⌝ }
+    ensures { λ r. ⌜ (
+        let sheet = sheetOf w h k (now (palette .entry)) (now (lab .entry)) (now (indices .entry)) in
+        leaves r w h (now (palette .exit)) (now (lab .exit)) (now (indices .exit)) (now (journal .entry))
+        ≡ stepOver editing (stateOf sheet (now (journal .entry)) handle) (redoneBy labOf sheet
+        (readForth (take (handle .end - handle .offset) (drop (handle .offset) (now (journal .entry))))))
+        (λ m. leb (handle .offset + m) (handle .end)) steppedForth
+        ) ⌝ }
 {
     match found {
         Found::Record {
@@ -100,7 +122,7 @@ fn redo_found(
             count,
             scratch,
         ),
-        Found::Unsound => Moved::refused(JOURNAL_DAMAGED, k, handle),
+        Found::Unsound => refused(JOURNAL_DAMAGED, k, handle),
     }
 }
 
@@ -117,18 +139,22 @@ pub fn redo(
     handle: Handle,
     scratch: &mut [u8],
 ) -> Moved
-    ensures { λ r. ⌜ leaves r w h (now (palette .exit)) (now (lab .exit)) (now (indices .exit)) (now (journal .entry)) ≡ redoOf editing (length (now (scratch .entry))) (stateOf (sheetOf w h k (now (palette .entry)) (now (lab .entry)) (now (indices .entry))) (now (journal .entry)) handle) ⌝ }
+    ensures { λ r. ⌜ (
+        let sheet = sheetOf w h k (now (palette .entry)) (now (lab .entry)) (now (indices .entry)) in
+        leaves r w h (now (palette .exit)) (now (lab .exit)) (now (indices .exit)) (now (journal .entry))
+        ≡ redoOf editing (length (now (scratch .entry))) (stateOf sheet (now (journal .entry)) handle)
+        ) ⌝ }
     ensures { λ _. ⌜ length (now (scratch .exit)) ≡ length (now (scratch .entry)) ⌝ }
 {
     let no = move_no(w, h, k, palette, lab, indices, journal, handle);
     if no != 0 {
-        return Moved::refused(no, k, handle);
+        return refused(no, k, handle);
     }
     if handle.position == handle.count {
-        return Moved::still(k, handle);
+        return still(k, handle);
     }
     if scratch.len() < indices.len() {
-        return Moved::refused(NO_SPACE, k, handle);
+        return refused(NO_SPACE, k, handle);
     }
     let found = find_forth(journal, handle.offset, handle.end);
     redo_found(

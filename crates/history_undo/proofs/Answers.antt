@@ -5,11 +5,11 @@ use native.Mathlib.Omega.{arith}
 use borrow.Author.Tests.{eq-eqb, ne-eqb}
 use lib.Dec.{leb}
 use lib.ListN.{length, take}
-use Rattle.base_limits.proofs.First.{refused-first, result-first}
+use Rattle.base.proofs.First.{refused-first, result-first}
 use Rattle.journal_record.specs.Record.{readBack}
 use Rattle.history_ledger.specs.Handle.{steppedBack}
 use Rattle.history_ledger.specs.Calls.{refused, still}
-use Rattle.history_ledger.specs.Journal.{State, moveChecks, over, undoOf}
+use Rattle.history_ledger.specs.Journal.{State, moveChecks, stepOver, undoOf}
 use Rattle.history_ledger.proofs.Soundness.{sound-facts}
 use Rattle.history_model.specs.Editing.{undoneBy, editing}
 use Rattle.history_model.specs.Calls.{Standing, Moves}
@@ -25,7 +25,7 @@ module _ (st : State editing) where
     undo-still e = rw (eq-eqb (st .handle .position) 0 e) (result-first (moveChecks editing st) (refused st) (still st) (sym (m .value) ∙ z))
 
     pub undo-over : (st .handle .position ≡ 0 → ⊥)
-        → over editing st (undoneBy (st .sheet) (readBack (take (st .handle .offset) (st .journal)))) (λ i. leb i (st .handle .offset)) steppedBack ≡ undoOf editing st
+        → stepOver editing st (undoneBy (st .sheet) (readBack (take (st .handle .offset) (st .journal)))) (λ i. leb i (st .handle .offset)) steppedBack ≡ undoOf editing st
     unfolding undoOf
     undo-over e = rw (ne-eqb (st .handle .position) 0 e) (result-first (moveChecks editing st) (refused st) _ (sym (m .value) ∙ z))
 

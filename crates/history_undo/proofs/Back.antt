@@ -11,7 +11,7 @@ use lib.IntN.{ℤ}
 use lib.ListN.{length, take}
 use Rattle.sheet.specs.Sheet.{Sheet, sheetOf}
 use Rattle.sheet.specs.Checks.{WellFormed}
-use Rattle.edit.specs.declared.Edit.{Edit}
+use Rattle.base.specs.declared.Edit.{Edit}
 use Rattle.edit.specs.Change.{Change}
 use Rattle.edit.specs.Apply.{reverted}
 use Rattle.journal_record.specs.declared.Found.the-variants.{Record, Unsound}
@@ -20,10 +20,10 @@ use Rattle.journal_record.specs.Found.{foundBefore}
 use Rattle.journal_read.specs.Lies.{editAt, changesAt, Lies}
 use Rattle.journal_read.specs.Sound.{undoable}
 use Rattle.journal_read.proofs.Searched.{SearchedBack, searched-back}
-use Rattle.history_ledger.specs.declared.Handle.{Handle}
+use Rattle.base.specs.declared.Handle.{Handle}
 use Rattle.history_ledger.specs.Handle.{sound, steppedBack}
 use Rattle.history_ledger.specs.Calls.{Outcome, refused, done}
-use Rattle.history_ledger.specs.Journal.{State, over}
+use Rattle.history_ledger.specs.Journal.{State, stepOver}
 use Rattle.history_ledger.proofs.Soundness.{sound-facts}
 use Rattle.history_model.specs.Editing.{taken, undoneBy, editing}
 use Rattle.history_model.specs.Calls.{stateOf, Standing}
@@ -50,7 +50,7 @@ module _ (st : State editing) (kind start n count : ℕ) (stands : Standing st) 
   inside m = leb m (handle .offset)
 
   abbrev stepped : Outcome (State editing)
-  stepped = over editing st (undoneBy (st .sheet) (readBack used)) inside steppedBack
+  stepped = stepOver editing st (undoneBy (st .sheet) (readBack used)) inside steppedBack
 
   -- no record was found
   nothing : (r : Reading) → foundBefore (handle .offset) r ≡ Unsound → r ≡ none

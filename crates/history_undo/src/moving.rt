@@ -1,10 +1,13 @@
 // `undo`: one step over the record before the standing offset. It does not write the journal.
-use base_limits::Answer;
-use base_limits::JOURNAL_DAMAGED;
-use history_ledger::Handle;
+use base::Answer;
+use base::Handle;
+use base::JOURNAL_DAMAGED;
+use base::Moved;
+use history_ledger::sound;
 use history_ledger::stepped_back;
-use history_model::Moved;
 use history_model::move_no;
+use history_model::refused;
+use history_model::still;
 use journal_record::Found;
 use journal_record::find_back;
 use journal_undo::can_undo;
@@ -18,7 +21,7 @@ ghost use Rattle.journal_record.specs.declared.Found.the-variants.{Record};
 ghost use Rattle.journal_record.specs.Record.{readBack};
 ghost use Rattle.journal_record.specs.Found.{foundBefore};
 ghost use Rattle.history_ledger.specs.Handle.{steppedBack};
-ghost use Rattle.history_ledger.specs.Journal.{over, undoOf};
+ghost use Rattle.history_ledger.specs.Journal.{stepOver, undoOf};
 ghost use Rattle.history_model.specs.Editing.{undoneBy, editing};
 ghost use Rattle.history_model.specs.Calls.{stateOf, leaves, Standing};
 
@@ -40,15 +43,23 @@ fn undo_at(
 ) -> Moved
     requires { ⌜ Standing (stateOf (sheetOf w h k (now palette) (now lab) (now indices)) (now journal) handle) ⌝ }
     requires { ⌜ 0 < handle .position ⌝ }
-    requires { ⌜ foundBefore (handle .offset) (readBack (take (handle .offset) (now journal))) ≡ Record kind start n count ⌝ }
-    ensures { λ r. ⌜ leaves r w h (now (palette .exit)) (now (lab .exit)) (now (indices .exit)) (now (journal .entry)) ≡ over editing (stateOf (sheetOf w h k (now (palette .entry)) (now (lab .entry)) (now (indices .entry))) (now (journal .entry)) handle) (undoneBy (sheetOf w h k (now (palette .entry)) (now (lab .entry)) (now (indices .entry))) (readBack (take (handle .offset) (now (journal .entry))))) (λ m. leb m (handle .offset)) steppedBack ⌝ }
+    requires { ⌜
+        foundBefore (handle .offset) (readBack (take (handle .offset) (now journal))) ≡ Record kind start n count
+        ⌝ }
+    ensures { λ r. ⌜ (
+        let sheet = sheetOf w h k (now (palette .entry)) (now (lab .entry)) (now (indices .entry)) in
+        leaves r w h (now (palette .exit)) (now (lab .exit)) (now (indices .exit)) (now (journal .entry))
+        ≡ stepOver editing (stateOf sheet (now (journal .entry)) handle)
+        (undoneBy sheet (readBack (take (handle .offset) (now (journal .entry))))) (λ m. leb m (handle .offset))
+        steppedBack
+        ) ⌝ }
 {
     let next = stepped_back(handle, n);
-    if !next.sound(journal.len()) {
-        return Moved::refused(JOURNAL_DAMAGED, k, handle);
+    if !sound(next, journal.len()) {
+        return refused(JOURNAL_DAMAGED, k, handle);
     }
     if !can_undo(w, h, k, palette, lab, indices, journal, kind, start, count) {
-        return Moved::refused(JOURNAL_DAMAGED, k, handle);
+        return refused(JOURNAL_DAMAGED, k, handle);
     }
     let k = undo_record(w, h, k, palette, lab, indices, journal, kind, start, count);
     Moved {
@@ -73,7 +84,13 @@ fn undo_found(
     requires { ⌜ Standing (stateOf (sheetOf w h k (now palette) (now lab) (now indices)) (now journal) handle) ⌝ }
     requires { ⌜ 0 < handle .position ⌝ }
     requires { ⌜ found ≡ foundBefore (handle .offset) (readBack (take (handle .offset) (now journal))) ⌝ }
-    ensures { λ r. ⌜ leaves r w h (now (palette .exit)) (now (lab .exit)) (now (indices .exit)) (now (journal .entry)) ≡ over editing (stateOf (sheetOf w h k (now (palette .entry)) (now (lab .entry)) (now (indices .entry))) (now (journal .entry)) handle) (undoneBy (sheetOf w h k (now (palette .entry)) (now (lab .entry)) (now (indices .entry))) (readBack (take (handle .offset) (now (journal .entry))))) (λ m. leb m (handle .offset)) steppedBack ⌝ }
+    ensures { λ r. ⌜ (
+        let sheet = sheetOf w h k (now (palette .entry)) (now (lab .entry)) (now (indices .entry)) in
+        leaves r w h (now (palette .exit)) (now (lab .exit)) (now (indices .exit)) (now (journal .entry))
+        ≡ stepOver editing (stateOf sheet (now (journal .entry)) handle)
+        (undoneBy sheet (readBack (take (handle .offset) (now (journal .entry))))) (λ m. leb m (handle .offset))
+        steppedBack
+        ) ⌝ }
 {
     match found {
         Found::Record {
@@ -95,7 +112,7 @@ fn undo_found(
             length,
             count,
         ),
-        Found::Unsound => Moved::refused(JOURNAL_DAMAGED, k, handle),
+        Found::Unsound => refused(JOURNAL_DAMAGED, k, handle),
     }
 }
 
@@ -111,14 +128,18 @@ pub fn undo(
     journal: &[u8],
     handle: Handle,
 ) -> Moved
-    ensures { λ r. ⌜ leaves r w h (now (palette .exit)) (now (lab .exit)) (now (indices .exit)) (now (journal .entry)) ≡ undoOf editing (stateOf (sheetOf w h k (now (palette .entry)) (now (lab .entry)) (now (indices .entry))) (now (journal .entry)) handle) ⌝ }
+    ensures { λ r. ⌜ (
+        let sheet = sheetOf w h k (now (palette .entry)) (now (lab .entry)) (now (indices .entry)) in
+        leaves r w h (now (palette .exit)) (now (lab .exit)) (now (indices .exit)) (now (journal .entry))
+        ≡ undoOf editing (stateOf sheet (now (journal .entry)) handle)
+        ) ⌝ }
 {
     let no = move_no(w, h, k, palette, lab, indices, journal, handle);
     if no != 0 {
-        return Moved::refused(no, k, handle);
+        return refused(no, k, handle);
     }
     if handle.position == 0 {
-        return Moved::still(k, handle);
+        return still(k, handle);
     }
     let found = find_back(journal, handle.offset);
     undo_found(w, h, k, palette, lab, indices, journal, handle, found)

@@ -1,8 +1,8 @@
 // A record around its changes, whose bytes stand in it already: kind, count and whole length, written to the
 // front of a part of the journal.
-use base_limits::Lab;
-use base_limits::Rgb;
-use edit::Edit;
+use base::Edit;
+use base::Lab;
+use base::Rgb;
 use journal_record::put_u32;
 use journal_write::put_kind;
 use journal_write::put_lab;
@@ -12,7 +12,7 @@ use journal_write::write_set;
 ghost use mathlib.Core.Path.{_≡_};
 ghost use Prim.Native.Nat.{_+_, _*_, _≤_, _<_};
 ghost use lib.ListN.{length};
-ghost use Rattle.edit.specs.declared.Edit.the-variants.{Pixels, PaletteRemove};
+ghost use Rattle.base.specs.declared.Edit.the-variants.{Pixels, PaletteRemove};
 ghost use Rattle.journal_record.specs.Record.{recordLength};
 ghost use Rattle.journal_write.specs.Fit.{Numbers};
 ghost use Rattle.journal_frame.specs.Frame.{around, Framed};

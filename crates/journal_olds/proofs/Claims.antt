@@ -10,10 +10,10 @@ use lib.Dec.{eqb}
 use lib.IntN.{ℤ, pos, negsuc, _+ℤ_, +ℤ-negℤ-cancel}
 use lib.ListN.{length, drop, getD, set, length-set}
 use lib.Seq.{getD-set-same, getD-set-other, ext-getD}
-use Rattle.base_lists.specs.Lists.{some}
-use Rattle.base_lists.proofs.Scan.{drop-next, drop-end, some-none}
-use Rattle.base_lists.proofs.Nowhere.{or-both}
-use Rattle.base_ints.proofs.Back.{never}
+use Rattle.base.specs.Lists.{some}
+use Rattle.base.proofs.Scan.{drop-next, drop-end, some-none}
+use Rattle.base.proofs.Nowhere.{or-both}
+use Rattle.base.proofs.Back.{never}
 use Rattle.sheet.specs.Sheet.{stray}
 use Rattle.sheet.proofs.Strays.{stray-more}
 use Rattle.edit.specs.Change.{Change, unpacked, place, painted, oldOf}

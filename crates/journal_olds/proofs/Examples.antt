@@ -3,7 +3,7 @@ use mathlib.Core.Path.{_≡_, refl}
 use mathlib.Core.Bool.{true, false}
 use mathlib.Core.List.{[], _∷_}
 use lib.IntN.{pos}
-use Rattle.base_lists.specs.Lists.{some}
+use Rattle.base.specs.Lists.{some}
 use Rattle.sheet.specs.Sheet.{stray}
 use Rattle.edit.specs.Change.{Change, place, painted, oldOf}
 

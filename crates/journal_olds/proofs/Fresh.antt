@@ -11,8 +11,8 @@ use lib.Dec.{eqb, ltb}
 use lib.IntN.{ℤ, pos}
 use lib.ListN.{length, getD, set, length-set}
 use lib.Seq.{getD-set-other, set-set, set-comm, set-out}
-use Rattle.base_lists.specs.Lists.{some}
-use Rattle.base_lists.proofs.Scan.{some-none}
+use Rattle.base.specs.Lists.{some}
+use Rattle.base.proofs.Scan.{some-none}
 use Rattle.edit.specs.Change.{Change, place, painted}
 use Rattle.edit.specs.Checks.{named}
 

@@ -5,7 +5,7 @@ use mathlib.Core.List.{List}
 use Prim.Native.Nat.{ℕ, _+_, _*_, _<_, _≤_}
 use lib.IntN.{ℤ, pos}
 use lib.ListN.{length, getD, set}
-use Rattle.base_lists.specs.Lists.{some}
+use Rattle.base.specs.Lists.{some}
 use Rattle.sheet.specs.Sheet.{stray}
 use Rattle.edit.specs.Change.{unpacked, place, painted, oldOf}
 use Rattle.journal_record.specs.Bytes.{leAt}

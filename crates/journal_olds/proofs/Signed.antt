@@ -12,7 +12,7 @@ use lib.Signed.{mag, leZ}
 use mir.Syntax.{w16}
 use mir.Val.{toZ, ofZ, hbits, SFits}
 use mir.Facts.{toZ-ofZ}
-use Rattle.base_ints.proofs.Back.{back, by-value, by-result, never}
+use Rattle.base.proofs.Back.{back, by-value, by-result, never}
 use Rattle.sheet.specs.Sheet.{stray}
 use Rattle.journal_olds.specs.Claims.{claimed, claimOf, releaseOf}
 

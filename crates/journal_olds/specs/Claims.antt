@@ -6,7 +6,7 @@ use Prim.Native.Nat.{ℕ, _<_}
 use lib.IntN.{ℤ, pos, _+ℤ_, _-ℤ_}
 use lib.ListN.{length, getD}
 use lib.Signed.{leZ}
-use Rattle.base_lists.specs.Lists.{some}
+use Rattle.base.specs.Lists.{some}
 use Rattle.sheet.specs.Sheet.{stray}
 use Rattle.edit.specs.Change.{Change}
 use Rattle.edit.specs.Checks.{named}

@@ -1,6 +1,6 @@
 // The olds of a record's changes, read from its bytes, judged and painted.
-use base_lists::either;
-use edit_pixels::both;
+use base::both;
+use base::either;
 use edit_pixels::is_stray;
 use edit_pixels::old_of;
 use edit_pixels::paint_old;
@@ -12,7 +12,7 @@ ghost use mathlib.Core.List.{List};
 ghost use Prim.Native.Nat.{_+_, _*_, _<_, _≤_};
 ghost use lib.IntN.{ℤ, pos};
 ghost use lib.ListN.{length, getD, set};
-ghost use Rattle.base_lists.specs.Lists.{some};
+ghost use Rattle.base.specs.Lists.{some};
 ghost use Rattle.sheet.specs.Sheet.{stray};
 ghost use Rattle.edit.specs.Change.{unpacked, place, painted, oldOf};
 ghost use Rattle.edit_pixels.specs.Inside.{past};
@@ -37,7 +37,9 @@ fn any_stray_old_in(k: usize, journal: &[u8], at: usize, n: usize) -> bool
 pub fn paint_olds_in(indices: &mut [i16], w: usize, journal: &[u8], at: usize, n: usize)
     requires { ⌜ at + 8 * n ≤ length (now journal) ⌝ }
     requires { ⌜ some (past w (length (now indices))) (changesIn (now journal) at n) ≡ false ⌝ }
-    ensures { λ _. ⌜ now (indices .exit) ≡ painted oldOf w (changesIn (now (journal .entry)) at n) (now (indices .entry)) ⌝ }
+    ensures { λ _. ⌜
+        now (indices .exit) ≡ painted oldOf w (changesIn (now (journal .entry)) at n) (now (indices .entry))
+        ⌝ }
 {
     let mut i: usize = 0;
     while i < n {
@@ -76,8 +78,14 @@ fn release(z: i16) -> i16
 // Claims a change's place. Whether it was free and the change's old lies outside -1..k-1.
 fn claim_place(indices: &mut [i16], w: usize, k: usize, c: u64) -> bool
     requires { ⌜ place w (unpacked c) < length (now indices) ⌝ }
-    ensures { λ _. ⌜ now (indices .exit) ≡ set (now (indices .entry)) (place w (unpacked c)) (claimOf (getD (now (indices .entry)) (place w (unpacked c)) (pos 0))) ⌝ }
-    ensures { λ r. ⌜ r ≡ not (claimed (getD (now (indices .entry)) (place w (unpacked c)) (pos 0))) && stray k (oldOf (unpacked c)) ⌝ }
+    ensures { λ _. ⌜
+        now (indices .exit)
+        ≡ set (now (indices .entry)) (place w (unpacked c))
+        (claimOf (getD (now (indices .entry)) (place w (unpacked c)) (pos 0)))
+        ⌝ }
+    ensures { λ r. ⌜
+        r ≡ not (claimed (getD (now (indices .entry)) (place w (unpacked c)) (pos 0))) && stray k (oldOf (unpacked c))
+        ⌝ }
 {
     let p = place_of(w, c);
     let taken = is_claimed(indices[p]);
@@ -100,7 +108,9 @@ fn claim_places(
     requires { ⌜ some (past w (length (now indices))) (changesIn (now journal) at n) ≡ false ⌝ }
     requires { ⌜ some (stray k) (now indices) ≡ false ⌝ }
     ensures { λ _. ⌜ Claims w (changesIn (now (journal .entry)) at n) (now (indices .entry)) (now (indices .exit)) ⌝ }
-    ensures { λ r. ⌜ r ≡ some (stray k) (painted oldOf w (changesIn (now (journal .entry)) at n) (now (indices .entry))) ⌝ }
+    ensures { λ r. ⌜
+        r ≡ some (stray k) (painted oldOf w (changesIn (now (journal .entry)) at n) (now (indices .entry)))
+        ⌝ }
 {
     let mut bad = false;
     let mut i: usize = n;
@@ -115,7 +125,11 @@ fn claim_places(
 // Takes the claim off a change's place.
 fn release_place(indices: &mut [i16], w: usize, c: u64)
     requires { ⌜ place w (unpacked c) < length (now indices) ⌝ }
-    ensures { λ _. ⌜ now (indices .exit) ≡ set (now (indices .entry)) (place w (unpacked c)) (releaseOf (getD (now (indices .entry)) (place w (unpacked c)) (pos 0))) ⌝ }
+    ensures { λ _. ⌜
+        now (indices .exit)
+        ≡ set (now (indices .entry)) (place w (unpacked c))
+        (releaseOf (getD (now (indices .entry)) (place w (unpacked c)) (pos 0)))
+        ⌝ }
 {
     let p = place_of(w, c);
     let z = release(indices[p]);
@@ -126,7 +140,10 @@ fn release_place(indices: &mut [i16], w: usize, c: u64)
 fn release_places(indices: &mut [i16], w: usize, journal: &[u8], at: usize, n: usize)
     requires { ⌜ at + 8 * n ≤ length (now journal) ⌝ }
     requires { ⌜ some (past w (length (now indices))) (changesIn (now journal) at n) ≡ false ⌝ }
-    ensures { λ _. ⌜ ((l : List ℤ) → Claims w (changesIn (now (journal .entry)) at n) l (now (indices .entry)) → now (indices .exit) ≡ l) ⌝ }
+    ensures { λ _. ⌜
+        ((l : List ℤ) → Claims w (changesIn (now (journal .entry)) at n) l (now (indices .entry))
+        → now (indices .exit) ≡ l)
+        ⌝ }
 {
     let mut i: usize = 0;
     while i < n {
@@ -149,7 +166,9 @@ pub fn olds_stray(
     requires { ⌜ some (past w (length (now indices))) (changesIn (now journal) at n) ≡ false ⌝ }
     requires { ⌜ some (stray k) (now indices) ≡ false ⌝ }
     ensures { λ _. ⌜ now (indices .exit) ≡ now (indices .entry) ⌝ }
-    ensures { λ r. ⌜ r ≡ some (stray k) (painted oldOf w (changesIn (now (journal .entry)) at n) (now (indices .entry))) ⌝ }
+    ensures { λ r. ⌜
+        r ≡ some (stray k) (painted oldOf w (changesIn (now (journal .entry)) at n) (now (indices .entry)))
+        ⌝ }
 {
     if !any_stray_old_in(k, journal, at, n) {
         return false;

@@ -5,7 +5,7 @@ use mathlib.Core.List.{List}
 use Prim.Native.Nat.{ℕ}
 use lib.Ieee.{Float, nan, inf, fin, binary64, isNan, nanBits, ofBits, div}
 use lib.Ieee.Bits.{nanBits-is}
-use Rattle.base_ints.proofs.Back.{never}
+use Rattle.base.proofs.Back.{never}
 use Rattle.journal_record.specs.Bytes.{leAt}
 use Rattle.journal_record.specs.Record.{doubleIn}
 use Rattle.journal_record.specs.Found.{realOf}

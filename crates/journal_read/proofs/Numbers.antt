@@ -7,9 +7,9 @@ use native.Mathlib.Nat.{not-suc-le-zero, le-of-suc-le-suc}
 use native.Mathlib.Omega.{arith}
 use lib.IntN.{ℤ}
 use lib.ListN.{length, getD, set}
-use Rattle.base_limits.specs.Checks.{Check, firstOf}
-use Rattle.base_lists.specs.Lists.{some}
-use Rattle.base_lists.proofs.Scan.{Flagged, flag-step, flag-end}
+use Rattle.base.specs.Checks.{Check, firstOf}
+use Rattle.base.specs.Lists.{some}
+use Rattle.base.proofs.Scan.{Flagged, flag-step, flag-end}
 use Rattle.edit.specs.Change.{Change, unpacked, place, painted}
 use Rattle.edit_pixels.specs.Inside.{past, Marks}
 use Rattle.edit_pixels.proofs.Inside.{inside-at}

@@ -1,5 +1,5 @@
 // A LAB in the bytes of a record.
-use base_limits::Lab;
+use base::Lab;
 use color_doubles::unfit_triple;
 use journal_record::Real;
 use journal_record::get_f64;

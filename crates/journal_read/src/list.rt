@@ -1,7 +1,7 @@
 // A list of changes as it lies in the journal, 8 bytes a change from `at` on: the checks of its changes, and
 // its news painted. Each loop reads one change a turn.
-use base_limits::STILL_USED;
-use base_lists::either;
+use base::STILL_USED;
+use base::either;
 use edit_pixels::is_outside;
 use edit_pixels::paint_new;
 use edit_pixels::pixel_no;
@@ -15,9 +15,9 @@ ghost use mathlib.Core.Bool.{false};
 ghost use mathlib.Core.List.{[], _∷_, _++_, flatMap};
 ghost use Prim.Native.Nat.{_+_, _*_, _≤_};
 ghost use lib.ListN.{length};
-ghost use Rattle.base_limits.specs.Numbers.{stillUsed};
-ghost use Rattle.base_limits.specs.Checks.{_when_, firstOf};
-ghost use Rattle.base_lists.specs.Lists.{some};
+ghost use Rattle.base.specs.Numbers.{stillUsed};
+ghost use Rattle.base.specs.Checks.{_when_, firstOf};
+ghost use Rattle.base.specs.Lists.{some};
 ghost use Rattle.edit.specs.Change.{outside, painted, newOf};
 ghost use Rattle.edit.specs.Checks.{pixelChecks, remapChecks, leftFrom};
 ghost use Rattle.edit_pixels.specs.Inside.{bare, past, Marks};
@@ -57,7 +57,11 @@ pub fn pixels_no_in(
     n: usize,
 ) -> u8
     requires { ⌜ (length (now indices) ≡ w * h) × (at + 8 * n ≤ length (now journal)) ⌝ }
-    ensures { λ r. ⌜ r ≡ firstOf (flatMap (pixelChecks false (bare w h k (now (indices .entry)))) (changesIn (now (journal .entry)) at n)) ⌝ }
+    ensures { λ r. ⌜
+        r
+        ≡ firstOf
+        (flatMap (pixelChecks false (bare w h k (now (indices .entry)))) (changesIn (now (journal .entry)) at n))
+        ⌝ }
 {
     let mut i: usize = 0;
     while i < n {
@@ -82,7 +86,11 @@ fn remap_no_in(
     n: usize,
 ) -> u8
     requires { ⌜ (index ≤ 255) × (length (now indices) ≡ w * h) × (at + 8 * n ≤ length (now journal)) ⌝ }
-    ensures { λ r. ⌜ r ≡ firstOf (flatMap (remapChecks (bare w h k (now (indices .entry))) index) (changesIn (now (journal .entry)) at n)) ⌝ }
+    ensures { λ r. ⌜
+        r
+        ≡ firstOf
+        (flatMap (remapChecks (bare w h k (now (indices .entry))) index) (changesIn (now (journal .entry)) at n))
+        ⌝ }
 {
     let mut i: usize = 0;
     while i < n {
@@ -97,7 +105,10 @@ fn remap_no_in(
 
 // Marks the place of each change, and no other.
 fn mark_places_in(marks: &mut [u8], w: usize, journal: &[u8], at: usize, n: usize)
-    requires { ⌜ (at + 8 * n ≤ length (now journal)) × (some (past w (length (now marks))) (changesIn (now journal) at n) ≡ false) ⌝ }
+    requires { ⌜
+        (at + 8 * n ≤ length (now journal))
+        × (some (past w (length (now marks))) (changesIn (now journal) at n) ≡ false)
+        ⌝ }
     ensures { λ _. ⌜ Marks w (changesIn (now (journal .entry)) at n) (now (marks .exit)) ⌝ }
 {
     clear(marks);
@@ -122,8 +133,16 @@ pub fn removal_no_in(
     n: usize,
     marks: &mut [u8],
 ) -> u8
-    requires { ⌜ (index ≤ 255) × (length (now indices) ≡ w * h) × (length (now marks) ≡ w * h) × (at + 8 * n ≤ length (now journal)) ⌝ }
-    ensures { λ r. ⌜ r ≡ firstOf (flatMap (remapChecks (bare w h k (now (indices .entry))) index) (changesIn (now (journal .entry)) at n) ++ (stillUsed when leftFrom w index (changesIn (now (journal .entry)) at n) 0 (now (indices .entry)) ∷ [])) ⌝ }
+    requires { ⌜
+        (index ≤ 255) × (length (now indices) ≡ w * h) × (length (now marks) ≡ w * h)
+        × (at + 8 * n ≤ length (now journal))
+        ⌝ }
+    ensures { λ r. ⌜
+        r
+        ≡ firstOf
+        (flatMap (remapChecks (bare w h k (now (indices .entry))) index) (changesIn (now (journal .entry)) at n)
+        ++ (stillUsed when leftFrom w index (changesIn (now (journal .entry)) at n) 0 (now (indices .entry)) ∷ []))
+        ⌝ }
 {
     let no = remap_no_in(w, h, k, index, indices, journal, at, n);
     if no != 0 {
@@ -138,8 +157,13 @@ pub fn removal_no_in(
 
 // Paints each new of a list at its place, in order. No change is past the picture.
 pub fn paint_news_in(indices: &mut [i16], w: usize, journal: &[u8], at: usize, n: usize)
-    requires { ⌜ (at + 8 * n ≤ length (now journal)) × (some (past w (length (now indices))) (changesIn (now journal) at n) ≡ false) ⌝ }
-    ensures { λ _. ⌜ now (indices .exit) ≡ painted newOf w (changesIn (now (journal .entry)) at n) (now (indices .entry)) ⌝ }
+    requires { ⌜
+        (at + 8 * n ≤ length (now journal))
+        × (some (past w (length (now indices))) (changesIn (now journal) at n) ≡ false)
+        ⌝ }
+    ensures { λ _. ⌜
+        now (indices .exit) ≡ painted newOf w (changesIn (now (journal .entry)) at n) (now (indices .entry))
+        ⌝ }
 {
     let mut i: usize = 0;
     while i < n {

@@ -1,5 +1,5 @@
 // A colour in the journal's bytes.
-use base_limits::Rgb;
+use base::Rgb;
 ghost use mathlib.Core.Path.{_≡_};
 ghost use Prim.Native.Nat.{_+_, _≤_};
 ghost use lib.ListN.{length};

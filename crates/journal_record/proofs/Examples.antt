@@ -2,7 +2,7 @@
 use mathlib.Core.Path.{_≡_, refl}
 use mathlib.Core.List.{[], _∷_}
 use lib.IntN.{pos, negsuc}
-use Rattle.edit.specs.declared.Edit.the-variants.{PaletteAdd}
+use Rattle.base.specs.declared.Edit.the-variants.{PaletteAdd}
 use Rattle.journal_record.specs.Bytes.{le}
 use Rattle.journal_record.specs.Record.{changeBytes, bodyOf, recordLength, recordOf}
 

@@ -9,12 +9,12 @@ use borrow.Author.Tests.{ne-eqb, eqb-true, lt-leb, le-leb}
 use lib.Dec.{leb, eqb}
 use lib.ListN.{length, getD, take, drop, length-drop}
 use lib.Seq.{length-take-le}
-use Rattle.edit.specs.declared.Edit.{Edit}
-use Rattle.edit.specs.declared.Edit.the-variants.{Pixels, PaletteSet, PaletteAdd, PaletteRemove}
+use Rattle.base.specs.declared.Edit.{Edit}
+use Rattle.base.specs.declared.Edit.the-variants.{Pixels, PaletteSet, PaletteAdd, PaletteRemove}
 use Rattle.edit.specs.Change.{Change}
 use Rattle.journal_record.specs.declared.Found.the-variants.{Record, Unsound}
 use Rattle.journal_record.specs.Bytes.{leAt}
-use Rattle.journal_record.specs.Record.{recordLength, rgbIn, labIn, changesIn, Reading, byKind, told, closed, agreed, readForth, ofLength, readBack}
+use Rattle.journal_record.specs.Record.{recordLength, rgbIn, labIn, changesIn, Reading, byKind, contents, closed, agreed, readForth, ofLength, readBack}
 use Rattle.journal_record.specs.Found.{kindOf, foundAt, foundBefore, closedAt, countedAt, wholeOnly}
 use Rattle.journal_record.proofs.LittleEndian.{leAt-take, drop-take}
 
@@ -69,7 +69,7 @@ module _ (bytes : List ℕ) where
     found-where false e cs = refl
 
     pub found-pixels : getD bytes 0 0 ≡ 1 → countedAt bytes start 1 10 1 ≡ foundAt start (readForth bytes)
-    unfolding readForth told byKind countedAt kindOf recordLength
+    unfolding readForth contents byKind countedAt kindOf recordLength
     found-pixels e =
         let n : ℕ = leAt 4 bytes 2 in
         let held : foundAt start (agreed bytes (some (Pixels (getD bytes 1 0), changesIn bytes 6 n))) ≡ closedAt bytes start 1 (10 + 8 * n) n =
@@ -77,22 +77,22 @@ module _ (bytes : List ℕ) where
         rw (e, found-where (leb 1 n) (Pixels (getD bytes 1 0)) (changesIn bytes 6 n), held)
 
     pub found-set : getD bytes 0 0 ≡ 2 → closedAt bytes start 2 36 0 ≡ foundAt start (readForth bytes)
-    unfolding readForth told byKind kindOf recordLength
+    unfolding readForth contents byKind kindOf recordLength
     found-set e = rw e (sym (found-told _ []))
 
     pub found-add : getD bytes 0 0 ≡ 3 → closedAt bytes start 3 8 0 ≡ foundAt start (readForth bytes)
-    unfolding readForth told byKind kindOf recordLength
+    unfolding readForth contents byKind kindOf recordLength
     found-add e = rw e (sym (found-told _ []))
 
     pub found-remove : getD bytes 0 0 ≡ 4 → countedAt bytes start 4 37 0 ≡ foundAt start (readForth bytes)
-    unfolding readForth told byKind countedAt kindOf recordLength
+    unfolding readForth contents byKind countedAt kindOf recordLength
     found-remove e =
         let n : ℕ = leAt 4 bytes 29 in
         let held : Edit = PaletteRemove (getD bytes 1 0) (rgbIn bytes 2) (labIn bytes 5) in
         rw (e, le-leb 0 n (omega arith)) (rw (length-in bytes 33 n) at (sym (found-told held (changesIn bytes 33 n))))
 
     pub found-other : (getD bytes 0 0 ≡ 1 → ⊥) → (getD bytes 0 0 ≡ 2 → ⊥) → (getD bytes 0 0 ≡ 3 → ⊥) → (getD bytes 0 0 ≡ 4 → ⊥) → Unsound ≡ foundAt start (readForth bytes)
-    unfolding readForth told byKind agreed foundAt
+    unfolding readForth contents byKind agreed foundAt
     found-other a b c d = let k : ℕ = getD bytes 0 0 in rw (ne-eqb k 1 a, ne-eqb k 2 b, ne-eqb k 3 c, ne-eqb k 4 d)
 
   none-agreed : length bytes < 8 → (held : Option (Edit × List Change)) → agreed bytes held ≡ none
@@ -102,7 +102,7 @@ module _ (bytes : List ℕ) where
 
   pub none-forth : length bytes < 8 → readForth bytes ≡ none
   unfolding readForth
-  none-forth h = none-agreed h (told bytes)
+  none-forth h = none-agreed h (contents bytes)
 
 pub found-none : (start : ℕ) (bytes : List ℕ) → length bytes < 8 → Unsound ≡ foundAt start (readForth bytes)
 unfolding foundAt

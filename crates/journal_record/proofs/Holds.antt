@@ -9,13 +9,13 @@ use native.Mathlib.Omega.{arith}
 use borrow.Author.Tests.{leb-true}
 use lib.Dec.{leb, eqb}
 use lib.ListN.{length, getD}
-use Rattle.base_lists.proofs.Bools.{and-left}
-use Rattle.edit.specs.declared.Edit.{Edit}
-use Rattle.edit.specs.declared.Edit.the-variants.{Pixels, PaletteSet, PaletteAdd, PaletteRemove}
+use Rattle.base.proofs.Bools.{and-left}
+use Rattle.base.specs.declared.Edit.{Edit}
+use Rattle.base.specs.declared.Edit.the-variants.{Pixels, PaletteSet, PaletteAdd, PaletteRemove}
 use Rattle.edit.specs.Change.{Change}
 use Rattle.journal_record.specs.declared.Found.the-variants.{Record}
 use Rattle.journal_record.specs.Bytes.{leAt}
-use Rattle.journal_record.specs.Record.{recordLength, rgbIn, labIn, changesIn, Reading, byKind, told, closed, agreed, readForth}
+use Rattle.journal_record.specs.Record.{recordLength, rgbIn, labIn, changesIn, Reading, byKind, contents, closed, agreed, readForth}
 use Rattle.journal_record.specs.Found.{kindOf, foundAt, foundBefore}
 use Rattle.journal_record.proofs.Finding.{length-in}
 
@@ -86,8 +86,8 @@ module _ (bytes : List ℕ) (e : Edit) (cs : List Change) where
   holds-by false false false true p = same-pair _ _ (refl, refl, refl, ap (changesIn bytes 33) (sym (length-in bytes 33 (leAt 4 bytes 29)))) p
   holds-by false false false false p = never-none p
 
-  told-holds : told bytes ≡ pair e cs → Holds bytes e cs
-  unfolding told byKind
+  told-holds : contents bytes ≡ pair e cs → Holds bytes e cs
+  unfolding contents byKind
   told-holds p = let k : ℕ = getD bytes 0 0 in holds-by (eqb k 1) (eqb k 2) (eqb k 3) (eqb k 4) p
 
 -- ---- the same of a reading: its length is the record's, and lies in the bytes
@@ -110,11 +110,11 @@ module _ (bytes : List ℕ) (n : ℕ) (e : Edit) (cs : List Change) where
       (record { holds = h; length-is = refl; within = leb-true m (length bytes) (and-left (leb m (length bytes)) _ q) })
   held-where e′ cs′ false q h p = absurd (let z : _≡_ {A = ℕ} 0 1 = cc in omega arith)
 
-  held-by : (o : Option Pair) → told bytes ≡ o → agreed bytes o ≡ some (n, e, cs) → Held bytes n e cs
+  held-by : (o : Option Pair) → contents bytes ≡ o → agreed bytes o ≡ some (n, e, cs) → Held bytes n e cs
   unfolding agreed
   held-by none q p = absurd (let z : _≡_ {A = ℕ} 0 1 = cc in omega arith)
   held-by (some t) q p = held-where (t .0) (t .1) (closed bytes (recordLength (t .0) (length (t .1)))) refl (told-holds bytes (t .0) (t .1) q) p
 
   pub read-holds : readForth bytes ≡ some (n, e, cs) → Held bytes n e cs
   unfolding readForth
-  read-holds p = held-by (told bytes) refl p
+  read-holds p = held-by (contents bytes) refl p

@@ -6,8 +6,8 @@ use lib.ListN.{length, take, drop, length-append, take-append-drop}
 use lib.Seq.{sets, sets-eq, drop-drop, length-take-le}
 use native.Mathlib.Omega.{arith}
 use borrow.Rule.Slice.PartMut.{putMid}
-use Rattle.base_lists.specs.Lists.{over}
-use Rattle.base_lists.proofs.Over.{joined, length-over, over-lent}
+use Rattle.base.specs.Lists.{over}
+use Rattle.base.proofs.Over.{joined, length-over, over-lent}
 use Rattle.journal_record.specs.Bytes.{le, splice}
 use Rattle.journal_record.proofs.LittleEndian.{length-le, le-add, le-mod}
 

@@ -6,8 +6,8 @@ use mathlib.Core.Option.{none, some}
 use lib.Dec.{leb, eqb}
 use lib.Ieee.{binary64, nanBits}
 use lib.ListN.{length}
-use Rattle.edit.specs.declared.Edit.{Edit}
-use Rattle.edit.specs.declared.Edit.the-variants.{Pixels, PaletteSet, PaletteAdd, PaletteRemove}
+use Rattle.base.specs.declared.Edit.{Edit}
+use Rattle.base.specs.declared.Edit.the-variants.{Pixels, PaletteSet, PaletteAdd, PaletteRemove}
 use Rattle.journal_record.specs.declared.Real.{Real}
 use Rattle.journal_record.specs.declared.Real.the-variants.{Number, NotANumber}
 use Rattle.journal_record.specs.declared.Found.{Found}

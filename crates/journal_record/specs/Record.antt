@@ -9,10 +9,10 @@ use lib.Ieee.{Float, binary64, toBits, ofBits}
 use lib.ListN.{length, getD, drop}
 use mir.Syntax.{w16}
 use mir.Val.{ofZ}
-use Rattle.base_limits.specs.declared.Rgb.{Rgb}
-use Rattle.base_limits.specs.declared.Lab.{Lab}
-use Rattle.edit.specs.declared.Edit.{Edit}
-use Rattle.edit.specs.declared.Edit.the-variants.{Pixels, PaletteSet, PaletteAdd, PaletteRemove}
+use Rattle.base.specs.declared.Rgb.{Rgb}
+use Rattle.base.specs.declared.Lab.{Lab}
+use Rattle.base.specs.declared.Edit.{Edit}
+use Rattle.base.specs.declared.Edit.the-variants.{Pixels, PaletteSet, PaletteAdd, PaletteRemove}
 use Rattle.edit.specs.Change.{Change, unpacked}
 use Rattle.edit.specs.Storage.{bytesOf}
 use Rattle.journal_record.specs.Bytes.{le, leAt}
@@ -80,8 +80,8 @@ byKind kind pixels set add remove other =
     cond (eqb kind 1) pixels (cond (eqb kind 2) set (cond (eqb kind 3) add (cond (eqb kind 4) remove other)))
 
 -- what kind and counts say that it holds: nothing where the kind is another, and "pixels ≥ 1"
-unfoldable pub told : List ℕ → Option (Edit × List Change)
-told bytes =
+unfoldable pub contents : List ℕ → Option (Edit × List Change)
+contents bytes =
     byKind (getD bytes 0 0)
     (cond (leb 1 (leAt 4 bytes 2)) (some (Pixels (getD bytes 1 0), changesIn bytes 6 (leAt 4 bytes 2))) none)
     (some (PaletteSet (getD bytes 1 0) (rgbIn bytes 2) (rgbIn bytes 5) (labIn bytes 8), []))
@@ -101,7 +101,7 @@ agreed bytes (some held) =
     cond (closed bytes n) (some (n, held .0, held .1)) none
 
 unfoldable pub readForth : List ℕ → Reading
-readForth bytes = agreed bytes (told bytes)
+readForth bytes = agreed bytes (contents bytes)
 
 -- ---- the record that ends these bytes: their last four are its length
 

@@ -9,16 +9,16 @@ use lib.Dec.{leb}
 use lib.IntN.{ℤ}
 use lib.Ieee.{Float}
 use lib.ListN.{length, getD}
-use Rattle.base_limits.specs.Limits.{maxChanges}
-use Rattle.base_limits.specs.declared.Rgb.{Rgb}
-use Rattle.base_limits.specs.declared.Lab.{Lab}
-use Rattle.base_lists.specs.Lists.{some}
-use Rattle.base_lists.proofs.Bools.{and-right}
+use Rattle.base.specs.Limits.{maxChanges}
+use Rattle.base.specs.declared.Rgb.{Rgb}
+use Rattle.base.specs.declared.Lab.{Lab}
+use Rattle.base.specs.Lists.{some}
+use Rattle.base.proofs.Bools.{and-right}
 use Rattle.color_lab.specs.Convert.{labOf}
 use Rattle.sheet.specs.Sheet.{Sheet, sheetOf}
 use Rattle.sheet.specs.Checks.{WellFormed}
-use Rattle.edit.specs.declared.Edit.{Edit}
-use Rattle.edit.specs.declared.Edit.the-variants.{PaletteSet, PaletteRemove}
+use Rattle.base.specs.declared.Edit.{Edit}
+use Rattle.base.specs.declared.Edit.the-variants.{PaletteSet, PaletteRemove}
 use Rattle.edit.specs.Change.{Change, painted, newOf}
 use Rattle.edit.specs.Storage.{bytesOf, numbersOf, stored, closed, lowered}
 use Rattle.edit.specs.Apply.{redone}

@@ -5,14 +5,14 @@ use mathlib.Core.List.{List, [], _∷_, _++_, flatMap}
 use Prim.Native.Nat.{ℕ, _+_, _<_, _≤_}
 use borrow.Author.Tests.{leb-true, leb-false, lt-ltb, le-ltb, le-leb, lt-leb}
 use lib.Dec.{leb, ltb, eqb}
-use Rattle.base_limits.specs.Limits.{maxChanges, maxEntries}
-use Rattle.base_limits.specs.Numbers.{stillUsed}
-use Rattle.base_limits.specs.Checks.{_when_, firstOf}
-use Rattle.base_limits.specs.declared.Rgb.{Rgb}
-use Rattle.base_limits.specs.declared.Lab.{Lab}
+use Rattle.base.specs.Limits.{maxChanges, maxEntries}
+use Rattle.base.specs.Numbers.{stillUsed}
+use Rattle.base.specs.Checks.{_when_, firstOf}
+use Rattle.base.specs.declared.Rgb.{Rgb}
+use Rattle.base.specs.declared.Lab.{Lab}
 use Rattle.sheet.specs.Sheet.{Sheet}
-use Rattle.edit.specs.declared.Edit.{Edit}
-use Rattle.edit.specs.declared.Edit.the-variants.{Pixels, PaletteSet, PaletteAdd, PaletteRemove}
+use Rattle.base.specs.declared.Edit.{Edit}
+use Rattle.base.specs.declared.Edit.the-variants.{Pixels, PaletteSet, PaletteAdd, PaletteRemove}
 use Rattle.edit.specs.Change.{Change}
 use Rattle.edit.specs.Checks.{barred, pixelChecks, remapChecks, leftFrom, ownChecks}
 use Rattle.edit_pixels.specs.Inside.{bare}

@@ -1,6 +1,6 @@
 // An edit that lies in the journal, checked and redone from its bytes.
-use base_limits::MAX_CHANGES;
-use base_limits::MAX_ENTRIES;
+use base::MAX_CHANGES;
+use base::MAX_ENTRIES;
 use edit_apply::store_entry;
 use edit_entries::close_lab_gap;
 use edit_entries::close_palette_gap;
@@ -20,12 +20,12 @@ ghost use Prim.Native.Nat.{ℕ, _+_, _*_, _<_, _≤_};
 ghost use lib.IntN.{ℤ};
 ghost use lib.Ieee.{Float};
 ghost use lib.ListN.{length};
-ghost use Rattle.base_limits.specs.declared.Rgb.{Rgb};
-ghost use Rattle.base_limits.specs.declared.Lab.{Lab};
-ghost use Rattle.base_lists.specs.Lists.{some};
+ghost use Rattle.base.specs.declared.Rgb.{Rgb};
+ghost use Rattle.base.specs.declared.Lab.{Lab};
+ghost use Rattle.base.specs.Lists.{some};
 ghost use Rattle.color_lab.specs.Convert.{labOf};
 ghost use Rattle.sheet.specs.Sheet.{sheetOf};
-ghost use Rattle.edit.specs.declared.Edit.the-variants.{Pixels, PaletteSet, PaletteAdd, PaletteRemove};
+ghost use Rattle.base.specs.declared.Edit.the-variants.{Pixels, PaletteSet, PaletteAdd, PaletteRemove};
 ghost use Rattle.edit.specs.Change.{painted, newOf};
 ghost use Rattle.edit.specs.Storage.{closed, lowered};
 ghost use Rattle.edit.specs.Apply.{redone};
@@ -46,7 +46,11 @@ fn can_redo_pixels(
     n: usize,
 ) -> bool
     requires { ⌜ (length (now indices) ≡ w * h) × (at + 8 * n ≤ length (now journal)) ⌝ }
-    ensures { λ r. ⌜ ((palette : List ℕ) (lab : List Float) (tool : ℕ) → r ≡ redoable (sheetOf w h k palette lab (now (indices .entry))) (Pixels tool) (changesIn (now (journal .entry)) at n)) ⌝ }
+    ensures { λ r. ⌜
+        ((palette : List ℕ) (lab : List Float) (tool : ℕ) → r
+        ≡ redoable (sheetOf w h k palette lab (now (indices .entry))) (Pixels tool)
+        (changesIn (now (journal .entry)) at n))
+        ⌝ }
 {
     if MAX_CHANGES < n {
         return false;
@@ -56,14 +60,20 @@ fn can_redo_pixels(
 
 // Set: 7.
 fn can_redo_set(k: usize, index: usize) -> bool
-    ensures { λ r. ⌜ ((w h : ℕ) (palette : List ℕ) (lab : List Float) (indices : List ℤ) (old new : Rgb) (x : Lab) → r ≡ redoable (sheetOf w h k palette lab indices) (PaletteSet index old new x) []) ⌝ }
+    ensures { λ r. ⌜
+        ((w h : ℕ) (palette : List ℕ) (lab : List Float) (indices : List ℤ) (old new : Rgb) (x : Lab)
+        → r ≡ redoable (sheetOf w h k palette lab indices) (PaletteSet index old new x) [])
+        ⌝ }
 {
     index < k
 }
 
 // Add: 8.
 fn can_redo_add(k: usize) -> bool
-    ensures { λ r. ⌜ ((w h : ℕ) (palette : List ℕ) (lab : List Float) (indices : List ℤ) (c : Rgb) → r ≡ redoable (sheetOf w h k palette lab indices) (PaletteAdd c) []) ⌝ }
+    ensures { λ r. ⌜
+        ((w h : ℕ) (palette : List ℕ) (lab : List Float) (indices : List ℤ) (c : Rgb)
+        → r ≡ redoable (sheetOf w h k palette lab indices) (PaletteAdd c) [])
+        ⌝ }
 {
     k < MAX_ENTRIES
 }
@@ -80,8 +90,15 @@ fn can_redo_remove(
     count: usize,
     marks: &mut [u8],
 ) -> bool
-    requires { ⌜ (index ≤ 255) × (length (now indices) ≡ w * h) × (w * h ≤ length (now marks)) × (at + 8 * count ≤ length (now journal)) ⌝ }
-    ensures { λ r. ⌜ ((palette : List ℕ) (lab : List Float) (c : Rgb) (x : Lab) → r ≡ redoable (sheetOf w h k palette lab (now (indices .entry))) (PaletteRemove index c x) (changesIn (now (journal .entry)) at count)) ⌝ }
+    requires { ⌜
+        (index ≤ 255) × (length (now indices) ≡ w * h) × (w * h ≤ length (now marks))
+        × (at + 8 * count ≤ length (now journal))
+        ⌝ }
+    ensures { λ r. ⌜
+        ((palette : List ℕ) (lab : List Float) (c : Rgb) (x : Lab) → r
+        ≡ redoable (sheetOf w h k palette lab (now (indices .entry))) (PaletteRemove index c x)
+        (changesIn (now (journal .entry)) at count))
+        ⌝ }
 {
     if MAX_CHANGES < count {
         return false;
@@ -121,7 +138,11 @@ pub fn can_redo(
 ) -> bool
     requires { ⌜ Lies (now journal) kind start count ⌝ }
     requires { ⌜ (length (now indices) ≡ w * h) × (w * h ≤ length (now marks)) ⌝ }
-    ensures { λ r. ⌜ ((palette : List ℕ) (lab : List Float) → r ≡ redoable (sheetOf w h k palette lab (now (indices .entry))) (editAt (now (journal .entry)) kind start) (changesAt (now (journal .entry)) kind start count)) ⌝ }
+    ensures { λ r. ⌜
+        ((palette : List ℕ) (lab : List Float) → r
+        ≡ redoable (sheetOf w h k palette lab (now (indices .entry))) (editAt (now (journal .entry)) kind start)
+        (changesAt (now (journal .entry)) kind start count))
+        ⌝ }
 {
     if kind == PIXELS {
         return can_redo_pixels(w, h, k, indices, journal, start + 6, count);
@@ -149,10 +170,16 @@ fn redo_remove(
     n: usize,
 )
     requires { ⌜ (index < k) × (k ≤ 255) × (3 * k ≤ length (now palette)) × (3 * k ≤ length (now lab)) ⌝ }
-    requires { ⌜ (at + 8 * n ≤ length (now journal)) × (some (past w (length (now indices))) (changesIn (now journal) at n) ≡ false) ⌝ }
+    requires { ⌜
+        (at + 8 * n ≤ length (now journal))
+        × (some (past w (length (now indices))) (changesIn (now journal) at n) ≡ false)
+        ⌝ }
     ensures { λ _. ⌜ now (palette .exit) ≡ closed (3 * index) (3 * k) (now (palette .entry)) ⌝ }
     ensures { λ _. ⌜ now (lab .exit) ≡ closed (3 * index) (3 * k) (now (lab .entry)) ⌝ }
-    ensures { λ _. ⌜ now (indices .exit) ≡ map (lowered index) (painted newOf w (changesIn (now (journal .entry)) at n) (now (indices .entry))) ⌝ }
+    ensures { λ _. ⌜
+        now (indices .exit)
+        ≡ map (lowered index) (painted newOf w (changesIn (now (journal .entry)) at n) (now (indices .entry)))
+        ⌝ }
 {
     paint_news_in(indices, w, journal, at, n);
     lower_above(indices, index);
@@ -173,8 +200,15 @@ pub fn redo_record(
     count: usize,
 ) -> usize
     requires { ⌜ Lies (now journal) kind start count ⌝ }
-    requires { ⌜ Redoable w k (now palette) (now lab) (now indices) (editAt (now journal) kind start) (changesAt (now journal) kind start count) ⌝ }
-    ensures { λ r. ⌜ ((h : ℕ) → sheetOf w h r (now (palette .exit)) (now (lab .exit)) (now (indices .exit)) ≡ redone labOf (sheetOf w h k (now (palette .entry)) (now (lab .entry)) (now (indices .entry))) (editAt (now (journal .entry)) kind start) (changesAt (now (journal .entry)) kind start count)) ⌝ }
+    requires { ⌜
+        Redoable w k (now palette) (now lab) (now indices) (editAt (now journal) kind start)
+        (changesAt (now journal) kind start count)
+        ⌝ }
+    ensures { λ r. ⌜
+        ((h : ℕ) → sheetOf w h r (now (palette .exit)) (now (lab .exit)) (now (indices .exit))
+        ≡ redone labOf (sheetOf w h k (now (palette .entry)) (now (lab .entry)) (now (indices .entry)))
+        (editAt (now (journal .entry)) kind start) (changesAt (now (journal .entry)) kind start count))
+        ⌝ }
 {
     if kind == PIXELS {
         paint_news_in(indices, w, journal, start + 6, count);

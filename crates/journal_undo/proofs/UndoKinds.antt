@@ -9,14 +9,14 @@ use lib.Dec.{leb}
 use lib.IntN.{ℤ}
 use lib.Ieee.{Float}
 use lib.ListN.{getD}
-use Rattle.base_limits.specs.declared.Rgb.{Rgb}
-use Rattle.base_lists.specs.Lists.{some}
-use Rattle.base_lists.proofs.Bools.{and-left, and-right}
+use Rattle.base.specs.declared.Rgb.{Rgb}
+use Rattle.base.specs.Lists.{some}
+use Rattle.base.proofs.Bools.{and-left, and-right}
 use Rattle.sheet.specs.Sheet.{Sheet, sheetOf}
 use Rattle.sheet.specs.Checks.{WellFormed}
-use Rattle.edit.specs.declared.Edit.the-variants.{PaletteAdd}
+use Rattle.base.specs.declared.Edit.the-variants.{PaletteAdd}
 use Rattle.edit.specs.Change.{Change, outside, painted, oldOf}
-use Rattle.edit.specs.Storage.{bytesOf, numbersOf, stored, opened, raised}
+use Rattle.edit.specs.Storage.{bytesOf, numbersOf, stored, reinserted, raised}
 use Rattle.edit.specs.Apply.{reverted, canRevert}
 use Rattle.journal_record.specs.Record.{rgbIn, labIn, changesIn, byKind}
 use Rattle.journal_read.specs.Sound.{undoable}
@@ -107,8 +107,8 @@ module _ {s : Sheet} (f : WellFormed s) (journal : List ℕ) {kind : ℕ} (start
           room = ltb-true (s .k) 255 (and-left _ _ c);
         }
 
-    pub remove-leaves : {p : List ℕ} {m : List Float} {l : List ℤ} → p ≡ opened (3 * (entryIn journal start)) (3 * s .k) (bytesOf (rgbIn journal (start + 2))) (s .palette)
-        → m ≡ opened (3 * (entryIn journal start)) (3 * s .k) (numbersOf (labIn journal (start + 5))) (s .lab)
+    pub remove-leaves : {p : List ℕ} {m : List Float} {l : List ℤ} → p ≡ reinserted (3 * (entryIn journal start)) (3 * s .k) (bytesOf (rgbIn journal (start + 2))) (s .palette)
+        → m ≡ reinserted (3 * (entryIn journal start)) (3 * s .k) (numbersOf (labIn journal (start + 5))) (s .lab)
         → l ≡ painted oldOf (s .w) (changesIn journal (start + 33) count) (map (raised (entryIn journal start)) (s .indices)) → sheetOf (s .w) (s .h) (s .k + 1) p m l ≡ leaves s journal kind start count
     unfolding editAt changesAt byKind reverted
     remove-leaves p q r = rw (e, p, q, r, add-one (s .k))

@@ -9,18 +9,18 @@ use lib.Dec.{ltb, leb, eqb}
 use lib.IntN.{ℤ, pos, negsuc, sucℤ}
 use lib.Ieee.{Float}
 use lib.ListN.{length, take, drop, length-map}
-use Rattle.base_limits.specs.Checks.{firstOf}
-use Rattle.base_limits.specs.declared.Rgb.{Rgb}
-use Rattle.base_limits.specs.declared.Lab.{Lab}
-use Rattle.base_lists.specs.Lists.{some}
-use Rattle.base_lists.proofs.Nowhere.{nowhere-take, nowhere-drop, nowhere-weaker, some-map}
+use Rattle.base.specs.Checks.{firstOf}
+use Rattle.base.specs.declared.Rgb.{Rgb}
+use Rattle.base.specs.declared.Lab.{Lab}
+use Rattle.base.specs.Lists.{some}
+use Rattle.base.proofs.Nowhere.{nowhere-take, nowhere-drop, nowhere-weaker, some-map}
 use Rattle.color_doubles.specs.Finite.{unfit, unfitTriple}
 use Rattle.sheet.specs.Sheet.{Sheet, sheetOf, stray}
 use Rattle.sheet.specs.Checks.{sheetChecks, Limits, WellFormed}
 use Rattle.sheet.proofs.Judging.{limited-bad, judged-limits, judged-index, judged-lab, judged-fine}
-use Rattle.edit.specs.declared.Edit.the-variants.{Pixels, PaletteSet, PaletteRemove}
+use Rattle.base.specs.declared.Edit.the-variants.{Pixels, PaletteSet, PaletteRemove}
 use Rattle.edit.specs.Change.{Change, outside, painted, oldOf}
-use Rattle.edit.specs.Storage.{bytesOf, numbersOf, stored, opened, raised}
+use Rattle.edit.specs.Storage.{bytesOf, numbersOf, stored, reinserted, raised}
 use Rattle.edit.specs.Apply.{reverted, canRevert}
 use Rattle.edit.proofs.Painting.{painted-length}
 use Rattle.edit.proofs.Storage.{opened-shows}
@@ -117,14 +117,14 @@ module _ (s : Sheet) (f : WellFormed s) where
       go true e = let b : i < s .k = ltb-true i (s .k) e in sound t (fits b) false (unfitTriple x) (f .in-range) (numbers b)
 
   pub undo-remove : (i : ℕ) (c : Rgb) (x : Lab) (cs : List Change) → undoable s (PaletteRemove i c x) cs ≡ removeBack (s .w) (s .h) (s .k) (s .indices) i x cs
-  unfolding undoable canRevert reverted removeBack opened
+  unfolding undoable canRevert reverted removeBack reinserted
   undo-remove i c x cs = go (leb i (s .k)) (ltb (s .k) 255) refl refl
     where
       l : List ℤ
       l = painted oldOf (s .w) cs (map (raised i) (s .indices))
 
       t : Sheet
-      t = sheetOf (s .w) (s .h) (suc (s .k)) (opened (3 * i) (3 * s .k) (bytesOf c) (s .palette)) (opened (3 * i) (3 * s .k) (numbersOf x) (s .lab)) l
+      t = sheetOf (s .w) (s .h) (suc (s .k)) (reinserted (3 * i) (3 * s .k) (bytesOf c) (s .palette)) (reinserted (3 * i) (3 * s .k) (numbersOf x) (s .lab)) l
 
       fits : i ≤ s .k → s .k < 255 → Limits t
       fits b d =

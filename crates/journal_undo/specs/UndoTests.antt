@@ -4,9 +4,9 @@ use mathlib.Core.List.{List}
 use Prim.Native.Nat.{ℕ, suc}
 use lib.Dec.{ltb, leb}
 use lib.IntN.{ℤ}
-use Rattle.base_limits.specs.Limits.{maxEntries}
-use Rattle.base_limits.specs.declared.Lab.{Lab}
-use Rattle.base_lists.specs.Lists.{some}
+use Rattle.base.specs.Limits.{maxEntries}
+use Rattle.base.specs.declared.Lab.{Lab}
+use Rattle.base.specs.Lists.{some}
 use Rattle.color_doubles.specs.Finite.{unfitTriple}
 use Rattle.sheet.specs.Sheet.{stray}
 use Rattle.edit.specs.Change.{Change, outside, painted, oldOf}

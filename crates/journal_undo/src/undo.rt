@@ -1,6 +1,6 @@
 // Undo of the record that lies in the journal, kind by kind: whether it is taken, and the sheet reverted.
 // The journal is only read, and nothing is copied out of it.
-use base_limits::MAX_ENTRIES;
+use base::MAX_ENTRIES;
 use edit_entries::open_lab_gap;
 use edit_entries::open_palette_gap;
 use edit_entries::store_lab;
@@ -22,13 +22,13 @@ ghost use mathlib.Core.Bool.{true, false};
 ghost use mathlib.Core.List.{[], map};
 ghost use Prim.Native.Nat.{_+_, _*_, _≤_, _<_};
 ghost use lib.ListN.{length, getD};
-ghost use Rattle.base_limits.specs.declared.Rgb.{Rgb};
-ghost use Rattle.base_lists.specs.Lists.{some};
+ghost use Rattle.base.specs.declared.Rgb.{Rgb};
+ghost use Rattle.base.specs.Lists.{some};
 ghost use Rattle.sheet.specs.Sheet.{sheetOf, stray};
 ghost use Rattle.sheet.specs.Checks.{WellFormed};
-ghost use Rattle.edit.specs.declared.Edit.the-variants.{PaletteAdd};
+ghost use Rattle.base.specs.declared.Edit.the-variants.{PaletteAdd};
 ghost use Rattle.edit.specs.Change.{painted, oldOf};
-ghost use Rattle.edit.specs.Storage.{bytesOf, numbersOf, stored, opened, raised};
+ghost use Rattle.edit.specs.Storage.{bytesOf, numbersOf, stored, reinserted, raised};
 ghost use Rattle.edit.specs.Apply.{reverted};
 ghost use Rattle.edit_pixels.specs.Inside.{past};
 ghost use Rattle.journal_record.specs.Record.{rgbIn, labIn, changesIn};
@@ -46,7 +46,10 @@ fn can_undo_pixels(
     at: usize,
     count: usize,
 ) -> bool
-    requires { ⌜ (at + 8 * count ≤ length (now journal)) × (k ≤ 255) × (length (now indices) ≡ w * h) × (some (stray k) (now indices) ≡ false) ⌝ }
+    requires { ⌜
+        (at + 8 * count ≤ length (now journal)) × (k ≤ 255) × (length (now indices) ≡ w * h)
+        × (some (stray k) (now indices) ≡ false)
+        ⌝ }
     ensures { λ _. ⌜ now (indices .exit) ≡ now (indices .entry) ⌝ }
     ensures { λ r. ⌜ r ≡ pixelsBack w h k (now (indices .entry)) (changesIn (now (journal .entry)) at count) ⌝ }
 {
@@ -59,7 +62,9 @@ fn can_undo_pixels(
 // Whether an entry can get its old colour and LAB back.
 fn can_undo_set(k: usize, journal: &[u8], start: usize) -> bool
     requires { ⌜ start + 32 ≤ length (now journal) ⌝ }
-    ensures { λ r. ⌜ r ≡ setBack k (getD (now (journal .entry)) (start + 1) 0) (labIn (now (journal .entry)) (start + 8)) ⌝ }
+    ensures { λ r. ⌜
+        r ≡ setBack k (getD (now (journal .entry)) (start + 1) 0) (labIn (now (journal .entry)) (start + 8))
+        ⌝ }
 {
     let index = entry_at(journal, start);
     if k <= index {
@@ -70,7 +75,10 @@ fn can_undo_set(k: usize, journal: &[u8], start: usize) -> bool
 
 // Whether the last entry can go: there is one, and the sheet without it is well-formed.
 fn can_undo_add(w: usize, h: usize, k: usize, palette: &[u8], lab: &[f64], indices: &[i16]) -> bool
-    ensures { λ r. ⌜ ((c : Rgb) → r ≡ undoable (sheetOf w h k (now (palette .entry)) (now (lab .entry)) (now (indices .entry))) (PaletteAdd c) []) ⌝ }
+    ensures { λ r. ⌜
+        ((c : Rgb) → r
+        ≡ undoable (sheetOf w h k (now (palette .entry)) (now (lab .entry)) (now (indices .entry))) (PaletteAdd c) [])
+        ⌝ }
 {
     if k == 0 {
         return false;
@@ -89,9 +97,16 @@ fn can_undo_remove(
     start: usize,
     count: usize,
 ) -> bool
-    requires { ⌜ (start + 33 + 8 * count ≤ length (now journal)) × (k ≤ 255) × (length (now indices) ≡ w * h) × (some (stray k) (now indices) ≡ false) ⌝ }
+    requires { ⌜
+        (start + 33 + 8 * count ≤ length (now journal)) × (k ≤ 255) × (length (now indices) ≡ w * h)
+        × (some (stray k) (now indices) ≡ false)
+        ⌝ }
     ensures { λ _. ⌜ now (indices .exit) ≡ now (indices .entry) ⌝ }
-    ensures { λ r. ⌜ r ≡ removeBack w h k (now (indices .entry)) (getD (now (journal .entry)) (start + 1) 0) (labIn (now (journal .entry)) (start + 5)) (changesIn (now (journal .entry)) (start + 33) count) ⌝ }
+    ensures { λ r. ⌜
+        r
+        ≡ removeBack w h k (now (indices .entry)) (getD (now (journal .entry)) (start + 1) 0)
+        (labIn (now (journal .entry)) (start + 5)) (changesIn (now (journal .entry)) (start + 33) count)
+        ⌝ }
 {
     let index = entry_at(journal, start);
     if k < index {
@@ -126,7 +141,11 @@ pub fn can_undo(
     requires { ⌜ Lies (now journal) kind start count ⌝ }
     requires { ⌜ WellFormed (sheetOf w h k (now palette) (now lab) (now indices)) ⌝ }
     ensures { λ _. ⌜ now (indices .exit) ≡ now (indices .entry) ⌝ }
-    ensures { λ r. ⌜ r ≡ undoable (sheetOf w h k (now (palette .entry)) (now (lab .entry)) (now (indices .entry))) (editAt (now (journal .entry)) kind start) (changesAt (now (journal .entry)) kind start count) ⌝ }
+    ensures { λ r. ⌜ (
+        let sheet = sheetOf w h k (now (palette .entry)) (now (lab .entry)) (now (indices .entry)) in
+        r
+        ≡ undoable sheet (editAt (now (journal .entry)) kind start) (changesAt (now (journal .entry)) kind start count)
+        ) ⌝ }
 {
     if kind == PIXELS {
         return can_undo_pixels(w, h, k, indices, journal, start + 6, count);
@@ -142,9 +161,20 @@ pub fn can_undo(
 
 // Gives an entry its old colour and LAB back, as the record at `start` has them.
 fn undo_set(palette: &mut [u8], lab: &mut [f64], journal: &[u8], start: usize)
-    requires { ⌜ (start + 32 ≤ length (now journal)) × (3 * getD (now journal) (start + 1) 0 + 3 ≤ length (now palette)) × (3 * getD (now journal) (start + 1) 0 + 3 ≤ length (now lab)) ⌝ }
-    ensures { λ _. ⌜ now (palette .exit) ≡ stored (3 * getD (now (journal .entry)) (start + 1) 0) (bytesOf (rgbIn (now (journal .entry)) (start + 2))) (now (palette .entry)) ⌝ }
-    ensures { λ _. ⌜ now (lab .exit) ≡ stored (3 * getD (now (journal .entry)) (start + 1) 0) (numbersOf (labIn (now (journal .entry)) (start + 8))) (now (lab .entry)) ⌝ }
+    requires { ⌜
+        (start + 32 ≤ length (now journal)) × (3 * getD (now journal) (start + 1) 0 + 3 ≤ length (now palette))
+        × (3 * getD (now journal) (start + 1) 0 + 3 ≤ length (now lab))
+        ⌝ }
+    ensures { λ _. ⌜
+        now (palette .exit)
+        ≡ stored (3 * getD (now (journal .entry)) (start + 1) 0) (bytesOf (rgbIn (now (journal .entry)) (start + 2)))
+        (now (palette .entry))
+        ⌝ }
+    ensures { λ _. ⌜
+        now (lab .exit)
+        ≡ stored (3 * getD (now (journal .entry)) (start + 1) 0) (numbersOf (labIn (now (journal .entry)) (start + 8)))
+        (now (lab .entry))
+        ⌝ }
 {
     let index = entry_at(journal, start);
     store_rgb(palette, index, get_rgb(journal, start + 2));
@@ -163,11 +193,29 @@ fn undo_remove(
     start: usize,
     count: usize,
 )
-    requires { ⌜ (start + 33 + 8 * count ≤ length (now journal)) × (getD (now journal) (start + 1) 0 ≤ k) × (k ≤ 255) × (3 * k + 3 ≤ length (now palette)) × (3 * k + 3 ≤ length (now lab)) ⌝ }
-    requires { ⌜ (some (stray 255) (now indices) ≡ false) × (some (past w (length (now indices))) (changesIn (now journal) (start + 33) count) ≡ false) ⌝ }
-    ensures { λ _. ⌜ now (palette .exit) ≡ opened (3 * getD (now (journal .entry)) (start + 1) 0) (3 * k) (bytesOf (rgbIn (now (journal .entry)) (start + 2))) (now (palette .entry)) ⌝ }
-    ensures { λ _. ⌜ now (lab .exit) ≡ opened (3 * getD (now (journal .entry)) (start + 1) 0) (3 * k) (numbersOf (labIn (now (journal .entry)) (start + 5))) (now (lab .entry)) ⌝ }
-    ensures { λ _. ⌜ now (indices .exit) ≡ painted oldOf w (changesIn (now (journal .entry)) (start + 33) count) (map (raised (getD (now (journal .entry)) (start + 1) 0)) (now (indices .entry))) ⌝ }
+    requires { ⌜
+        (start + 33 + 8 * count ≤ length (now journal)) × (getD (now journal) (start + 1) 0 ≤ k) × (k ≤ 255)
+        × (3 * k + 3 ≤ length (now palette)) × (3 * k + 3 ≤ length (now lab))
+        ⌝ }
+    requires { ⌜
+        (some (stray 255) (now indices) ≡ false)
+        × (some (past w (length (now indices))) (changesIn (now journal) (start + 33) count) ≡ false)
+        ⌝ }
+    ensures { λ _. ⌜
+        now (palette .exit)
+        ≡ reinserted (3 * getD (now (journal .entry)) (start + 1) 0) (3 * k)
+        (bytesOf (rgbIn (now (journal .entry)) (start + 2))) (now (palette .entry))
+        ⌝ }
+    ensures { λ _. ⌜
+        now (lab .exit)
+        ≡ reinserted (3 * getD (now (journal .entry)) (start + 1) 0) (3 * k)
+        (numbersOf (labIn (now (journal .entry)) (start + 5))) (now (lab .entry))
+        ⌝ }
+    ensures { λ _. ⌜
+        now (indices .exit)
+        ≡ painted oldOf w (changesIn (now (journal .entry)) (start + 33) count)
+        (map (raised (getD (now (journal .entry)) (start + 1) 0)) (now (indices .entry)))
+        ⌝ }
 {
     let index = entry_at(journal, start);
     raise_from(indices, index);
@@ -191,8 +239,15 @@ pub fn undo_record(
 ) -> usize
     requires { ⌜ Lies (now journal) kind start count ⌝ }
     requires { ⌜ WellFormed (sheetOf w h k (now palette) (now lab) (now indices)) ⌝ }
-    requires { ⌜ undoable (sheetOf w h k (now palette) (now lab) (now indices)) (editAt (now journal) kind start) (changesAt (now journal) kind start count) ≡ true ⌝ }
-    ensures { λ r. ⌜ sheetOf w h r (now (palette .exit)) (now (lab .exit)) (now (indices .exit)) ≡ reverted (sheetOf w h k (now (palette .entry)) (now (lab .entry)) (now (indices .entry))) (editAt (now (journal .entry)) kind start) (changesAt (now (journal .entry)) kind start count) ⌝ }
+    requires { ⌜ (
+        let sheet = sheetOf w h k (now palette) (now lab) (now indices) in
+        undoable sheet (editAt (now journal) kind start) (changesAt (now journal) kind start count) ≡ true
+        ) ⌝ }
+    ensures { λ r. ⌜ (
+        let sheet = sheetOf w h k (now (palette .entry)) (now (lab .entry)) (now (indices .entry)) in
+        sheetOf w h r (now (palette .exit)) (now (lab .exit)) (now (indices .exit))
+        ≡ reverted sheet (editAt (now (journal .entry)) kind start) (changesAt (now (journal .entry)) kind start count)
+        ) ⌝ }
 {
     if kind == PIXELS {
         paint_olds_in(indices, w, journal, start + 6, count);

@@ -9,7 +9,7 @@ use mir.Syntax.{w16}
 use mir.Val.{toZ, ofZ}
 use mir.Facts.{toZ-ofZ, ofZ-toZ, fits-ofZ}
 use Rattle.edit.specs.Change.{Change, packed, unpacked}
-use Rattle.base_lists.proofs.Collect.{length-flatMap}
+use Rattle.base.proofs.Collect.{length-flatMap}
 use Rattle.journal_record.specs.Bytes.{le, leAt}
 use Rattle.journal_record.specs.Record.{changeBytes, changesIn}
 use Rattle.journal_write.specs.Fit.{FitChange, FitChanges}

@@ -7,7 +7,7 @@ use native.Mathlib.Omega.{arith}
 use lib.ListN.{length, take, getD}
 use lib.Seq.{take-suc, take-all, length-take-le}
 use Rattle.edit.specs.Change.{Change, unpacked}
-use Rattle.base_lists.proofs.Collect.{flatMap-append, flatMap-one}
+use Rattle.base.proofs.Collect.{flatMap-append, flatMap-one}
 use Rattle.journal_record.specs.Bytes.{le, splice}
 use Rattle.journal_record.specs.Record.{changeBytes}
 use Rattle.journal_record.proofs.Splice.{length-splice, splice-none, splice-then}

@@ -13,13 +13,13 @@ use lib.Ieee.{Float, binary64, toBits, ofBits, fits}
 use lib.Ieee.Bits.{ofBits-toBits, toBits-lt}
 use lib.ListN.{length, drop, length-append}
 use lib.Seq.{drop-at}
-use Rattle.base_limits.specs.declared.Lab.{Lab}
-use Rattle.edit.specs.declared.Edit.{Edit}
-use Rattle.edit.specs.declared.Edit.the-variants.{Pixels, PaletteSet, PaletteAdd, PaletteRemove}
+use Rattle.base.specs.declared.Lab.{Lab}
+use Rattle.base.specs.declared.Edit.{Edit}
+use Rattle.base.specs.declared.Edit.the-variants.{Pixels, PaletteSet, PaletteAdd, PaletteRemove}
 use Rattle.edit.specs.Change.{Change}
 use Rattle.edit.specs.Storage.{bytesOf}
 use Rattle.journal_record.specs.Bytes.{le, unle, leAt}
-use Rattle.journal_record.specs.Record.{labBytes, listBytes, bodyOf, recordLength, recordOf, rgbIn, doubleIn, labIn, changesIn, byKind, told, closed, agreed, readForth, ofLength, readBack}
+use Rattle.journal_record.specs.Record.{labBytes, listBytes, bodyOf, recordLength, recordOf, rgbIn, doubleIn, labIn, changesIn, byKind, contents, closed, agreed, readForth, ofLength, readBack}
 use Rattle.journal_write.specs.Fit.{FitLab, FitEdit, Fit}
 use Rattle.journal_record.proofs.LittleEndian.{length-le, unle-le, leAt-of}
 use Rattle.journal_write.proofs.Changes.{changes-in}
@@ -39,8 +39,8 @@ lab-back : (x : Lab) → FitLab x → record { l = again (x .l); a = again (x .a
 lab-back x h j = record { l = double-back (x .l) (h .l-fits) j; a = double-back (x .a) (h .a-fits) j; b = double-back (x .b) (h .b-fits) j }
 
 -- ---- what kind and count say
-told-is : (e : Edit) (cs : List Change) (rest : List ℕ) → Fit e cs → told (bodyOf e cs ++ rest) ≡ some (e, cs)
-unfolding told byKind leAt rgbIn doubleIn labIn bodyOf labBytes listBytes le FitEdit recordLength
+told-is : (e : Edit) (cs : List Change) (rest : List ℕ) → Fit e cs → contents (bodyOf e cs ++ rest) ≡ some (e, cs)
+unfolding contents byKind leAt rgbIn doubleIn labIn bodyOf labBytes listBytes le FitEdit recordLength
 told-is (Pixels tool) cs rest h =
     let bytes : List ℕ = 1 ∷ tool ∷ listBytes cs ++ rest in
     let count : leAt 4 bytes 2 ≡ length cs = count-back (length cs) (omega (arith, h .whole)) in
@@ -66,7 +66,7 @@ last-four e cs after h =
     let last : leAt 4 bytes (n - 4) ≡ n = leAt-of 4 n bytes (bodyOf e cs) after (n - 4) is (omega (arith, length-body e cs)) (h .whole) in
     rw (le-leb n (length bytes) long, last, eq-eqb n n refl)
 
-told-record : (e : Edit) (cs : List Change) (after : List ℕ) → Fit e cs → told (recordOf e cs ++ after) ≡ some (e, cs)
+told-record : (e : Edit) (cs : List Change) (after : List ℕ) → Fit e cs → contents (recordOf e cs ++ after) ≡ some (e, cs)
 unfolding recordOf
 told-record e cs after h = rw append-assoc (told-is e cs (le 4 (recordLength e (length cs)) ++ after) h)
 

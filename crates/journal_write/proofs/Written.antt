@@ -3,10 +3,10 @@ use Prim.Native.Nat.{ℕ, _+_, _*_, _≤_}
 use mathlib.Core.Path.{_≡_, refl, ap, _∙_}
 use mathlib.Core.List.{List, [], _∷_, _++_, flatMap, append-assoc}
 use lib.ListN.{length, length-append}
-use Rattle.base_limits.specs.declared.Rgb.{Rgb}
-use Rattle.base_limits.specs.declared.Lab.{Lab}
-use Rattle.base_lists.specs.Lists.{over}
-use Rattle.edit.specs.declared.Edit.the-variants.{Pixels, PaletteSet, PaletteAdd, PaletteRemove}
+use Rattle.base.specs.declared.Rgb.{Rgb}
+use Rattle.base.specs.declared.Lab.{Lab}
+use Rattle.base.specs.Lists.{over}
+use Rattle.base.specs.declared.Edit.the-variants.{Pixels, PaletteSet, PaletteAdd, PaletteRemove}
 use Rattle.edit.specs.Change.{Change}
 use Rattle.edit.specs.Storage.{bytesOf}
 use Rattle.journal_record.specs.Bytes.{le, splice}

@@ -9,11 +9,11 @@ use lib.Ieee.{binary64, fits, isNan}
 use lib.ListN.{length}
 use mir.Syntax.{w16}
 use mir.Val.{SFits}
-use Rattle.base_limits.specs.declared.Lab.{Lab}
-use Rattle.base_lists.specs.Lists.{some}
+use Rattle.base.specs.declared.Lab.{Lab}
+use Rattle.base.specs.Lists.{some}
 use Rattle.sheet.specs.Sheet.{Sheet, sheetOf}
-use Rattle.edit.specs.declared.Edit.{Edit}
-use Rattle.edit.specs.declared.Edit.the-variants.{Pixels, PaletteSet, PaletteAdd, PaletteRemove}
+use Rattle.base.specs.declared.Edit.{Edit}
+use Rattle.base.specs.declared.Edit.the-variants.{Pixels, PaletteSet, PaletteAdd, PaletteRemove}
 use Rattle.edit.specs.Change.{Change}
 use Rattle.edit_pixels.specs.Inside.{past}
 use Rattle.journal_record.specs.Record.{recordLength}

@@ -1,7 +1,7 @@
 // The four records, each written to the front of a part of the journal. What lies behind keeps.
-use base_limits::Lab;
-use base_limits::Rgb;
-use edit::Edit;
+use base::Edit;
+use base::Lab;
+use base::Rgb;
 use edit_pixels::filled_in;
 use journal_record::put_f64;
 use journal_record::put_u32;
@@ -11,8 +11,8 @@ ghost use mathlib.Core.Bool.{false};
 ghost use mathlib.Core.List.{[], _∷_, map, flatMap};
 ghost use Prim.Native.Nat.{_+_, _*_, _≤_, _<_};
 ghost use lib.ListN.{length};
-ghost use Rattle.base_lists.specs.Lists.{some, over};
-ghost use Rattle.edit.specs.declared.Edit.the-variants.{Pixels, PaletteSet, PaletteAdd, PaletteRemove};
+ghost use Rattle.base.specs.Lists.{some, over};
+ghost use Rattle.base.specs.declared.Edit.the-variants.{Pixels, PaletteSet, PaletteAdd, PaletteRemove};
 ghost use Rattle.edit.specs.Change.{unpacked, filledIn};
 ghost use Rattle.edit.specs.Storage.{bytesOf};
 ghost use Rattle.edit.specs.Apply.{filledChanges};
@@ -62,7 +62,9 @@ pub fn put_change(part: &mut [u8], at: usize, c: u64)
 // Writes the changes of a list from `at` on.
 fn put_changes(part: &mut [u8], at: usize, list: &[u64])
     requires { ⌜ at + 8 * length (now list) ≤ length (now part) ⌝ }
-    ensures { λ _. ⌜ now (part .exit) ≡ splice (now (part .entry)) at (flatMap changeBytes (map unpacked (now (list .entry)))) ⌝ }
+    ensures { λ _. ⌜
+        now (part .exit) ≡ splice (now (part .entry)) at (flatMap changeBytes (map unpacked (now (list .entry))))
+        ⌝ }
 {
     let mut i: usize = 0;
     while i < list.len() {
@@ -75,7 +77,11 @@ fn put_changes(part: &mut [u8], at: usize, list: &[u64])
 fn put_filled(part: &mut [u8], at: usize, list: &[u64], indices: &[i16], w: usize)
     requires { ⌜ at + 8 * length (now list) ≤ length (now part) ⌝ }
     requires { ⌜ some (past w (length (now indices))) (map unpacked (now list)) ≡ false ⌝ }
-    ensures { λ _. ⌜ now (part .exit) ≡ splice (now (part .entry)) at (flatMap changeBytes (map (filledIn w (now (indices .entry))) (map unpacked (now (list .entry))))) ⌝ }
+    ensures { λ _. ⌜
+        now (part .exit)
+        ≡ splice (now (part .entry)) at
+        (flatMap changeBytes (map (filledIn w (now (indices .entry))) (map unpacked (now (list .entry)))))
+        ⌝ }
 {
     let mut i: usize = 0;
     while i < list.len() {
@@ -89,7 +95,11 @@ fn write_pixels(part: &mut [u8], tool: u8, list: &[u64], indices: &[i16], w: usi
     requires { ⌜ 10 + 8 * length (now list) ≤ length (now part) ⌝ }
     requires { ⌜ 10 + 8 * length (now list) < 4294967296 ⌝ }
     requires { ⌜ some (past w (length (now indices))) (map unpacked (now list)) ≡ false ⌝ }
-    ensures { λ _. ⌜ now (part .exit) ≡ over (recordOf (Pixels tool) (map (filledIn w (now (indices .entry))) (map unpacked (now (list .entry))))) (now (part .entry)) ⌝ }
+    ensures { λ _. ⌜
+        now (part .exit)
+        ≡ over (recordOf (Pixels tool) (map (filledIn w (now (indices .entry))) (map unpacked (now (list .entry)))))
+        (now (part .entry))
+        ⌝ }
 {
     let n = list.len();
     put_kind(part, 1, tool);
@@ -128,7 +138,10 @@ fn write_remove(part: &mut [u8], index: usize, c: Rgb, lab: Lab, list: &[u64])
     requires { ⌜ 37 + 8 * length (now list) < 4294967296 ⌝ }
     requires { ⌜ index < 256 ⌝ }
     requires { ⌜ Numbers lab ⌝ }
-    ensures { λ _. ⌜ now (part .exit) ≡ over (recordOf (PaletteRemove index c lab) (map unpacked (now (list .entry)))) (now (part .entry)) ⌝ }
+    ensures { λ _. ⌜
+        now (part .exit)
+        ≡ over (recordOf (PaletteRemove index c lab) (map unpacked (now (list .entry)))) (now (part .entry))
+        ⌝ }
 {
     let n = list.len();
     put_kind(part, 4, index as u8);
@@ -144,7 +157,11 @@ pub fn write_record(part: &mut [u8], edit: Edit, list: &[u64], indices: &[i16], 
     requires { ⌜ recordLength edit (length (now list)) ≤ length (now part) ⌝ }
     requires { ⌜ recordLength edit (length (now list)) < 4294967296 ⌝ }
     requires { ⌜ Writable w (length (now indices)) edit (map unpacked (now list)) ⌝ }
-    ensures { λ _. ⌜ now (part .exit) ≡ over (recordOf edit (filledChanges (rowsOf w (now (indices .entry))) edit (map unpacked (now (list .entry))))) (now (part .entry)) ⌝ }
+    ensures { λ _. ⌜
+        now (part .exit)
+        ≡ over (recordOf edit (filledChanges (rowsOf w (now (indices .entry))) edit (map unpacked (now (list .entry)))))
+        (now (part .entry))
+        ⌝ }
 {
     match edit {
         Edit::Pixels { tool } => write_pixels(part, tool, list, indices, w),

@@ -5,20 +5,20 @@ use mathlib.Core.List.{List}
 use Prim.Native.Nat.{ℕ, _*_, _<_, _≤_}
 use borrow.Author.Tests.{le-ltb, lt-ltb}
 use lib.ListN.{length, take}
-use Rattle.base_limits.specs.Checks.{firstOf, refusedOr}
-use Rattle.base_lists.specs.Lists.{over}
+use Rattle.base.specs.Checks.{firstOf, refusedOr}
+use Rattle.base.specs.Lists.{over}
 use Rattle.sheet.specs.Sheet.{Sheet}
 use Rattle.edit.specs.Checks.{Permitted}
-use Rattle.palette.specs.declared.Choices.the-variants as choices
-use Rattle.palette.specs.Colours.{Opened, colourCount, usedOf, chosen, fixedChoicesOf}
+use Rattle.base.specs.declared.Choices.the-variants as choices
+use Rattle.palette.specs.Colours.{PaletteJudged, colourCount, usedOf, chosen, fixedChoicesOf}
 use Rattle.palette.proofs.Opening.{past-opened, refused-opened}
 
 module _ (s : Sheet) (p : Permitted) (used : List ℕ) where
-  pub choices-refused : (n : ℕ) → Opened s p n → (n ≡ 0 → ⊥) → chosen (choices.Refused n) used ≡ fixedChoicesOf s p used
+  pub choices-refused : (n : ℕ) → PaletteJudged s p n → (n ≡ 0 → ⊥) → chosen (choices.Refused n) used ≡ fixedChoicesOf s p used
   unfolding fixedChoicesOf
   choices-refused n o h = refused-opened s p _ (λ m. chosen (choices.Refused m) used) _ n o h
 
-  module _ (n : ℕ) (o : Opened s p n) (z : n ≡ 0) where
+  module _ (n : ℕ) (o : PaletteJudged s p n) (z : n ≡ 0) where
     pub choices-free : p .limited ≡ false → chosen choices.Free used ≡ fixedChoicesOf s p used
     unfolding fixedChoicesOf firstOf refusedOr
     choices-free e = rw (past-opened s p n o z, e)

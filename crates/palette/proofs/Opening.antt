@@ -2,26 +2,26 @@
 use mathlib.Core.Path.{_≡_, sym, _∙_}
 use mathlib.Core.List.{List, [], _++_}
 use Prim.Native.Nat.{ℕ}
-use Rattle.base_limits.specs.Checks.{Check, firstOf, checked}
-use Rattle.base_limits.proofs.First.{first-past, first-here, refused-first}
+use Rattle.base.specs.Checks.{Check, firstOf, checked}
+use Rattle.base.proofs.First.{first-past, first-here, refused-first}
 use Rattle.sheet.specs.Sheet.{Sheet}
 use Rattle.sheet.specs.Checks.{permittedChecks, sheetChecks, Judged}
 use Rattle.edit.specs.Checks.{Permitted}
-use Rattle.palette.specs.Colours.{paletteChecks, Opened}
+use Rattle.palette.specs.Colours.{paletteChecks, PaletteJudged}
 
 module _ (s : Sheet) (p : Permitted) where
-  pub opened-permitted : (n : ℕ) → n ≡ firstOf (permittedChecks (p .limited) (p .colours)) → (n ≡ 0 → ⊥) → Opened s p n
+  pub opened-permitted : (n : ℕ) → n ≡ firstOf (permittedChecks (p .limited) (p .colours)) → (n ≡ 0 → ⊥) → PaletteJudged s p n
   unfolding paletteChecks
   opened-permitted n e h = record { value = first-here (permittedChecks (p .limited) (p .colours)) (sheetChecks [] s) n e h; fine = λ z. absurd (h z) }
 
-  pub opened-sheet : (n : ℕ) → firstOf (permittedChecks (p .limited) (p .colours)) ≡ 0 → Judged s n → Opened s p n
+  pub opened-sheet : (n : ℕ) → firstOf (permittedChecks (p .limited) (p .colours)) ≡ 0 → Judged s n → PaletteJudged s p n
   unfolding paletteChecks
   opened-sheet n e j = record { value = j .value ∙ sym (first-past (permittedChecks (p .limited) (p .colours)) (sheetChecks [] s) e); fine = j .fine }
 
   -- a call's further checks, `ds`
-  pub past-opened : (n : ℕ) → Opened s p n → n ≡ 0 → (ds : List Check) → firstOf (paletteChecks s p ++ ds) ≡ firstOf ds
+  pub past-opened : (n : ℕ) → PaletteJudged s p n → n ≡ 0 → (ds : List Check) → firstOf (paletteChecks s p ++ ds) ≡ firstOf ds
   past-opened n o e ds = first-past (paletteChecks s p) ds (sym (o .value) ∙ e)
 
-  pub refused-opened : {R : Type 0} (ds : List Check) (refused : ℕ → R) (result : R) (n : ℕ) → Opened s p n → (n ≡ 0 → ⊥)
+  pub refused-opened : {R : Type 0} (ds : List Check) (refused : ℕ → R) (result : R) (n : ℕ) → PaletteJudged s p n → (n ≡ 0 → ⊥)
       → refused n ≡ checked (paletteChecks s p ++ ds) refused result
   refused-opened ds refused result n o h = refused-first (paletteChecks s p ++ ds) refused result n (first-here (paletteChecks s p) ds n (o .value) h) h

@@ -4,11 +4,11 @@ use mathlib.Core.List.{List, [], _∷_, _++_, map, map-append}
 use Prim.Native.Nat.{ℕ, _+_, _<_, _≤_}
 use native.Mathlib.Nat.{zero-add, le-antisymm}
 use lib.ListN.{length, set, length-map}
-use Rattle.base_lists.specs.Lists.{range, over}
-use Rattle.base_lists.proofs.Collect.{length-range, range-next}
-use Rattle.base_lists.proofs.Over.{over-none, over-set}
+use Rattle.base.specs.Lists.{range, over}
+use Rattle.base.proofs.Collect.{length-range, range-next}
+use Rattle.base.proofs.Over.{over-none, over-set}
 use Rattle.sheet.specs.Document.{mark}
-use Rattle.base_storage.specs.Triples.{rgbAt}
+use Rattle.base.specs.Triples.{rgbAt}
 use Rattle.edit.specs.Checks.{listed}
 use Rattle.palette.specs.Colours.{usedOf}
 

@@ -3,39 +3,38 @@ use mathlib.Core.Path.{_≡_}
 use Prim.Native.Nat.{ℕ, _*_, _/_}
 use mathlib.Core.Bool.{_&&_, cond}
 use mathlib.Core.List.{List, [], _∷_, _++_, map}
+use mathlib.Core.Option.{Option, none, some}
 use lib.Dec.{ltb, leb}
 use lib.ListN.{length, take}
-use Rattle.base_limits.specs.Limits.{maxEntries}
-use Rattle.base_limits.specs.Numbers.{noSuchEntry, paletteFull, colourNotPermitted, noSpace}
-use Rattle.base_limits.specs.Checks.{Check, _when_, firstOf, checked}
-use Rattle.base_limits.specs.declared.Rgb.{Rgb}
-use Rattle.base_limits.specs.declared.Answer.{Answer}
-use Rattle.base_limits.specs.declared.Answer.the-variants as answer
-use Rattle.base_lists.specs.Lists.{range, over}
+use Rattle.base.specs.Limits.{maxEntries}
+use Rattle.base.specs.Numbers.{noSuchEntry, paletteFull, colourNotPermitted, noSpace}
+use Rattle.base.specs.Checks.{Check, _when_, firstOf, checked}
+use Rattle.base.specs.declared.Rgb.{Rgb}
+use Rattle.base.specs.Answer.{Told, Done, choicesTold}
+use Rattle.base.specs.Answer.Told.{result, alone}
+use Rattle.base.specs.Lists.{range, over}
 use Rattle.sheet.specs.Sheet.{Sheet}
 use Rattle.sheet.specs.Checks.{permittedChecks, sheetChecks, WellFormed}
 use Rattle.sheet.specs.Document.{mark}
-use Rattle.base_storage.specs.Triples.{rgbAt}
-use Rattle.edit.specs.declared.Edit.the-variants.{PaletteSet, PaletteAdd}
+use Rattle.base.specs.Triples.{rgbAt}
+use Rattle.base.specs.declared.Edit.the-variants.{PaletteSet, PaletteAdd}
 use Rattle.edit.specs.Checks.{Permitted, listed, barred}
 use Rattle.edit_entries.specs.Unfilled.{noLab}
-use Rattle.palette.specs.declared.Choices.{Choices}
-use Rattle.palette.specs.declared.Choices.the-variants as choices
-use Rattle.palette.specs.declared.Made.{Made}
-use Rattle.palette.specs.declared.Made.the-variants as made
+use Rattle.base.specs.declared.Choices.{Choices}
+use Rattle.base.specs.declared.Edit.{Edit}
 
 -- 1 of the permitted colours, which stands before 2 and 3 as the sheet's own 1 does; then 1, 2, 3 of the sheet
 unfoldable pub paletteChecks : Sheet → Permitted → List Check
 paletteChecks s p = permittedChecks (p .limited) (p .colours) ++ sheetChecks [] s
 
 -- the number of the first of these that applies, and what 0 means
-pub record Opened (s : Sheet) (p : Permitted) (n : ℕ) : Type 0 where
+pub record PaletteJudged (s : Sheet) (p : Permitted) (n : ℕ) : Type 0 where
   pub value : n ≡ firstOf (paletteChecks s p)
   pub fine : n ≡ 0 → WellFormed s
 
 -- ---- `check_color`: "A named palette accepts only its own colors"
-unfoldable pub checkColorOf : Permitted → Rgb → Answer
-checkColorOf p c = checked (permittedChecks (p .limited) (p .colours) ++ (colourNotPermitted when barred p c ∷ [])) answer.Refused answer.Done
+unfoldable pub checkColorOf : Permitted → Rgb → Told (Unit {0})
+checkColorOf p c = checked (permittedChecks (p .limited) (p .colours) ++ (colourNotPermitted when barred p c ∷ [])) alone Done
 
 -- ---- `fixed_choices`: "The named palette's colors, each with whether an entry already has it; `None` for a free palette"
 -- how many colours a list has, three bytes each
@@ -47,28 +46,31 @@ unfoldable pub usedOf : List ℕ → List ℕ → ℕ → List ℕ
 usedOf entries colours n = map (λ i. mark (listed entries (rgbAt colours i))) (range 0 n)
 
 pub record Chosen : Type 0 where
-  pub answer : Choices
+  pub answer : Told (Option ℕ)
   pub used : List ℕ
 
+abbrev pub choosing : Told (Option ℕ) → List ℕ → Chosen
+choosing told used = record { answer = told; used = used }
+
 abbrev pub chosen : Choices → List ℕ → Chosen
-chosen answer used = record { answer = answer; used = used }
+chosen answer used = choosing (choicesTold answer) used
 
 unfoldable pub fixedChoicesOf : Sheet → Permitted → List ℕ → Chosen
 fixedChoicesOf s p used =
     let n = colourCount (p .colours) in
     checked (paletteChecks s p ++ (noSpace when (p .limited && ltb (length used) n) ∷ []))
-    (λ number. chosen (choices.Refused number) used)
-    (cond (p .limited) (chosen (choices.Count n) (over (usedOf (take (3 * s .k) (s .palette)) (p .colours) n) used)) (chosen choices.Free used))
+    (λ m. choosing (alone m) used)
+    (cond (p .limited) (choosing (result (some n)) (over (usedOf (take (3 * s .k) (s .palette)) (p .colours) n) used)) (choosing (result none) used))
 
 -- ---- `set_color`: 7, 10; `add_color`: 8, 10
-unfoldable pub setColorOf : Sheet → Permitted → ℕ → Rgb → Made
+unfoldable pub setColorOf : Sheet → Permitted → ℕ → Rgb → Told Edit
 setColorOf s p i c =
     checked (paletteChecks s p ++ (noSuchEntry when leb (s .k) i ∷ colourNotPermitted when barred p c ∷ []))
-    made.Refused
-    (made.Edit (PaletteSet i (rgbAt (s .palette) i) c noLab))
+    alone
+    (result (PaletteSet i (rgbAt (s .palette) i) c noLab))
 
-unfoldable pub addColorOf : Sheet → Permitted → Rgb → Made
+unfoldable pub addColorOf : Sheet → Permitted → Rgb → Told Edit
 addColorOf s p c =
     checked (paletteChecks s p ++ (paletteFull when leb maxEntries (s .k) ∷ colourNotPermitted when barred p c ∷ []))
-    made.Refused
-    (made.Edit (PaletteAdd c))
+    alone
+    (result (PaletteAdd c))

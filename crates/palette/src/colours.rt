@@ -1,15 +1,15 @@
 // Colours that entries may take: `check_color`, `fixed_choices`, `set_color`, `add_color`.
-use crate::Choices;
-use crate::Made;
-use base_limits::Answer;
-use base_limits::COLOUR_NOT_PERMITTED;
-use base_limits::MAX_ENTRIES;
-use base_limits::NO_SPACE;
-use base_limits::NO_SUCH_ENTRY;
-use base_limits::PALETTE_FULL;
-use base_limits::Rgb;
-use base_storage::rgb_at;
-use edit::Edit;
+use base::Answer;
+use base::COLOUR_NOT_PERMITTED;
+use base::Choices;
+use base::Edit;
+use base::MAX_ENTRIES;
+use base::MadeEdit;
+use base::NO_SPACE;
+use base::NO_SUCH_ENTRY;
+use base::PALETTE_FULL;
+use base::Rgb;
+use base::rgb_at;
 use edit_entries::is_listed;
 use edit_entries::no_lab;
 use sheet::check;
@@ -17,12 +17,13 @@ use sheet::permitted_no;
 ghost use mathlib.Core.Path.{_≡_};
 ghost use Prim.Native.Nat.{_+_, _*_, _/_, _≤_};
 ghost use lib.ListN.{length};
-ghost use Rattle.base_lists.specs.Lists.{over};
+ghost use Rattle.base.specs.Answer.{answerTold, madeEditTold};
+ghost use Rattle.base.specs.Lists.{over};
 ghost use Rattle.sheet.specs.Sheet.{sheetOf};
 ghost use Rattle.sheet.specs.Document.{mark};
-ghost use Rattle.base_storage.specs.Triples.{rgbAt};
+ghost use Rattle.base.specs.Triples.{rgbAt};
 ghost use Rattle.edit.specs.Checks.{permittedOf, listed};
-ghost use Rattle.palette.specs.Colours.{Opened, checkColorOf, usedOf, chosen, fixedChoicesOf, setColorOf, addColorOf};
+ghost use Rattle.palette.specs.Colours.{PaletteJudged, checkColorOf, usedOf, chosen, fixedChoicesOf, setColorOf, addColorOf};
 
 // The number of the first of 1 of the permitted colours and 1 to 3 of the sheet that applies, or 0.
 fn opened_no(
@@ -35,7 +36,10 @@ fn opened_no(
     limited: bool,
     permitted: &[u8],
 ) -> u8
-    ensures { λ r. ⌜ Opened (sheetOf w h k (now (palette .entry)) (now (lab .entry)) (now (indices .entry))) (permittedOf limited (now (permitted .entry))) r ⌝ }
+    ensures { λ r. ⌜ (
+        let sheet = sheetOf w h k (now (palette .entry)) (now (lab .entry)) (now (indices .entry)) in
+        PaletteJudged sheet (permittedOf limited (now (permitted .entry))) r
+        ) ⌝ }
 {
     let no = permitted_no(limited, permitted);
     if no != 0 {
@@ -46,7 +50,7 @@ fn opened_no(
 
 // Whether an entry may take this colour: 10 where it is not on a present list.
 pub fn check_color(limited: bool, permitted: &[u8], rgb: Rgb) -> Answer
-    ensures { λ r. ⌜ r ≡ checkColorOf (permittedOf limited (now (permitted .entry))) rgb ⌝ }
+    ensures { λ r. ⌜ answerTold r ≡ checkColorOf (permittedOf limited (now (permitted .entry))) rgb ⌝ }
 {
     let no = permitted_no(limited, permitted);
     if no != 0 {
@@ -73,7 +77,9 @@ fn used_mark(entries: &[u8], colours: &[u8], i: usize) -> u8
 // Marks each of n colours that is among the entries. What the buffer has past them keeps.
 fn mark_used(entries: &[u8], colours: &[u8], n: usize, used: &mut [u8])
     requires { ⌜ (3 * n ≤ length (now colours)) × (n ≤ length (now used)) ⌝ }
-    ensures { λ _. ⌜ now (used .exit) ≡ over (usedOf (now (entries .entry)) (now (colours .entry)) n) (now (used .entry)) ⌝ }
+    ensures { λ _. ⌜
+        now (used .exit) ≡ over (usedOf (now (entries .entry)) (now (colours .entry)) n) (now (used .entry))
+        ⌝ }
 {
     let mut i: usize = 0;
     while i < n {
@@ -96,7 +102,11 @@ pub fn fixed_choices(
     permitted: &[u8],
     used: &mut [u8],
 ) -> Choices
-    ensures { λ r. ⌜ chosen r (now (used .exit)) ≡ fixedChoicesOf (sheetOf w h k (now (palette .entry)) (now (lab .entry)) (now (indices .entry))) (permittedOf limited (now (permitted .entry))) (now (used .entry)) ⌝ }
+    ensures { λ r. ⌜ (
+        let sheet = sheetOf w h k (now (palette .entry)) (now (lab .entry)) (now (indices .entry)) in
+        chosen r (now (used .exit))
+        ≡ fixedChoicesOf sheet (permittedOf limited (now (permitted .entry))) (now (used .entry))
+        ) ⌝ }
 {
     let no = opened_no(w, h, k, palette, lab, indices, limited, permitted);
     if no != 0 {
@@ -126,22 +136,25 @@ pub fn set_color(
     permitted: &[u8],
     index: usize,
     rgb: Rgb,
-) -> Made
-    ensures { λ r. ⌜ r ≡ setColorOf (sheetOf w h k (now (palette .entry)) (now (lab .entry)) (now (indices .entry))) (permittedOf limited (now (permitted .entry))) index rgb ⌝ }
+) -> MadeEdit
+    ensures { λ r. ⌜ (
+        let sheet = sheetOf w h k (now (palette .entry)) (now (lab .entry)) (now (indices .entry)) in
+        madeEditTold r ≡ setColorOf sheet (permittedOf limited (now (permitted .entry))) index rgb
+        ) ⌝ }
 {
     let no = opened_no(w, h, k, palette, lab, indices, limited, permitted);
     if no != 0 {
-        return Made::Refused(no);
+        return MadeEdit::Refused(no);
     }
     if k <= index {
-        return Made::Refused(NO_SUCH_ENTRY);
+        return MadeEdit::Refused(NO_SUCH_ENTRY);
     }
     if edit_entries::check_color(limited, permitted, rgb) {
-        return Made::Refused(COLOUR_NOT_PERMITTED);
+        return MadeEdit::Refused(COLOUR_NOT_PERMITTED);
     }
     let old = rgb_at(palette, index);
     let old_lab = no_lab();
-    Made::Edit(Edit::PaletteSet {
+    MadeEdit::Edit(Edit::PaletteSet {
         index,
         old,
         new: rgb,
@@ -160,18 +173,21 @@ pub fn add_color(
     limited: bool,
     permitted: &[u8],
     rgb: Rgb,
-) -> Made
-    ensures { λ r. ⌜ r ≡ addColorOf (sheetOf w h k (now (palette .entry)) (now (lab .entry)) (now (indices .entry))) (permittedOf limited (now (permitted .entry))) rgb ⌝ }
+) -> MadeEdit
+    ensures { λ r. ⌜ (
+        let sheet = sheetOf w h k (now (palette .entry)) (now (lab .entry)) (now (indices .entry)) in
+        madeEditTold r ≡ addColorOf sheet (permittedOf limited (now (permitted .entry))) rgb
+        ) ⌝ }
 {
     let no = opened_no(w, h, k, palette, lab, indices, limited, permitted);
     if no != 0 {
-        return Made::Refused(no);
+        return MadeEdit::Refused(no);
     }
     if MAX_ENTRIES <= k {
-        return Made::Refused(PALETTE_FULL);
+        return MadeEdit::Refused(PALETTE_FULL);
     }
     if edit_entries::check_color(limited, permitted, rgb) {
-        return Made::Refused(COLOUR_NOT_PERMITTED);
+        return MadeEdit::Refused(COLOUR_NOT_PERMITTED);
     }
-    Made::Edit(Edit::PaletteAdd { rgb })
+    MadeEdit::Edit(Edit::PaletteAdd { rgb })
 }

@@ -4,7 +4,6 @@
 //
 // Permitted colours are lent as `limited` and their bytes, three a colour; not limited, the bytes are not
 // looked at.
-use edit::Edit;
 
 mod colours;
 
@@ -12,20 +11,6 @@ pub use colours::add_color;
 pub use colours::check_color;
 pub use colours::fixed_choices;
 pub use colours::set_color;
-pub use palette_remove::Removal;
 pub use palette_remove::merge_entries;
 pub use palette_remove::nearest_other;
 pub use palette_remove::remove_entry;
-
-// What `fixed_choices` answers: how many colours there are to choose from, or that all are free.
-pub enum Choices {
-    Free,
-    Count(usize),
-    Refused(u8),
-}
-
-// What `set_color` and `add_color` answer.
-pub enum Made {
-    Edit(Edit),
-    Refused(u8),
-}

@@ -4,8 +4,8 @@ use mathlib.Core.List.{[]}
 use Prim.Native.Nat.{ℕ, _<_, _≤_}
 use native.Mathlib.Omega.{arith}
 use borrow.Author.Tests.{le-leb, lt-leb, le-ltb, lt-ltb}
-use Rattle.base_limits.specs.Checks.{firstOf}
-use Rattle.base_limits.proofs.First.{no-zero, first-here}
+use Rattle.base.specs.Checks.{firstOf}
+use Rattle.base.proofs.First.{no-zero, first-here}
 use Rattle.sheet.specs.Sheet.{Sheet}
 use Rattle.sheet.specs.Checks.{sheetChecks, WellFormed, Judged}
 use Rattle.sheet.proofs.Judging.{past-sheet}

@@ -10,14 +10,14 @@ use lib.Dec.{T, ltb, leb}
 use lib.ListN.{length, getD, take, drop, List·getD-append}
 use lib.Seq.{length-take-le, getD-take, getD-drop, getD-append-add, take-take, take-add, drop-at}
 use lib.Ieee.{Float, nan, lt, le}
-use Rattle.base_limits.specs.declared.Lab.{Lab}
-use Rattle.base_lists.specs.Lists.{some}
-use Rattle.base_lists.proofs.Scan.{some-none}
-use Rattle.base_lists.proofs.Nowhere.{or-both, nowhere-take}
+use Rattle.base.specs.declared.Lab.{Lab}
+use Rattle.base.specs.Lists.{some}
+use Rattle.base.proofs.Scan.{some-none}
+use Rattle.base.proofs.Nowhere.{or-both, nowhere-take}
 use Rattle.color_doubles.specs.Finite.{unfit, unfitTriple}
 use Rattle.color_nearest.specs.declared.Near.{Near}
 use Rattle.color_nearest.specs.Nearest.{dist2Of, distance, nearestOf, FirstNearest}
-use Rattle.base_storage.specs.Triples.{labAt}
+use Rattle.base.specs.Triples.{labAt}
 use Rattle.color_nearest.proofs.FirstNearest.{first-nearest}
 use Rattle.color_nearest.proofs.Parts.{parts, nearest-within}
 use Rattle.edit.specs.Storage.{cut}

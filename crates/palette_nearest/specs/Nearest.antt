@@ -6,10 +6,10 @@ use mathlib.Core.List.{List, [], _∷_, _++_}
 use lib.Dec.{T, ltb, leb}
 use lib.ListN.{take}
 use lib.Ieee.{Float, lt, le}
-use Rattle.base_limits.specs.Numbers.{noSuchEntry, lastEntry}
-use Rattle.base_limits.specs.Checks.{Check, _when_, firstOf}
+use Rattle.base.specs.Numbers.{noSuchEntry, lastEntry}
+use Rattle.base.specs.Checks.{Check, _when_, firstOf}
 use Rattle.color_nearest.specs.Nearest.{distance, nearestOf}
-use Rattle.base_storage.specs.Triples.{labAt}
+use Rattle.base.specs.Triples.{labAt}
 use Rattle.sheet.specs.Sheet.{Sheet}
 use Rattle.sheet.specs.Checks.{sheetChecks, WellFormed}
 use Rattle.edit.specs.Storage.{cut}

@@ -1,14 +1,14 @@
 // The entries but one: whether there are others, and the nearest of them.
-use base_limits::LAST_ENTRY;
-use base_limits::NO_SUCH_ENTRY;
-use base_storage::lab_at;
+use base::LAST_ENTRY;
+use base::NO_SUCH_ENTRY;
+use base::lab_at;
 use color_nearest::nearest_in;
 use sheet::check;
 ghost use mathlib.Core.Path.{_≡_};
 ghost use mathlib.Core.Bool.{false};
 ghost use Prim.Native.Nat.{_*_, _<_, _≤_};
 ghost use lib.ListN.{length, take};
-ghost use Rattle.base_lists.specs.Lists.{some};
+ghost use Rattle.base.specs.Lists.{some};
 ghost use Rattle.color_doubles.specs.Finite.{unfit};
 ghost use Rattle.sheet.specs.Sheet.{sheetOf};
 ghost use Rattle.palette_nearest.specs.Nearest.{Removable, Nearest};
@@ -24,7 +24,10 @@ pub fn other_no(
     indices: &[i16],
     index: usize,
 ) -> u8
-    ensures { λ r. ⌜ Removable (sheetOf w h k (now (palette .entry)) (now (lab .entry)) (now (indices .entry))) index r ⌝ }
+    ensures { λ r. ⌜ (
+        let sheet = sheetOf w h k (now (palette .entry)) (now (lab .entry)) (now (indices .entry)) in
+        Removable sheet index r
+        ) ⌝ }
 {
     let no = check(w, h, k, palette, lab, indices);
     if no != 0 {
@@ -42,7 +45,9 @@ pub fn other_no(
 // The nearest of the entries but `index`, the first of them where several are. Those before it and those
 // after it are searched where they stand.
 pub fn nearest_but(lab: &[f64], k: usize, index: usize) -> usize
-    requires { ⌜ (length (now lab) ≡ 765) × (k ≤ 255) × (2 ≤ k) × (index < k) × (some unfit (take (3 * k) (now lab)) ≡ false) ⌝ }
+    requires { ⌜
+        (length (now lab) ≡ 765) × (k ≤ 255) × (2 ≤ k) × (index < k) × (some unfit (take (3 * k) (now lab)) ≡ false)
+        ⌝ }
     ensures { λ r. ⌜ Nearest (now (lab .entry)) k index r ⌝ }
 {
     let target = lab_at(lab, index);

@@ -7,40 +7,39 @@ use native.Mathlib.Omega.{arith}
 use borrow.Author.Tests.{le-leb, lt-leb, le-ltb, lt-ltb, eq-eqb, ne-eqb}
 use lib.IntN.{ℤ, pos}
 use lib.ListN.{length, length-map}
-use Rattle.base_limits.specs.Checks.{Check, firstOf, refusedOr}
-use Rattle.base_limits.specs.declared.Rgb.{Rgb}
-use Rattle.base_limits.specs.declared.Lab.{Lab}
-use Rattle.base_limits.proofs.First.{first-past, first-here, refused-first, result-first}
-use Rattle.base_lists.specs.Lists.{over}
-use Rattle.color.specs.declared.Found.the-variants as found
+use Rattle.base.specs.Checks.{Check, firstOf, refusedOr}
+use Rattle.base.specs.declared.Rgb.{Rgb}
+use Rattle.base.specs.declared.Lab.{Lab}
+use Rattle.base.proofs.First.{first-past, first-here, refused-first, result-first}
+use Rattle.base.specs.Lists.{over}
+use Rattle.base.specs.Answer.Told.{result, alone}
+use Rattle.base.proofs.Told.{alone-other, same-result}
+use Rattle.base.specs.declared.Found.the-variants as found
 use Rattle.sheet.specs.Sheet.{Sheet}
 use Rattle.sheet.specs.Checks.{sheetChecks, WellFormed, Judged}
-use Rattle.base_storage.specs.Triples.{rgbAt}
+use Rattle.base.specs.Triples.{rgbAt}
 use Rattle.sheet.proofs.Judging.{past-sheet}
-use Rattle.edit.specs.declared.Edit.the-variants.{PaletteRemove}
+use Rattle.base.specs.declared.Edit.the-variants.{PaletteRemove}
 use Rattle.edit.specs.Change.{packed}
 use Rattle.edit_pixels.specs.Listing.{placesFrom}
 use Rattle.edit_entries.specs.Unfilled.{noLab}
 use Rattle.palette_nearest.specs.Nearest.{otherChecks, Removable, Nearest}
-use Rattle.palette_remove.specs.declared.Removal.the-variants as removal
+use Rattle.base.specs.declared.Removal.the-variants as removal
 use Rattle.palette_remove.specs.Nearest.{nearestOtherOf, NearestOther}
 use Rattle.palette_remove.specs.Removal.{moved, remapOf, remapped, removeTo, mergeChecks}
 
 -- ---- `nearest_other`
 module _ (s : Sheet) (i : ℕ) where
-  never : {n j : ℕ} → found.Refused n ≡ found.Entry j → ⊥
-  never h = let z : _≡_ {A = ℕ} 0 1 = cc in omega arith
-
   pub near-refused : (n : ℕ) → Removable s i n → (n ≡ 0 → ⊥) → NearestOther s i (found.Refused n)
   unfolding nearestOtherOf
-  near-refused n r h = record { value = refused-first (otherChecks s i) found.Refused _ n (r .value) h; first = λ j e. absurd (never e) }
+  near-refused n r h = record { value = refused-first (otherChecks s i) alone _ n (r .value) h; first = λ j e. absurd (alone-other e) }
 
   pub near-found : (n : ℕ) → Removable s i n → n ≡ 0 → (j : ℕ) → Nearest (s .lab) (s .k) i j → NearestOther s i (found.Entry j)
   unfolding nearestOtherOf
   near-found n r z j f =
       record {
-        value = ap found.Entry (f .value) ∙ result-first (otherChecks s i) found.Refused _ (sym (r .value) ∙ z);
-        first = λ m e. let same : j ≡ m = cc in subst (λ (q : ℕ). Nearest (s .lab) (s .k) i q) same f .first;
+        value = ap result (f .value) ∙ result-first (otherChecks s i) alone _ (sym (r .value) ∙ z);
+        first = λ m e. subst (λ (q : ℕ). Nearest (s .lab) (s .k) i q) (same-result e) f .first;
       }
 
 -- ---- the remap

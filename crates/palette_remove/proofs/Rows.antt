@@ -14,9 +14,9 @@ use mir.Facts.{toZ-pos}
 use lib.IntN.{ℤ, pos}
 use lib.ListN.{length, take, drop, length-append, length-map, length-take, length-drop}
 use lib.Seq.{take-add, take-all, length-take-le}
-use Rattle.base_lists.specs.Lists.{over}
-use Rattle.base_lists.proofs.Over.{over-none, over-lent, length-over}
-use Rattle.base_ints.specs.Ints.{eqZ}
+use Rattle.base.specs.Lists.{over}
+use Rattle.base.proofs.Over.{over-none, over-lent, length-over}
+use Rattle.base.specs.Ints.{eqZ}
 use Rattle.edit.specs.Change.{packed}
 use Rattle.edit_pixels.specs.Listing.{placesFrom}
 use Rattle.palette_remove.specs.Removal.{moved, remapOf}

@@ -5,19 +5,20 @@ use mathlib.Core.List.{List, [], _∷_, _++_, map}
 use lib.Dec.{ltb, leb, eqb}
 use lib.IntN.{ℤ, pos}
 use lib.ListN.{length}
-use Rattle.base_limits.specs.Numbers.{badMerge, noSpace}
-use Rattle.base_limits.specs.Checks.{Check, _when_, checked}
-use Rattle.base_lists.specs.Lists.{over}
+use Rattle.base.specs.Numbers.{badMerge, noSpace}
+use Rattle.base.specs.Checks.{Check, _when_, checked}
+use Rattle.base.specs.Lists.{over}
 use Rattle.sheet.specs.Sheet.{Sheet}
 use Rattle.sheet.specs.Checks.{sheetChecks}
-use Rattle.base_storage.specs.Triples.{rgbAt}
-use Rattle.edit.specs.declared.Edit.the-variants.{PaletteRemove}
+use Rattle.base.specs.Triples.{rgbAt}
+use Rattle.base.specs.declared.Edit.the-variants.{PaletteRemove}
 use Rattle.edit.specs.Change.{Change, packed}
 use Rattle.edit_pixels.specs.Listing.{placesFrom}
 use Rattle.edit_entries.specs.Unfilled.{noLab}
 use Rattle.palette_nearest.specs.Nearest.{otherChecks, nearestOther}
-use Rattle.palette_remove.specs.declared.Removal.{Removal}
-use Rattle.palette_remove.specs.declared.Removal.the-variants as removal
+use Rattle.base.specs.declared.Removal.{Removal}
+use Rattle.base.specs.Answer.{Told, Op, op, removalTold}
+use Rattle.base.specs.Answer.Told.{result, alone}
 
 -- ---- "`remove_to` lists the entry's pixels in row order"
 -- the change of the pixel at a place, on a sheet of width w
@@ -29,19 +30,22 @@ remapOf w indices i target = map (moved w i target) (placesFrom (pos i) 0 indice
 
 -- ---- the answer, and the list
 pub record Remapped : Type 0 where
-  pub answer : Removal
+  pub answer : Told Op
   pub list : List ℕ
 
+abbrev pub remapping : Told Op → List ℕ → Remapped
+remapping told list = record { answer = told; list = list }
+
 abbrev pub remapped : Removal → List ℕ → Remapped
-remapped answer list = record { answer = answer; list = list }
+remapped answer list = remapping (removalTold answer) list
 
 -- a call's checks, then 16; the edit, and its remap at the front of the list
 unfoldable pub removeTo : List Check → ℕ → List ℕ → List ℤ → ℕ → ℕ → List ℕ → Remapped
 removeTo checks w palette indices i target list =
     let remap = remapOf w indices i target in
     checked (checks ++ (noSpace when ltb (length list) (length remap) ∷ []))
-    (λ n. remapped (removal.Refused n) list)
-    (remapped (removal.Made (PaletteRemove i (rgbAt palette i) noLab) (length remap)) (over (map packed remap) list))
+    (λ n. remapping (alone n) list)
+    (remapping (result (op (PaletteRemove i (rgbAt palette i) noLab) (length remap))) (over (map packed remap) list))
 
 -- "Remove entry `index`; its pixels (if any) move to the nearest remaining entry"
 unfoldable pub removeEntryOf : Sheet → ℕ → List ℕ → Remapped

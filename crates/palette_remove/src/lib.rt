@@ -1,6 +1,5 @@
 // Entries that leave the palette: palette.rs. An entry is removed with its pixels moved to the nearest other
 // entry, or merged into another. A call makes the edit and the list of its changes; it changes no sheet.
-use edit::Edit;
 
 mod nearest;
 mod remap;
@@ -8,9 +7,3 @@ mod remap;
 pub use nearest::nearest_other;
 pub use remap::merge_entries;
 pub use remap::remove_entry;
-
-// What `remove_entry` and `merge_entries` answer: the edit, and how many changes its list has.
-pub enum Removal {
-    Made { edit: Edit, count: usize },
-    Refused(u8),
-}

@@ -1,5 +1,5 @@
 // The entry that is nearest to another: `nearest_other`.
-use color::Found;
+use base::Found;
 use palette_nearest::nearest_but;
 use palette_nearest::other_no;
 ghost use Rattle.sheet.specs.Sheet.{sheetOf};
@@ -15,7 +15,10 @@ pub fn nearest_other(
     indices: &[i16],
     index: usize,
 ) -> Found
-    ensures { λ r. ⌜ NearestOther (sheetOf w h k (now (palette .entry)) (now (lab .entry)) (now (indices .entry))) index r ⌝ }
+    ensures { λ r. ⌜ (
+        let sheet = sheetOf w h k (now (palette .entry)) (now (lab .entry)) (now (indices .entry)) in
+        NearestOther sheet index r
+        ) ⌝ }
 {
     let no = other_no(w, h, k, palette, lab, indices, index);
     if no != 0 {

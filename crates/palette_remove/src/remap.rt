@@ -1,10 +1,10 @@
 // Entries that leave the palette, with the changes that move their pixels: `remove_entry` and
 // `merge_entries`. The changes are counted before the first is written.
-use crate::Removal;
-use base_limits::BAD_MERGE;
-use base_limits::NO_SPACE;
-use base_storage::rgb_at;
-use edit::Edit;
+use base::BAD_MERGE;
+use base::Edit;
+use base::NO_SPACE;
+use base::Removal;
+use base::rgb_at;
 use edit_entries::no_lab;
 use edit_pixels::change_of;
 use edit_pixels::count_on;
@@ -17,7 +17,7 @@ ghost use mathlib.Core.List.{[], map};
 ghost use Prim.Native.Nat.{_+_, _*_, _<_, _≤_};
 ghost use lib.IntN.{pos};
 ghost use lib.ListN.{length};
-ghost use Rattle.base_lists.specs.Lists.{over};
+ghost use Rattle.base.specs.Lists.{over};
 ghost use Rattle.sheet.specs.Sheet.{sheetOf};
 ghost use Rattle.edit.specs.Change.{packed};
 ghost use Rattle.edit_pixels.specs.Listing.{placesFrom};
@@ -33,8 +33,13 @@ fn as_index(entry: usize) -> i16
 
 // Lists the changes of the pixels that are on the entry, row by row. What the list has past them keeps.
 fn list_rows(w: usize, h: usize, indices: &[i16], index: usize, target: usize, list: &mut [u64])
-    requires { ⌜ (w ≤ 1024) × (h ≤ 1024) × (length (now indices) ≡ w * h) × (index ≤ 255) × (target ≤ 255) × (length (placesFrom (pos index) 0 (now indices)) ≤ length (now list)) ⌝ }
-    ensures { λ _. ⌜ now (list .exit) ≡ over (map packed (remapOf w (now (indices .entry)) index target)) (now (list .entry)) ⌝ }
+    requires { ⌜
+        (w ≤ 1024) × (h ≤ 1024) × (length (now indices) ≡ w * h) × (index ≤ 255) × (target ≤ 255)
+        × (length (placesFrom (pos index) 0 (now indices)) ≤ length (now list))
+        ⌝ }
+    ensures { λ _. ⌜
+        now (list .exit) ≡ over (map packed (remapOf w (now (indices .entry)) index target)) (now (list .entry))
+        ⌝ }
 {
     let from = as_index(index);
     let to = as_index(target);
@@ -60,8 +65,14 @@ fn remove_to(
     target: usize,
     list: &mut [u64],
 ) -> Removal
-    requires { ⌜ (w ≤ 1024) × (h ≤ 1024) × (length (now indices) ≡ w * h) × (length (now palette) ≡ 765) × (index < 255) × (target < 255) ⌝ }
-    ensures { λ r. ⌜ remapped r (now (list .exit)) ≡ removeTo [] w (now (palette .entry)) (now (indices .entry)) index target (now (list .entry)) ⌝ }
+    requires { ⌜
+        (w ≤ 1024) × (h ≤ 1024) × (length (now indices) ≡ w * h) × (length (now palette) ≡ 765) × (index < 255)
+        × (target < 255)
+        ⌝ }
+    ensures { λ r. ⌜
+        remapped r (now (list .exit))
+        ≡ removeTo [] w (now (palette .entry)) (now (indices .entry)) index target (now (list .entry))
+        ⌝ }
 {
     let count = count_on(indices, as_index(index));
     if list.len() < count {
@@ -87,7 +98,10 @@ pub fn remove_entry(
     index: usize,
     list: &mut [u64],
 ) -> Removal
-    ensures { λ r. ⌜ remapped r (now (list .exit)) ≡ removeEntryOf (sheetOf w h k (now (palette .entry)) (now (lab .entry)) (now (indices .entry))) index (now (list .entry)) ⌝ }
+    ensures { λ r. ⌜ (
+        let sheet = sheetOf w h k (now (palette .entry)) (now (lab .entry)) (now (indices .entry)) in
+        remapped r (now (list .exit)) ≡ removeEntryOf sheet index (now (list .entry))
+        ) ⌝ }
 {
     let no = other_no(w, h, k, palette, lab, indices, index);
     if no != 0 {
@@ -109,7 +123,10 @@ pub fn merge_entries(
     into: usize,
     list: &mut [u64],
 ) -> Removal
-    ensures { λ r. ⌜ remapped r (now (list .exit)) ≡ mergeEntriesOf (sheetOf w h k (now (palette .entry)) (now (lab .entry)) (now (indices .entry))) from into (now (list .entry)) ⌝ }
+    ensures { λ r. ⌜ (
+        let sheet = sheetOf w h k (now (palette .entry)) (now (lab .entry)) (now (indices .entry)) in
+        remapped r (now (list .exit)) ≡ mergeEntriesOf sheet from into (now (list .entry))
+        ) ⌝ }
 {
     let no = check(w, h, k, palette, lab, indices);
     if no != 0 {

@@ -6,14 +6,14 @@ use lib.IntN.{ℤ}
 use lib.Ieee.{Float}
 use lib.ListN.{length, take}
 use lib.Seq.{take-at}
-use Rattle.base_lists.specs.Lists.{over}
-use Rattle.base_lists.proofs.Mapped.{map-take}
+use Rattle.base.specs.Lists.{over}
+use Rattle.base.proofs.Mapped.{map-take}
 use Rattle.sheet.specs.Sheet.{sheetOf}
 use Rattle.edit.specs.Change.{unpacked}
-use Rattle.history_ledger.specs.declared.Handle.{Handle}
+use Rattle.base.specs.declared.Handle.{Handle}
 use Rattle.history_ledger.specs.Calls.Call.{mark}
 use Rattle.history_ledger.specs.Journal.{markOf, step}
-use Rattle.history_model.specs.declared.Moved.{Moved}
+use Rattle.base.specs.declared.Moved.{Moved}
 use Rattle.history_model.specs.Editing.{editing}
 use Rattle.history_model.specs.Calls.{stateOf, leaves}
 use Rattle.history_model.specs.Calls.{outcomeOf}

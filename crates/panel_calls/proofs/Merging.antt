@@ -9,17 +9,19 @@ use lib.Dec.{ltb}
 use lib.IntN.{ℤ, pos}
 use lib.ListN.{length, take, length-map}
 use lib.Seq.{take-at}
-use Rattle.base_limits.specs.Numbers.{noSpace}
-use Rattle.base_limits.specs.Checks.{Check, _when_, firstOf, refusedOr}
-use Rattle.base_limits.proofs.First.{or-else-zero, first-append}
-use Rattle.base_lists.specs.Lists.{over}
-use Rattle.base_ints.proofs.Back.{never}
-use Rattle.base_storage.specs.Triples.{rgbAt}
-use Rattle.edit.specs.declared.Edit.{Edit}
-use Rattle.edit.specs.declared.Edit.the-variants.{PaletteRemove}
+use Rattle.base.specs.Numbers.{noSpace}
+use Rattle.base.specs.Checks.{Check, _when_, firstOf, refusedOr}
+use Rattle.base.proofs.First.{or-else-zero, first-append}
+use Rattle.base.specs.Lists.{over}
+use Rattle.base.proofs.Back.{never}
+use Rattle.base.specs.Triples.{rgbAt}
+use Rattle.base.specs.declared.Edit.{Edit}
+use Rattle.base.specs.declared.Edit.the-variants.{PaletteRemove}
 use Rattle.edit.specs.Change.{Change, unpacked, packed}
-use Rattle.palette_remove.specs.declared.Removal.{Removal}
-use Rattle.palette_remove.specs.declared.Removal.the-variants.{Made, Refused}
+use Rattle.base.specs.Answer.{Told, Op, op}
+use Rattle.base.specs.Answer.Told.{result, alone}
+use Rattle.base.proofs.Told.{same-result, same-number}
+use Rattle.base.specs.declared.Removal.the-variants.{Made, Refused}
 use Rattle.edit_entries.specs.Unfilled.{noLab}
 use Rattle.edit_pixels.specs.Listing.{placesFrom}
 use Rattle.edit_pixels.proofs.Places.{places-few}
@@ -33,9 +35,9 @@ remap-few : (w i target : ℕ) (l : List ℤ) → length (remapOf w l i target) 
 unfolding remapOf
 remap-few w i target l = rw (length-map (placesFrom (pos i) 0 l) (moved w i target)) (places-few (pos i) 0 l)
 
-abbrev made : Removal → Bool
-made (Made e n) = true
-made (Refused n) = false
+abbrev made : Told Op → Bool
+made (result o) = true
+made (alone n) = false
 
 module _ (st : State editing) (from into : ℕ) (list : List ℕ) (fits : length (st .sheet .indices) ≤ length list) where
   abbrev cs : List Check
@@ -72,10 +74,10 @@ module _ (st : State editing) (from into : ℕ) (list : List ℕ) (fits : length
       by : (v : ℕ) → firstOf cs ≡ v → pushOf editing room st (given e (map unpacked (take n l))) ≡ mergedOf st from into
       by zero z =
           let r : remapped (Made e n) l ≡ remapped (Made entry (length remap)) (over (map packed remap) list) = q ∙ as-merge ∙ rw z in
-          let a : Made e n ≡ Made entry (length remap) = ap (λ (x : Remapped). x .answer) r in
+          let a : op e n ≡ op entry (length remap) = same-result (ap (λ (x : Remapped). x .answer) r) in
           let l-is : l ≡ over (map packed remap) list = ap (λ (x : Remapped). x .list) r in
-          let e-is : e ≡ entry = cc in
-          let n-is : n ≡ length remap = cc in
+          let e-is : e ≡ entry = ap (λ (o : Op). o .edit) a in
+          let n-is : n ≡ length remap = ap (λ (o : Op). o .count) a in
           rw (z, e-is, n-is, l-is, front)
       by (suc v) z =
           let r : remapped (Made e n) l ≡ remapped (Refused (suc v)) list = q ∙ as-merge ∙ rw z in
@@ -91,8 +93,7 @@ module _ (st : State editing) (from into : ℕ) (list : List ℕ) (fits : length
           never (ap (λ (x : Remapped). made (x .answer)) r)
       by (suc v) z =
           let r : remapped (Refused n) l ≡ remapped (Refused (suc v)) list = q ∙ as-merge ∙ rw z in
-          let a : Refused n ≡ Refused (suc v) = ap (λ (x : Remapped). x .answer) r in
-          let n-is : n ≡ suc v = cc in
+          let n-is : n ≡ suc v = same-number (ap (λ (x : Remapped). x .answer) r) in
           rw (z, n-is)
 
   -- the list has room
@@ -103,8 +104,8 @@ module _ (st : State editing) (from into : ℕ) (list : List ℕ) (fits : length
       by : (v : ℕ) → firstOf cs ≡ v → n ≤ length list
       by zero z =
           let r : remapped (Made e n) l ≡ remapped (Made entry (length remap)) (over (map packed remap) list) = q ∙ as-merge ∙ rw z in
-          let a : Made e n ≡ Made entry (length remap) = ap (λ (x : Remapped). x .answer) r in
-          let n-is : n ≡ length remap = cc in
+          let a : op e n ≡ op entry (length remap) = same-result (ap (λ (x : Remapped). x .answer) r) in
+          let n-is : n ≡ length remap = ap (λ (o : Op). o .count) a in
           omega (arith, n-is, remap-few (st .sheet .w) from into (st .sheet .indices), fits)
       by (suc v) z =
           let r : remapped (Made e n) l ≡ remapped (Refused (suc v)) list = q ∙ as-merge ∙ rw z in

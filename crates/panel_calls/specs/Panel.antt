@@ -1,33 +1,30 @@
--- Document 01's "Program `panel`": what a line does, and what it prints. Definitions only. Assumes nothing.
---
--- A state after the opening is one of demand 3 (history_model/specs/Demand3.antt), and a frame asks for a call of demand 3: `step editing` (history_ledger/specs/Journal.antt)
--- answers it.
+-- Document 01's "Program `panel`": what a line does, and what it prints. Definitions only. Assumes nothing. A state
+-- after the opening is one of demand 3 (history_model/specs/Demand3.antt), and a frame asks for a call of demand 3:
+-- `step editing` (history_ledger/specs/Journal.antt) answers it.
 use Prim.Native.Nat.{ℕ}
 use mathlib.Core.Bool.{false, cond}
 use mathlib.Core.List.{List, [], _∷_, _++_, map}
 use mathlib.Core.Option.{Option, none, some}
 use lib.Dec.{ltb, eqb}
 use lib.ListN.{replicate}
-use Rattle.base_limits.specs.Limits.{storage}
-use Rattle.base_limits.specs.Numbers.{badSheet, unreadFrame}
-use Rattle.base_limits.specs.Checks.{Check, _when_, checked}
-use Rattle.base_limits.specs.Answer.{numberOf}
-use Rattle.base_limits.specs.declared.Answer.{Answer}
-use Rattle.base_limits.specs.declared.Answer.the-variants.{Done}
-use Rattle.base_lists.specs.Lists.{over}
+use Rattle.base.specs.Limits.{storage}
+use Rattle.base.specs.Numbers.{badSheet, unreadFrame}
+use Rattle.base.specs.Checks.{Check, _when_, checked}
+use Rattle.base.specs.Answer.{number, Done}
+use Rattle.base.specs.Lists.{over}
 use Rattle.color_doubles.specs.Arithmetic.{decimal}
 use Rattle.sheet.specs.Sheet.{Sheet, sheetOf}
 use Rattle.sheet.specs.Checks.{limitChecks, indexChecks}
 use Rattle.sheet.specs.Document.{newLab}
-use Rattle.base_storage.specs.Triples.{rgbAt}
-use Rattle.edit.specs.declared.Edit.{Edit}
-use Rattle.edit.specs.declared.Edit.the-variants as edit
+use Rattle.base.specs.Triples.{rgbAt}
+use Rattle.base.specs.declared.Edit.{Edit}
+use Rattle.base.specs.declared.Edit.the-variants as edit
 use Rattle.edit.specs.Change.{Change, packed}
 use Rattle.edit.specs.Checks.{permittedOf}
 use Rattle.edit_entries.specs.Unfilled.{noLab}
 use Rattle.palette_remove.specs.Removal.{remapOf, mergeChecks}
 use Rattle.history_ledger.specs.Handle.{dirty}
-use Rattle.history_ledger.specs.Calls.{Outcome, refused, guarded}
+use Rattle.history_ledger.specs.Calls.{Answer, Outcome, refused, guarded}
 use Rattle.history_ledger.specs.Calls.Call.{push, undo, redo, mark}
 use Rattle.history_ledger.specs.Journal.{State, opened, step}
 use Rattle.history_model.specs.Editing.{Given, givenOf, editing}
@@ -59,7 +56,8 @@ unfoldable pub mergedOf : State editing → ℕ → ℕ → Outcome (State editi
 mergedOf st from into =
     let s = st .sheet in
     guarded st (mergeChecks s from into)
-    (step editing room st (push (givenOf false [] (edit.PaletteRemove from (rgbAt (s .palette) from) noLab) (map packed (remapOf (s .w) (s .indices) from into)))))
+    (step editing room st (push (givenOf false [] (edit.PaletteRemove from (rgbAt (s .palette) from) noLab)
+    (map packed (remapOf (s .w) (s .indices) from into)))))
 
 -- what a frame asks of the history; push fills in old colour and old LAB. 22 for "a second opening" and for a "malformed line"
 unfoldable pub callOf : State editing → Frame → List ℕ → Outcome (State editing)
@@ -75,13 +73,13 @@ callOf st Malformed bs = refused st unreadFrame
 
 -- "It prints .. answer (00 done, FF still, else number), position (2), dirty, k, indices"
 unfoldable pub wholeLine : Answer → State editing → List ℕ
-wholeLine a st = lineOf (numberOf a) (st .handle .position) (dirty (st .handle)) (st .sheet .k) (st .sheet .indices)
+wholeLine a st = lineOf (number a) (st .handle .position) (dirty (st .handle)) (st .sheet .k) (st .sheet .indices)
 
 -- "22 .. prints the number only"; "Every other refusal prints the whole line"
 unfoldable pub shown : Outcome (State editing) → Said Panel
 shown o =
     said (some (o .leaves))
-    (cond (eqb (numberOf (o .answer)) unreadFrame) (numberLine unreadFrame) (wholeLine (o .answer) (o .leaves)))
+    (cond (eqb (number (o .answer)) unreadFrame) (numberLine unreadFrame) (wholeLine (o .answer) (o .leaves)))
 
 -- ---- the opening
 

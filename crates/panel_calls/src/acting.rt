@@ -1,16 +1,16 @@
 // What a frame asks of the history of the open sheet.
-use base_limits::Answer;
-use base_limits::Rgb;
-use base_limits::UNREAD_FRAME;
-use edit::Edit;
+use base::Answer;
+use base::Edit;
+use base::Handle;
+use base::Moved;
+use base::Removal;
+use base::Rgb;
+use base::UNREAD_FRAME;
 use edit_entries::no_lab;
-use history::Handle;
-use history::Moved;
 use history::mark_saved;
 use history::push;
 use history::redo;
 use history::undo;
-use palette_remove::Removal;
 use palette_remove::merge_entries;
 use panel_frames::Frame;
 use panel_frames::take_changes;
@@ -19,10 +19,10 @@ ghost use mathlib.Core.Bool.{false};
 ghost use mathlib.Core.List.{[], map};
 ghost use Prim.Native.Nat.{_+_, _*_, _≤_};
 ghost use lib.ListN.{length, take};
-ghost use Rattle.base_limits.specs.declared.Answer.the-variants.{Refused};
+ghost use Rattle.base.specs.declared.Answer.the-variants.{Refused};
 ghost use Rattle.sheet.specs.Sheet.{sheetOf};
 ghost use Rattle.edit.specs.Change.{unpacked};
-ghost use Rattle.edit.specs.declared.Edit.the-variants.{Pixels, PaletteSet};
+ghost use Rattle.base.specs.declared.Edit.the-variants.{Pixels, PaletteSet};
 ghost use Rattle.edit_entries.specs.Unfilled.{noLab};
 ghost use Rattle.history_ledger.specs.Journal as ledgers;
 ghost use Rattle.history_model.specs.Calls.{stateOf, leaves};
@@ -47,7 +47,12 @@ fn push_edit(
     scratch: &mut [u8],
 ) -> Moved
     requires { ⌜ (n ≤ length (now list)) × (length (now scratch) ≡ 8192) ⌝ }
-    ensures { λ r. ⌜ leaves r w h (now (palette .exit)) (now (lab .exit)) (now (indices .exit)) (now (journal .exit)) ≡ ledgers.pushOf editing room (stateOf (sheetOf w h k (now (palette .entry)) (now (lab .entry)) (now (indices .entry))) (now (journal .entry)) handle) (given edit (map unpacked (take n (now (list .entry))))) ⌝ }
+    ensures { λ r. ⌜ (
+        let sheet = sheetOf w h k (now (palette .entry)) (now (lab .entry)) (now (indices .entry)) in
+        leaves r w h (now (palette .exit)) (now (lab .exit)) (now (indices .exit)) (now (journal .exit))
+        ≡ ledgers.pushOf editing room (stateOf sheet (now (journal .entry)) handle)
+        (given edit (map unpacked (take n (now (list .entry)))))
+        ) ⌝ }
 {
     push(
         w,
@@ -82,7 +87,12 @@ fn push_pixels(
     list: &mut [u64],
 ) -> Moved
     requires { ⌜ (2 + 6 * n ≤ length (now bytes)) × (length (now bytes) ≡ 8192) × (length (now list) ≡ 4096) ⌝ }
-    ensures { λ r. ⌜ leaves r w h (now (palette .exit)) (now (lab .exit)) (now (indices .exit)) (now (journal .exit)) ≡ ledgers.pushOf editing room (stateOf (sheetOf w h k (now (palette .entry)) (now (lab .entry)) (now (indices .entry))) (now (journal .entry)) handle) (given (Pixels tool) (changesFrom (now (bytes .entry)) 2 n)) ⌝ }
+    ensures { λ r. ⌜ (
+        let sheet = sheetOf w h k (now (palette .entry)) (now (lab .entry)) (now (indices .entry)) in
+        leaves r w h (now (palette .exit)) (now (lab .exit)) (now (indices .exit)) (now (journal .exit))
+        ≡ ledgers.pushOf editing room (stateOf sheet (now (journal .entry)) handle)
+        (given (Pixels tool) (changesFrom (now (bytes .entry)) 2 n))
+        ) ⌝ }
 {
     take_changes(bytes, n, list);
     push_edit(
@@ -129,7 +139,11 @@ fn push_entry(
     scratch: &mut [u8],
 ) -> Moved
     requires { ⌜ length (now scratch) ≡ 8192 ⌝ }
-    ensures { λ r. ⌜ leaves r w h (now (palette .exit)) (now (lab .exit)) (now (indices .exit)) (now (journal .exit)) ≡ ledgers.pushOf editing room (stateOf (sheetOf w h k (now (palette .entry)) (now (lab .entry)) (now (indices .entry))) (now (journal .entry)) handle) (given edit []) ⌝ }
+    ensures { λ r. ⌜ (
+        let sheet = sheetOf w h k (now (palette .entry)) (now (lab .entry)) (now (indices .entry)) in
+        leaves r w h (now (palette .exit)) (now (lab .exit)) (now (indices .exit)) (now (journal .exit))
+        ≡ ledgers.pushOf editing room (stateOf sheet (now (journal .entry)) handle) (given edit [])
+        ) ⌝ }
 {
     push_edit(
         w,
@@ -173,7 +187,11 @@ fn merge(
     scratch: &mut [u8],
 ) -> Moved
     requires { ⌜ (length (now indices) ≤ length (now list)) × (length (now scratch) ≡ 8192) ⌝ }
-    ensures { λ r. ⌜ leaves r w h (now (palette .exit)) (now (lab .exit)) (now (indices .exit)) (now (journal .exit)) ≡ mergedOf (stateOf (sheetOf w h k (now (palette .entry)) (now (lab .entry)) (now (indices .entry))) (now (journal .entry)) handle) from into ⌝ }
+    ensures { λ r. ⌜ (
+        let sheet = sheetOf w h k (now (palette .entry)) (now (lab .entry)) (now (indices .entry)) in
+        leaves r w h (now (palette .exit)) (now (lab .exit)) (now (indices .exit)) (now (journal .exit))
+        ≡ mergedOf (stateOf sheet (now (journal .entry)) handle) from into
+        ) ⌝ }
 {
     let made = merge_entries(w, h, k, palette, lab, indices, from, into, list);
     match made {
@@ -196,7 +214,9 @@ fn merge(
 }
 
 fn mark(k: usize, journal: &[u8], handle: Handle) -> Moved
-    ensures { λ r. ⌜ (outcomeOf (r .answer) (r .handle) ≡ ledgers.markOf (length (now (journal .entry))) handle) × (r .k ≡ k) ⌝ }
+    ensures { λ r. ⌜
+        (outcomeOf (r .answer) (r .handle) ≡ ledgers.markOf (length (now (journal .entry))) handle) × (r .k ≡ k)
+        ⌝ }
 {
     let m = mark_saved(journal, handle);
     let answer = m.answer;
@@ -222,8 +242,15 @@ pub fn call(
     bytes: &mut [u8],
     list: &mut [u64],
 ) -> Moved
-    requires { ⌜ (sizeOf frame ≤ length (now bytes)) × (length (now bytes) ≡ 8192) × (length (now list) ≡ 4096) × (length (now indices) ≤ 4096) ⌝ }
-    ensures { λ r. ⌜ leaves r w h (now (palette .exit)) (now (lab .exit)) (now (indices .exit)) (now (journal .exit)) ≡ callOf (stateOf (sheetOf w h k (now (palette .entry)) (now (lab .entry)) (now (indices .entry))) (now (journal .entry)) handle) frame (now (bytes .entry)) ⌝ }
+    requires { ⌜
+        (sizeOf frame ≤ length (now bytes)) × (length (now bytes) ≡ 8192) × (length (now list) ≡ 4096)
+        × (length (now indices) ≤ 4096)
+        ⌝ }
+    ensures { λ r. ⌜ (
+        let sheet = sheetOf w h k (now (palette .entry)) (now (lab .entry)) (now (indices .entry)) in
+        leaves r w h (now (palette .exit)) (now (lab .exit)) (now (indices .exit)) (now (journal .exit))
+        ≡ callOf (stateOf sheet (now (journal .entry)) handle) frame (now (bytes .entry))
+        ) ⌝ }
 {
     match frame {
         Frame::Open { w: _, h: _, k: _ } => refused(UNREAD_FRAME, k, handle),

@@ -33,10 +33,22 @@ pub fn answer_chunk(
     list: &mut [u64],
     out: &mut [u8],
 ) -> Told
-    requires { ⌜ Fits (t .core) (length (now palette)) (length (now lab)) (length (now indices)) (length (now journal)) (length (now bytes)) (length (now list)) ⌝ }
+    requires { ⌜
+        Fits (t .core) (length (now palette)) (length (now lab)) (length (now indices)) (length (now journal))
+        (length (now bytes)) (length (now list))
+        ⌝ }
     requires { ⌜ Holds t (length (now line)) × (length (now out) ≡ 65536) × (length (now chunk) ≤ 4096) ⌝ }
-    ensures { λ r. ⌜ (r .all ≡ true → Answered (panelIn (r .turn .core) (now (palette .exit)) (now (lab .exit)) (now (indices .exit)) (now (journal .exit))) (take (r .turn .len) (now (line .exit))) (r .said) (chunkFed stepOf (panelIn (t .core) (now (palette .entry)) (now (lab .entry)) (now (indices .entry)) (now (journal .entry))) (take (t .len) (now (line .entry))) (now (chunk .entry)))) ⌝ }
-    ensures { λ r. ⌜ Fits (r .turn .core) (length (now (palette .exit))) (length (now (lab .exit))) (length (now (indices .exit))) (length (now (journal .exit))) (length (now (bytes .exit))) (length (now (list .exit))) ⌝ }
+    ensures { λ r. ⌜
+        (r .all ≡ true → Answered
+        (panelIn (r .turn .core) (now (palette .exit)) (now (lab .exit)) (now (indices .exit)) (now (journal .exit)))
+        (take (r .turn .len) (now (line .exit))) (r .said) (chunkFed stepOf
+        (panelIn (t .core) (now (palette .entry)) (now (lab .entry)) (now (indices .entry)) (now (journal .entry)))
+        (take (t .len) (now (line .entry))) (now (chunk .entry))))
+        ⌝ }
+    ensures { λ r. ⌜
+        Fits (r .turn .core) (length (now (palette .exit))) (length (now (lab .exit))) (length (now (indices .exit)))
+        (length (now (journal .exit))) (length (now (bytes .exit))) (length (now (list .exit)))
+        ⌝ }
     ensures { λ r. ⌜ Holds (r .turn) (length (now (line .exit))) ⌝ }
 {
     let mut s = t;

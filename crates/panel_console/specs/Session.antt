@@ -25,7 +25,8 @@ pub record Closed (r : Session) : Type 0 where
   pub ends : r .more ≡ false → r .sound ≡ true → r .last ≡ 0
   pub bound : r .more ≡ true → r .reads ≡ 18446744073709551615
 
--- from state and held line p₀, l₀ to p, l: the reads brought the bytes `input`, fed as document 01's program is, and as many bytes were written as the answers have
+-- from state and held line p₀, l₀ to p, l: the reads brought the bytes `input`, fed as document 01's program is, and as
+-- many bytes were written as the answers have
 pub record Heard (p₀ : Panel) (l₀ : List ℕ) (p : Panel) (l : List ℕ) (heard said : ℕ) : Type 0 where
   pub input : List ℕ
   pub state-is : p ≡ chunkFed stepOf p₀ l₀ input .state

@@ -1,7 +1,6 @@
 // The loop of reads and writes: what is read is answered, and the text is written.
 use crate::Got;
 use crate::Session;
-use libc::STDIN_FILENO;
 use panel_chunk::answer_chunk;
 use panel_ends::answer_held;
 use panel_ends::begin;
@@ -49,15 +48,28 @@ fn answer_some(
     bytes: &mut [u8],
     list: &mut [u64],
     out: &mut [u8],
+    input: i32,
 ) -> Got
-    requires { ⌜ Fits (t .core) (length (now palette)) (length (now lab)) (length (now indices)) (length (now journal)) (length (now bytes)) (length (now list)) ⌝ }
+    requires { ⌜
+        Fits (t .core) (length (now palette)) (length (now lab)) (length (now indices)) (length (now journal))
+        (length (now bytes)) (length (now list))
+        ⌝ }
     requires { ⌜ Holds t (length (now line)) × (length (now out) ≡ 65536) × (length (now chunk) ≡ 4096) ⌝ }
-    ensures { λ r. ⌜ (r .sound ≡ true → Answered (panelIn (r .turn .core) (now (palette .exit)) (now (lab .exit)) (now (indices .exit)) (now (journal .exit))) (take (r .turn .len) (now (line .exit))) (r .said) (chunkFed stepOf (panelIn (t .core) (now (palette .entry)) (now (lab .entry)) (now (indices .entry)) (now (journal .entry))) (take (t .len) (now (line .entry))) (take (r .n) (now (chunk .exit))))) ⌝ }
+    ensures { λ r. ⌜
+        (r .sound ≡ true → Answered
+        (panelIn (r .turn .core) (now (palette .exit)) (now (lab .exit)) (now (indices .exit)) (now (journal .exit)))
+        (take (r .turn .len) (now (line .exit))) (r .said) (chunkFed stepOf
+        (panelIn (t .core) (now (palette .entry)) (now (lab .entry)) (now (indices .entry)) (now (journal .entry)))
+        (take (t .len) (now (line .entry))) (take (r .n) (now (chunk .exit)))))
+        ⌝ }
     ensures { λ r. ⌜ Reads r ⌝ }
-    ensures { λ r. ⌜ Fits (r .turn .core) (length (now (palette .exit))) (length (now (lab .exit))) (length (now (indices .exit))) (length (now (journal .exit))) (length (now (bytes .exit))) (length (now (list .exit))) ⌝ }
+    ensures { λ r. ⌜
+        Fits (r .turn .core) (length (now (palette .exit))) (length (now (lab .exit))) (length (now (indices .exit)))
+        (length (now (journal .exit))) (length (now (bytes .exit))) (length (now (list .exit)))
+        ⌝ }
     ensures { λ r. ⌜ Holds (r .turn) (length (now (line .exit))) ⌝ }
 {
-    let got = libc::read(STDIN_FILENO, chunk);
+    let got = libc::read(input, chunk);
     let n = io::count(got, chunk);
     if n == 0 {
         let more = goes_on(got);
@@ -106,12 +118,25 @@ fn answer_reads(
     bytes: &mut [u8],
     list: &mut [u64],
     out: &mut [u8],
+    input: i32,
 ) -> Session
-    requires { ⌜ Fits (t .core) (length (now palette)) (length (now lab)) (length (now indices)) (length (now journal)) (length (now bytes)) (length (now list)) ⌝ }
+    requires { ⌜
+        Fits (t .core) (length (now palette)) (length (now lab)) (length (now indices)) (length (now journal))
+        (length (now bytes)) (length (now list))
+        ⌝ }
     requires { ⌜ Holds t (length (now line)) × (length (now out) ≡ 65536) × (length (now chunk) ≡ 4096) ⌝ }
-    ensures { λ r. ⌜ (r .sound ≡ true → Heard (panelIn (t .core) (now (palette .entry)) (now (lab .entry)) (now (indices .entry)) (now (journal .entry))) (take (t .len) (now (line .entry))) (panelIn (r .turn .core) (now (palette .exit)) (now (lab .exit)) (now (indices .exit)) (now (journal .exit))) (take (r .turn .len) (now (line .exit))) (r .heard) (r .said)) ⌝ }
+    ensures { λ r. ⌜
+        (r .sound ≡ true → Heard
+        (panelIn (t .core) (now (palette .entry)) (now (lab .entry)) (now (indices .entry)) (now (journal .entry)))
+        (take (t .len) (now (line .entry)))
+        (panelIn (r .turn .core) (now (palette .exit)) (now (lab .exit)) (now (indices .exit)) (now (journal .exit)))
+        (take (r .turn .len) (now (line .exit))) (r .heard) (r .said))
+        ⌝ }
     ensures { λ r. ⌜ Closed r ⌝ }
-    ensures { λ r. ⌜ Fits (r .turn .core) (length (now (palette .exit))) (length (now (lab .exit))) (length (now (indices .exit))) (length (now (journal .exit))) (length (now (bytes .exit))) (length (now (list .exit))) ⌝ }
+    ensures { λ r. ⌜
+        Fits (r .turn .core) (length (now (palette .exit))) (length (now (lab .exit))) (length (now (indices .exit)))
+        (length (now (journal .exit))) (length (now (bytes .exit))) (length (now (list .exit)))
+        ⌝ }
     ensures { λ r. ⌜ Holds (r .turn) (length (now (line .exit))) ⌝ }
 {
     let mut s = t;
@@ -131,6 +156,7 @@ fn answer_reads(
             bytes,
             list,
             out,
+            input,
         );
         s = g.turn;
         reads += 1;
@@ -172,9 +198,16 @@ fn answer_all(
     bytes: &mut [u8],
     list: &mut [u64],
     out: &mut [u8],
+    input: i32,
 ) -> Session
-    requires { ⌜ (length (now palette) ≡ 765) × (length (now lab) ≡ 765) × (length (now indices) ≡ 4096) × (length (now journal) ≡ 4096) × (length (now line) ≡ 16385) ⌝ }
-    requires { ⌜ (length (now chunk) ≡ 4096) × (length (now bytes) ≡ 8192) × (length (now list) ≡ 4096) × (length (now out) ≡ 65536) ⌝ }
+    requires { ⌜
+        (length (now palette) ≡ 765) × (length (now lab) ≡ 765) × (length (now indices) ≡ 4096)
+        × (length (now journal) ≡ 4096) × (length (now line) ≡ 16385)
+        ⌝ }
+    requires { ⌜
+        (length (now chunk) ≡ 4096) × (length (now bytes) ≡ 8192) × (length (now list) ≡ 4096)
+        × (length (now out) ≡ 65536)
+        ⌝ }
     ensures { λ r. ⌜ Whole r ⌝ }
 {
     let t = begin();
@@ -189,6 +222,7 @@ fn answer_all(
         bytes,
         list,
         out,
+        input,
     );
     if !s.sound {
         return s;
@@ -208,8 +242,8 @@ fn answer_all(
     }
 }
 
-// Answers standard input, to its end, on standard output.
-pub fn run() -> Session
+// Answers what descriptor `input` reads, to its end, on standard output.
+pub fn run(input: i32) -> Session
     ensures { λ r. ⌜ Whole r ⌝ }
 {
     let mut palette = [0u8; 765];
@@ -231,5 +265,6 @@ pub fn run() -> Session
         &mut bytes,
         &mut list,
         &mut out,
+        input,
     )
 }

@@ -5,7 +5,7 @@ use mathlib.Core.List.{List, [], _∷_}
 use native.Mathlib.Omega.{arith}
 use lib.ListN.{length, take, drop}
 use lib.Seq.{take-at, length-take-le}
-use Rattle.base_lists.specs.Lists.{over}
+use Rattle.base.specs.Lists.{over}
 use Rattle.journal_record.specs.Bytes.{splice}
 use Rattle.panel_calls.specs.Lines.{lastFed}
 use Rattle.panel_calls.specs.Panel.{Panel, stepOf}

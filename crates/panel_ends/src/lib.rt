@@ -42,9 +42,16 @@ pub fn answer_held(
     list: &mut [u64],
     out: &mut [u8],
 ) -> usize
-    requires { ⌜ Fits (t .core) (length (now palette)) (length (now lab)) (length (now indices)) (length (now journal)) (length (now bytes)) (length (now list)) ⌝ }
+    requires { ⌜
+        Fits (t .core) (length (now palette)) (length (now lab)) (length (now indices)) (length (now journal))
+        (length (now bytes)) (length (now list))
+        ⌝ }
     requires { ⌜ Holds t (length (now line)) × (length (now out) ≡ 65536) ⌝ }
-    ensures { λ r. ⌜ Ends r (now (out .exit)) (lastFed stepOf (panelIn (t .core) (now (palette .entry)) (now (lab .entry)) (now (indices .entry)) (now (journal .entry))) (take (t .len) (now (line .entry)))) ⌝ }
+    ensures { λ r. ⌜
+        Ends r (now (out .exit)) (lastFed stepOf
+        (panelIn (t .core) (now (palette .entry)) (now (lab .entry)) (now (indices .entry)) (now (journal .entry)))
+        (take (t .len) (now (line .entry))))
+        ⌝ }
 {
     let len = t.len;
     if 0 < len {

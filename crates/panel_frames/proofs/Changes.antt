@@ -8,8 +8,8 @@ use lib.IntN.{pos}
 use lib.ListN.{length, getD, set, length-map}
 use mir.Syntax.{w16}
 use mir.Val.{toZ}
-use Rattle.base_lists.specs.Lists.{over}
-use Rattle.base_lists.proofs.Mapped.{map-set}
+use Rattle.base.specs.Lists.{over}
+use Rattle.base.proofs.Mapped.{map-set}
 use Rattle.edit.specs.Change.{Change, unpacked}
 use Rattle.panel_frames.specs.Reading.{changeAt, changesFrom}
 use Rattle.panel_frames.proofs.Filling.{Filling, filling-next, filling-all}

@@ -5,8 +5,8 @@ use mathlib.Core.List.{List, [], _∷_, _++_}
 use native.Mathlib.Omega.{arith}
 use lib.ListN.{length, take, getD, set, length-set}
 use lib.Seq.{take-all, length-take-le}
-use Rattle.base_lists.specs.Lists.{over}
-use Rattle.base_lists.proofs.Over.{over-none, over-set}
+use Rattle.base.specs.Lists.{over}
+use Rattle.base.proofs.Over.{over-none, over-set}
 use Rattle.sheet.proofs.Front.{take-next}
 
 -- the first i of vs stand in front

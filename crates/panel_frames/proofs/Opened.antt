@@ -9,9 +9,9 @@ use lib.Dec.{ltb, eqb}
 use lib.IntN.{ℤ, pos, negsuc}
 use lib.ListN.{length, take, drop, length-append, length-map}
 use lib.Seq.{take-at, drop-at, drop-drop, take-all}
-use Rattle.base_limits.specs.Limits.{maxEntries}
-use Rattle.base_lists.specs.Lists.{some}
-use Rattle.base_lists.proofs.Nowhere.{map-undone}
+use Rattle.base.specs.Limits.{maxEntries}
+use Rattle.base.specs.Lists.{some}
+use Rattle.base.proofs.Nowhere.{map-undone}
 use Rattle.sheet.specs.Sheet.{stray}
 use Rattle.journal_record.specs.Bytes.{le}
 use Rattle.panel_hex.specs.Hex.{byteOf}

@@ -7,7 +7,7 @@ use native.Mathlib.Omega.{arith}
 use borrow.Author.Tests.{le-ltb}
 use lib.Dec.{leb}
 use lib.ListN.{length}
-use Rattle.base_lists.specs.Lists.{some}
+use Rattle.base.specs.Lists.{some}
 use Rattle.panel_hex.specs.Hex.{hexOf}
 use Rattle.panel_hex.proofs.Digits.{length-hex}
 use Rattle.panel_hex.proofs.Trips.{hex-trip}

@@ -5,7 +5,7 @@ ghost use mathlib.Core.Path.{_≡_};
 ghost use mathlib.Core.List.{map};
 ghost use Prim.Native.Nat.{_+_, _*_, _≤_, _<_};
 ghost use lib.ListN.{length};
-ghost use Rattle.base_lists.specs.Lists.{over};
+ghost use Rattle.base.specs.Lists.{over};
 ghost use Rattle.edit.specs.Change.{unpacked};
 ghost use Rattle.panel_frames.specs.Reading.{indexOf, changeAt, changesFrom};
 
@@ -65,7 +65,9 @@ fn change_at(bytes: &[u8], i: usize) -> u64
 pub fn take_changes(bytes: &[u8], n: usize, list: &mut [u64])
     requires { ⌜ 2 + 6 * n ≤ length (now bytes) ⌝ }
     requires { ⌜ n ≤ length (now list) ⌝ }
-    ensures { λ _. ⌜ map unpacked (now (list .exit)) ≡ over (changesFrom (now (bytes .entry)) 2 n) (map unpacked (now (list .entry))) ⌝ }
+    ensures { λ _. ⌜
+        map unpacked (now (list .exit)) ≡ over (changesFrom (now (bytes .entry)) 2 n) (map unpacked (now (list .entry)))
+        ⌝ }
 {
     let mut i = 0;
     while i < n {

@@ -6,7 +6,7 @@ mod carry;
 mod line;
 mod reading;
 
-use base_limits::Rgb;
+use base::Rgb;
 pub use carry::take_bytes;
 pub use carry::take_changes;
 pub use carry::take_indices;

@@ -48,7 +48,9 @@ pub fn put_line(
     indices: &[i16],
 ) -> usize
     requires { ⌜ at + 11 + 2 * length (now indices) ≤ length (now out) ⌝ }
-    ensures { λ _. ⌜ now (out .exit) ≡ splice (now (out .entry)) at (lineOf answer position dirty k (now (indices .entry))) ⌝ }
+    ensures { λ _. ⌜
+        now (out .exit) ≡ splice (now (out .entry)) at (lineOf answer position dirty k (now (indices .entry)))
+        ⌝ }
     ensures { λ r. ⌜ r ≡ at + length (lineOf answer position dirty k (now (indices .entry))) ⌝ }
 {
     let end = at + 10 + 2 * indices.len();

@@ -1,7 +1,7 @@
 // A line to the frame that it is.
 use crate::Frame;
 use crate::MAX_DIGITS;
-use base_limits::Rgb;
+use base::Rgb;
 use panel_hex::Spelt;
 use panel_hex::unhex;
 ghost use mathlib.Core.Path.{_≡_};

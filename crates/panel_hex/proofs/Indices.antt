@@ -11,7 +11,7 @@ use lib.ListN.{getD, List·getD-map}
 use lib.Signed.{ltZ, nonNeg}
 use mir.Syntax.{w16}
 use mir.Val.{SFits, Fits}
-use Rattle.base_ints.proofs.Back.{never}
+use Rattle.base.proofs.Back.{never}
 use Rattle.panel_hex.specs.Hex.{byteOf}
 
 pub byte-neg : (z : ℤ) → ltZ z (pos 0) ≡ true → 255 ≡ byteOf z

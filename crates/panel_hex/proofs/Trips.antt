@@ -7,8 +7,8 @@ use mathlib.Core.Option as option
 use native.Mathlib.Omega.{arith}
 use borrow.Author.Tests.{lt-ltb, le-ltb, ltb-true, ltb-false, leb-false}
 use lib.Dec.{ltb, leb}
-use Rattle.base_lists.specs.Lists.{some}
-use Rattle.base_lists.proofs.Nowhere.{first-not, rest-not}
+use Rattle.base.specs.Lists.{some}
+use Rattle.base.proofs.Nowhere.{first-not, rest-not}
 use Rattle.panel_hex.specs.Hex.{hexVal, pairVal, upperDigit, prepend, unhexOf, hexByte, hexOf}
 
 pub digit-trip : (d : ℕ) → d < 16 → hexVal (upperDigit d) ≡ d

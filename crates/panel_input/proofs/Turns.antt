@@ -6,7 +6,7 @@ use native.Mathlib.Numerals.{add-one}
 use native.Mathlib.Omega.{arith}
 use borrow.Author.Tests.{lt-ltb, le-ltb, ne-eqb}
 use lib.ListN.{length, take, drop, set, length-append}
-use Rattle.base_lists.specs.Lists.{over}
+use Rattle.base.specs.Lists.{over}
 use lib.Seq.{length-take-le, take-at, take-suc-set}
 use Rattle.journal_record.specs.Bytes.{splice}
 use Rattle.panel_open.specs.declared.Stepped.{Stepped}

@@ -27,11 +27,23 @@ fn take_byte(
     list: &mut [u64],
     out: &mut [u8],
 ) -> Turn
-    requires { ⌜ Fits (t .core) (length (now palette)) (length (now lab)) (length (now indices)) (length (now journal)) (length (now bytes)) (length (now list)) ⌝ }
+    requires { ⌜
+        Fits (t .core) (length (now palette)) (length (now lab)) (length (now indices)) (length (now journal))
+        (length (now bytes)) (length (now list))
+        ⌝ }
     requires { ⌜ Holds t (length (now line)) ⌝ }
     requires { ⌜ t .at + 8203 ≤ length (now out) ⌝ }
-    ensures { λ r. ⌜ fed (panelIn (r .core) (now (palette .exit)) (now (lab .exit)) (now (indices .exit)) (now (journal .exit))) (take (r .len) (now (line .exit))) (take (r .at) (now (out .exit))) ≡ saying (take (t .at) (now (out .entry))) (byteFed stepOf (panelIn (t .core) (now (palette .entry)) (now (lab .entry)) (now (indices .entry)) (now (journal .entry))) (take (t .len) (now (line .entry))) b) ⌝ }
-    ensures { λ r. ⌜ Fits (r .core) (length (now (palette .exit))) (length (now (lab .exit))) (length (now (indices .exit))) (length (now (journal .exit))) (length (now (bytes .exit))) (length (now (list .exit))) ⌝ }
+    ensures { λ r. ⌜
+        fed (panelIn (r .core) (now (palette .exit)) (now (lab .exit)) (now (indices .exit)) (now (journal .exit)))
+        (take (r .len) (now (line .exit))) (take (r .at) (now (out .exit)))
+        ≡ saying (take (t .at) (now (out .entry))) (byteFed stepOf
+        (panelIn (t .core) (now (palette .entry)) (now (lab .entry)) (now (indices .entry)) (now (journal .entry)))
+        (take (t .len) (now (line .entry))) b)
+        ⌝ }
+    ensures { λ r. ⌜
+        Fits (r .core) (length (now (palette .exit))) (length (now (lab .exit))) (length (now (indices .exit)))
+        (length (now (journal .exit))) (length (now (bytes .exit))) (length (now (list .exit)))
+        ⌝ }
     ensures { λ r. ⌜ Holds r (length (now (line .exit))) × (r .at ≤ t .at + 8203) ⌝ }
 {
     let core = t.core;
@@ -83,12 +95,27 @@ pub fn pour(
     list: &mut [u64],
     out: &mut [u8],
 ) -> Poured
-    requires { ⌜ Fits core (length (now palette)) (length (now lab)) (length (now indices)) (length (now journal)) (length (now bytes)) (length (now list)) ⌝ }
+    requires { ⌜
+        Fits core (length (now palette)) (length (now lab)) (length (now indices)) (length (now journal))
+        (length (now bytes)) (length (now list))
+        ⌝ }
     requires { ⌜ Holds (record { core = core; len = len; at = 0 }) (length (now line)) ⌝ }
     requires { ⌜ (from ≤ length (now chunk)) × (length (now out) ≡ 65536) ⌝ }
-    ensures { λ r. ⌜ saying (take (r .turn .at) (now (out .exit))) (chunkFed stepOf (panelIn (r .turn .core) (now (palette .exit)) (now (lab .exit)) (now (indices .exit)) (now (journal .exit))) (take (r .turn .len) (now (line .exit))) (drop (r .next) (now (chunk .entry)))) ≡ chunkFed stepOf (panelIn core (now (palette .entry)) (now (lab .entry)) (now (indices .entry)) (now (journal .entry))) (take len (now (line .entry))) (drop from (now (chunk .entry))) ⌝ }
-    ensures { λ r. ⌜ Fits (r .turn .core) (length (now (palette .exit))) (length (now (lab .exit))) (length (now (indices .exit))) (length (now (journal .exit))) (length (now (bytes .exit))) (length (now (list .exit))) ⌝ }
-    ensures { λ r. ⌜ Holds (r .turn) (length (now (line .exit))) × Onward from (length (now (chunk .entry))) (r .next) (r .turn .at) ⌝ }
+    ensures { λ r. ⌜
+        saying (take (r .turn .at) (now (out .exit))) (chunkFed stepOf
+        (panelIn (r .turn .core) (now (palette .exit)) (now (lab .exit)) (now (indices .exit)) (now (journal .exit)))
+        (take (r .turn .len) (now (line .exit))) (drop (r .next) (now (chunk .entry))))
+        ≡ chunkFed stepOf
+        (panelIn core (now (palette .entry)) (now (lab .entry)) (now (indices .entry)) (now (journal .entry)))
+        (take len (now (line .entry))) (drop from (now (chunk .entry)))
+        ⌝ }
+    ensures { λ r. ⌜
+        Fits (r .turn .core) (length (now (palette .exit))) (length (now (lab .exit))) (length (now (indices .exit)))
+        (length (now (journal .exit))) (length (now (bytes .exit))) (length (now (list .exit)))
+        ⌝ }
+    ensures { λ r. ⌜
+        Holds (r .turn) (length (now (line .exit))) × Onward from (length (now (chunk .entry))) (r .next) (r .turn .at)
+        ⌝ }
 {
     let mut t = Turn { core, len, at: 0 };
     let mut i = from;

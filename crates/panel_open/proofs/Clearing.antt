@@ -4,7 +4,7 @@ use mathlib.Core.Path.{_≡_, sym, ap, _∙_}
 use mathlib.Core.List.{List, _++_, append-nil}
 use native.Mathlib.Omega.{arith}
 use lib.ListN.{length, replicate, set, drop-of-length-le, length-replicate, getD-replicate}
-use Rattle.base_lists.specs.Lists.{over}
+use Rattle.base.specs.Lists.{over}
 use Rattle.panel_frames.proofs.Filling.{Filling, filling-none, filling-next, filling-all}
 
 -- the first i have the value

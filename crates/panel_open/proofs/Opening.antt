@@ -10,17 +10,16 @@ use lib.IntN.{ℤ}
 use lib.Ieee.{Float}
 use lib.ListN.{length, take, drop, replicate, length-map, length-take, length-drop}
 use lib.Seq.{take-at}
-use Rattle.base_limits.specs.Limits.{storage}
-use Rattle.base_limits.specs.Checks.{Check, firstOf, refusedOr}
-use Rattle.base_limits.specs.Answer.{numberOf}
-use Rattle.base_limits.specs.declared.Answer.{Answer}
-use Rattle.base_limits.specs.declared.Answer.the-variants.{Done}
-use Rattle.base_lists.specs.Lists.{over}
+use Rattle.base.specs.Limits.{storage}
+use Rattle.base.specs.Checks.{Check, firstOf, refusedOr}
+use Rattle.base.specs.Answer.{number, numberOf, Done}
+use Rattle.base.specs.declared.Answer.{Answer}
+use Rattle.base.specs.Lists.{over}
 use Rattle.color_doubles.specs.Arithmetic.{decimal}
 use Rattle.sheet.specs.Sheet.{Sheet, sheetOf}
 use Rattle.sheet.specs.Checks.{limitChecks, indexChecks}
 use Rattle.sheet.specs.Document.{New, newMade, newLab, newOf}
-use Rattle.history_ledger.specs.declared.Handle.{Handle}
+use Rattle.base.specs.declared.Handle.{Handle}
 use Rattle.history_ledger.specs.Handle.{fresh, dirty}
 use Rattle.panel_frames.specs.Reading.{paletteIn, indicesIn, indexOf}
 use Rattle.panel_frames.specs.Writing.{lineOf, numberLine}
@@ -78,8 +77,8 @@ module _ (w h k : ℕ) (bs : List ℕ) where
       answered = by (firstOf cs) refl
         where
           by : (v : ℕ) → firstOf cs ≡ v → numberOf a ≡ firstOf cs
-          by zero z = ap (λ (x : New). numberOf (x .answer)) e ∙ rw z
-          by (suc v) z = ap (λ (x : New). numberOf (x .answer)) e ∙ rw z
+          by zero z = ap (λ (x : New). number (x .answer)) e ∙ rw z
+          by (suc v) z = ap (λ (x : New). number (x .answer)) e ∙ rw z
 
       pub open-failed : (num : ℕ) → num ≡ numberOf a → (num ≡ 0 → ⊥) → openOf s ≡ said none (numberLine num)
       open-failed zero n z = absurd (z refl)

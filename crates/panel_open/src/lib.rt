@@ -3,7 +3,7 @@ mod clear;
 mod open;
 mod text;
 
-use history::Handle;
+use base::Handle;
 pub use open::open_sheet;
 pub use text::number;
 pub use text::whole;

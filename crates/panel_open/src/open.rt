@@ -5,8 +5,8 @@ use crate::clear::clear_bytes;
 use crate::clear::clear_lab;
 use crate::text::number;
 use crate::text::whole;
-use base_limits::BAD_SHEET;
-use base_limits::MAX_ENTRIES;
+use base::BAD_SHEET;
+use base::MAX_ENTRIES;
 use history::fresh;
 use panel_frames::take_bytes;
 use panel_frames::take_indices;
@@ -15,8 +15,8 @@ ghost use mathlib.Core.Bool.{false};
 ghost use mathlib.Core.List.{map};
 ghost use Prim.Native.Nat.{_+_, _*_, _≤_};
 ghost use lib.ListN.{length, replicate, take, drop};
-ghost use Rattle.base_limits.specs.Limits.{storage};
-ghost use Rattle.base_lists.specs.Lists.{over};
+ghost use Rattle.base.specs.Limits.{storage};
+ghost use Rattle.base.specs.Lists.{over};
 ghost use Rattle.panel_frames.specs.Reading.{paletteIn, indexOf};
 ghost use Rattle.panel_calls.specs.Panel.{openSheet, openOf};
 ghost use Rattle.panel_open.specs.Memory.{panelIn, Fits, Steps};
@@ -58,9 +58,15 @@ pub fn open_sheet(
     at: usize,
 ) -> Stepped
     requires { ⌜ core .opened ≡ false ⌝ }
-    requires { ⌜ Fits core (length (now palette)) (length (now lab)) (length (now indices)) (length (now journal)) (length (now bytes)) 4096 ⌝ }
+    requires { ⌜
+        Fits core (length (now palette)) (length (now lab)) (length (now indices)) (length (now journal))
+        (length (now bytes)) 4096
+        ⌝ }
     requires { ⌜ (6 + 3 * k + w * h ≤ length (now bytes)) × (at + 8203 ≤ length (now out)) ⌝ }
-    ensures { λ r. ⌜ Steps r (panelIn (r .core) (now (palette .exit)) (now (lab .exit)) (now (indices .exit)) (now (journal .exit))) (now (out .entry)) (now (out .exit)) at (openOf (openSheet w h k (now (bytes .entry)))) ⌝ }
+    ensures { λ r. ⌜
+        Steps r (panelIn (r .core) (now (palette .exit)) (now (lab .exit)) (now (indices .exit)) (now (journal .exit)))
+        (now (out .entry)) (now (out .exit)) at (openOf (openSheet w h k (now (bytes .entry))))
+        ⌝ }
 {
     if MAX_OPEN < w {
         return number(core, BAD_SHEET, out, at);

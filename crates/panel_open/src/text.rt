@@ -1,6 +1,7 @@
 // The text of a line: the whole one, or a number only.
 use crate::Core;
 use crate::Stepped;
+use history_ledger::is_dirty;
 use panel_frames::put_line;
 use panel_frames::put_number;
 ghost use mathlib.Core.Path.{_≡_};
@@ -13,11 +14,15 @@ ghost use Rattle.panel_open.specs.Memory.{Tells};
 // The whole line.
 pub fn whole(core: Core, indices: &[i16], answer: u8, out: &mut [u8], at: usize) -> Stepped
     requires { ⌜ (core .w * core .h ≤ 4096) × (length (now indices) ≡ 4096) × (at + 8203 ≤ length (now out)) ⌝ }
-    ensures { λ r. ⌜ Tells r core (now (out .entry)) (now (out .exit)) at (lineOf answer (core .handle .position) (dirty (core .handle)) (core .k) (take (core .w * core .h) (now (indices .entry)))) ⌝ }
+    ensures { λ r. ⌜
+        Tells r core (now (out .entry)) (now (out .exit)) at
+        (lineOf answer (core .handle .position) (dirty (core .handle)) (core .k)
+        (take (core .w * core .h) (now (indices .entry))))
+        ⌝ }
 {
     let n = core.w * core.h;
     let handle = core.handle;
-    let dirty = handle.is_dirty();
+    let dirty = is_dirty(handle);
     let end = put_line(
         out,
         at,

@@ -4,7 +4,7 @@ use Prim.Native.Nat.{ℕ, zero, suc}
 use mathlib.Core.Path.{_≡_, refl, sym, ap, _∙_}
 use mathlib.Core.List.{List, [], _∷_, _++_}
 use mathlib.Core.Option.{some}
-use Rattle.base_limits.specs.Checks.{firstOf, refusedOr}
+use Rattle.base.specs.Checks.{firstOf, refusedOr}
 use Rattle.palette_remove.specs.Removal.{mergeChecks}
 use Rattle.history_ledger.specs.Calls.{Outcome, Played, play, lend}
 use Rattle.history_ledger.specs.Journal.{State, step, stepLent}

@@ -13,9 +13,9 @@ use lib.ListN.{length, take, drop, length-append, length-drop}
 use lib.Seq.{take-take, take-at, length-take-le, getD-take}
 use types.Run.{OneOf}
 use denote.Enum.Declared.{tagOf}
-use Rattle.base_limits.specs.Answer.{numberOf}
+use Rattle.base.specs.Answer.{numberOf}
 use Rattle.sheet.specs.Sheet.{sheetOf}
-use Rattle.history_model.specs.declared.Moved.{Moved}
+use Rattle.base.specs.declared.Moved.{Moved}
 use Rattle.history_model.specs.Calls.{stateOf, leaves}
 use Rattle.history_ledger.specs.Handle.{dirty}
 use Rattle.journal_record.proofs.LittleEndian.{drop-take}

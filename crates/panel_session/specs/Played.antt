@@ -1,11 +1,11 @@
--- The calls that the lines of a session ask for, so that demand 3 (history_model/specs/Demand3.antt) speaks of the program's states. Proved: proofs/Played.antt,
--- `session-played`. Definitions only. Assumes nothing.
+-- The calls that the lines of a session ask for, so that demand 3 (history_model/specs/Demand3.antt) speaks of the
+-- program's states. Proved: proofs/Played.antt, `session-played`. Definitions only. Assumes nothing.
 use Prim.Native.Nat.{ℕ}
 use mathlib.Core.List.{List, [], _∷_, _++_, map}
 use mathlib.Core.Bool.{false}
-use Rattle.base_limits.specs.Checks.{firstOf, refusedOr}
-use Rattle.base_storage.specs.Triples.{rgbAt}
-use Rattle.edit.specs.declared.Edit.the-variants as edit
+use Rattle.base.specs.Checks.{firstOf, refusedOr}
+use Rattle.base.specs.Triples.{rgbAt}
+use Rattle.base.specs.declared.Edit.the-variants as edit
 use Rattle.edit.specs.Change.{packed}
 use Rattle.edit_entries.specs.Unfilled.{noLab}
 use Rattle.palette_remove.specs.Removal.{remapOf, mergeChecks}

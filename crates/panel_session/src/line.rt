@@ -1,5 +1,5 @@
 // A line answered: the state after it, and its text.
-use base_limits::UNREAD_FRAME;
+use base::UNREAD_FRAME;
 use panel_calls::call;
 use panel_frames::Frame;
 use panel_frames::decode;
@@ -29,9 +29,15 @@ fn unopened(
     at: usize,
 ) -> Stepped
     requires { ⌜ core .opened ≡ false ⌝ }
-    requires { ⌜ Fits core (length (now palette)) (length (now lab)) (length (now indices)) (length (now journal)) (length (now bytes)) 4096 ⌝ }
+    requires { ⌜
+        Fits core (length (now palette)) (length (now lab)) (length (now indices)) (length (now journal))
+        (length (now bytes)) 4096
+        ⌝ }
     requires { ⌜ (sizeOf frame ≤ length (now bytes)) × (at + 8203 ≤ length (now out)) ⌝ }
-    ensures { λ r. ⌜ Steps r (panelIn (r .core) (now (palette .exit)) (now (lab .exit)) (now (indices .exit)) (now (journal .exit))) (now (out .entry)) (now (out .exit)) at (unopenedOf frame (now (bytes .entry))) ⌝ }
+    ensures { λ r. ⌜
+        Steps r (panelIn (r .core) (now (palette .exit)) (now (lab .exit)) (now (indices .exit)) (now (journal .exit)))
+        (now (out .entry)) (now (out .exit)) at (unopenedOf frame (now (bytes .entry)))
+        ⌝ }
 {
     match frame {
         Frame::Open { w, h, k } => open_sheet(
@@ -65,9 +71,17 @@ fn act(
     at: usize,
 ) -> Stepped
     requires { ⌜ core .opened ≡ true ⌝ }
-    requires { ⌜ Fits core (length (now palette)) (length (now lab)) (length (now indices)) (length (now journal)) (length (now bytes)) (length (now list)) ⌝ }
+    requires { ⌜
+        Fits core (length (now palette)) (length (now lab)) (length (now indices)) (length (now journal))
+        (length (now bytes)) (length (now list))
+        ⌝ }
     requires { ⌜ (sizeOf frame ≤ length (now bytes)) × (at + 8203 ≤ length (now out)) ⌝ }
-    ensures { λ r. ⌜ Steps r (panelIn (r .core) (now (palette .exit)) (now (lab .exit)) (now (indices .exit)) (now (journal .exit))) (now (out .entry)) (now (out .exit)) at (actOf (panelIn core (now (palette .entry)) (now (lab .entry)) (now (indices .entry)) (now (journal .entry))) frame (now (bytes .entry))) ⌝ }
+    ensures { λ r. ⌜
+        Steps r (panelIn (r .core) (now (palette .exit)) (now (lab .exit)) (now (indices .exit)) (now (journal .exit)))
+        (now (out .entry)) (now (out .exit)) at
+        (actOf (panelIn core (now (palette .entry)) (now (lab .entry)) (now (indices .entry)) (now (journal .entry)))
+        frame (now (bytes .entry)))
+        ⌝ }
 {
     let n = core.w * core.h;
     let moved = call(
@@ -112,9 +126,17 @@ pub fn step(
     out: &mut [u8],
     at: usize,
 ) -> Stepped
-    requires { ⌜ Fits core (length (now palette)) (length (now lab)) (length (now indices)) (length (now journal)) (length (now bytes)) (length (now list)) ⌝ }
+    requires { ⌜
+        Fits core (length (now palette)) (length (now lab)) (length (now indices)) (length (now journal))
+        (length (now bytes)) (length (now list))
+        ⌝ }
     requires { ⌜ at + 8203 ≤ length (now out) ⌝ }
-    ensures { λ r. ⌜ Steps r (panelIn (r .core) (now (palette .exit)) (now (lab .exit)) (now (indices .exit)) (now (journal .exit))) (now (out .entry)) (now (out .exit)) at (stepOf (panelIn core (now (palette .entry)) (now (lab .entry)) (now (indices .entry)) (now (journal .entry))) (now (line .entry))) ⌝ }
+    ensures { λ r. ⌜
+        Steps r (panelIn (r .core) (now (palette .exit)) (now (lab .exit)) (now (indices .exit)) (now (journal .exit)))
+        (now (out .entry)) (now (out .exit)) at
+        (stepOf (panelIn core (now (palette .entry)) (now (lab .entry)) (now (indices .entry)) (now (journal .entry)))
+        (now (line .entry)))
+        ⌝ }
 {
     let frame = decode(line, bytes);
     if core.opened {

@@ -5,8 +5,8 @@ use Prim.Native.Nat.{ℕ, _≤_}
 use borrow.Author.Tests.{ltb-false}
 use lib.Dec.{ltb}
 use lib.IntN.{ℤ}
-use Rattle.base_lists.proofs.Scan.{or-left, or-right}
-use Rattle.base_ints.specs.Ints.{far}
+use Rattle.base.proofs.Scan.{or-left, or-right}
+use Rattle.base.specs.Ints.{far}
 use Rattle.selection.specs.Calls.{tooLarge, farAway}
 
 -- number 1

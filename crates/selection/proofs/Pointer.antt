@@ -5,8 +5,8 @@ use native.Mathlib.Omega.{arith}
 use borrow.Author.Tests.{ltb-true}
 use lib.IntN.{ℤ, pos, negsuc}
 use lib.Signed.{ltZ}
-use Rattle.base_ints.specs.Ints.{fromZero}
-use Rattle.base_ints.proofs.Back.{never}
+use Rattle.base.specs.Ints.{fromZero}
+use Rattle.base.proofs.Back.{never}
 use Rattle.selection.specs.declared.Selection.{Selection}
 use Rattle.selection.specs.Selection.{contains, containsI}
 

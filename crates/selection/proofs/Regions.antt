@@ -1,20 +1,25 @@
 -- `region` on a sheet whose sides are in the limits: it finds the region, or refuses with 5. Assumes nothing.
-use mathlib.Core.Path.{_≡_, refl, sym, _∙_}
+use mathlib.Core.Path.{_≡_, refl, sym, ap, _∙_}
 use mathlib.Core.Bool.{Bool, true, false}
+use mathlib.Core.Option.{Option, none, some}
 use Prim.Native.Nat.{ℕ, suc, _+_, _*_, _<_, _≤_}
 use native.Mathlib.Nat.{mul-comm, mul-le-mul-right, suc-mul}
 use native.Mathlib.Omega.{arith}
 use borrow.Author.Tests.{ltb-true, le-ltb, leb-true}
 use lib.Dec.{leb, ltb}
-use Rattle.base_limits.specs.Checks.{firstOf, refusedOr}
-use Rattle.base_lists.proofs.Bools.{and-left, and-right}
+use Rattle.base.specs.Checks.{firstOf, refusedOr}
+use Rattle.base.specs.Answer.{Told}
+use Rattle.base.specs.Answer.Told.{result}
+use Rattle.base.proofs.Told.{alone-other}
+use Rattle.base.proofs.Bools.{and-left, and-right}
 use Rattle.selection_spans.specs.Spans.{inSpan}
 use Rattle.selection.specs.declared.Selection.{Selection}
 use Rattle.selection.specs.declared.Area.{Area}
 use Rattle.selection.specs.declared.Area.the-variants as area
+use Rattle.selection.specs.declared.Chosen.{Chosen}
 use Rattle.selection.specs.declared.Chosen.the-variants as chosen
 use Rattle.selection.specs.Selection.{all, inside}
-use Rattle.selection.specs.Calls.{tooLarge, allOf, regionOf}
+use Rattle.selection.specs.Calls.{chosenTold, tooLarge, allOf, regionOf}
 use Rattle.selection.specs.Region.{offSheet, regionChecks, regionIn, Fits}
 
 -- a region that is inside
@@ -57,36 +62,45 @@ pub record Found (a : Area) (width height : ℕ) (s : Selection) : Type 0 where
   pub value : s ≡ regionIn a width height
   pub fits : Within s width height
 
-injected : {p q : Selection} → chosen.Part p ≡ chosen.Part q → p ≡ q
+injected : {p q : Selection} → _≡_ {A = Told (Option Selection)} (result (some p)) (result (some q)) → p ≡ q
 injected e = cc
 
-pub part-other : {n : ℕ} {s : Selection} → chosen.Refused n ≡ chosen.Part s → ⊥
-part-other e = let z : _≡_ {A = ℕ} 0 1 = cc in omega arith
+-- an answer that tells a selection has it
+pub part-told : (r : Chosen) {s : Selection} → chosenTold r ≡ result (some s) → r ≡ chosen.Part s
+part-told (chosen.Part p) e = ap chosen.Part (injected e)
+part-told chosen.Nothing e = absurd (let z : _≡_ {A = ℕ} 0 1 = cc in omega arith)
+part-told (chosen.Refused n) e = absurd (alone-other e)
 
 module _ (width height : ℕ) (across : width ≤ 1024) (down : height ≤ 1024) where
   fine : tooLarge width height ≡ false
   unfolding tooLarge
   fine = rw (le-ltb _ _ across, le-ltb _ _ down)
 
-  pub region-found : (a : Area) (s : Selection) → regionOf a width height ≡ chosen.Part s → Found a width height s
+  found : (a : Area) (s : Selection) → regionOf a width height ≡ result (some s) → Found a width height s
   unfolding regionOf allOf regionIn regionChecks offSheet all firstOf refusedOr
-  region-found area.Whole s e =
+  found area.Whole s e =
       let same : all width height ≡ s = injected (rw fine at e) in
       record { unrefused = refl; value = sym same; fits = rw (← same) (record { right = omega arith; below = omega arith }) }
-  region-found (area.Part p) s e = go (inside p width height) refl
+  found (area.Part p) s e = go (inside p width height) refl
     where
       go : (b : Bool) → inside p width height ≡ b → Found (area.Part p) width height s
       go true q =
           let same : p ≡ s = injected (rw (fine, q) at e) in
           record { unrefused = rw q; value = sym same; fits = rw (← same) (within p width height true q refl) }
-      go false q = absurd (part-other (rw (fine, q) at e))
+      go false q = absurd (alone-other (rw (fine, q) at e))
+
+  pub region-found : (a : Area) {r : Chosen} (s : Selection) → chosenTold r ≡ regionOf a width height → r ≡ chosen.Part s → Found a width height s
+  region-found a s e q = found a s (sym e ∙ ap chosenTold q)
 
   -- where it finds none
-  pub region-none : (a : Area) → ((s : Selection) → regionOf a width height ≡ chosen.Part s → ⊥) → 5 ≡ firstOf (regionChecks a width height)
+  none-in : (a : Area) → ((s : Selection) → regionOf a width height ≡ result (some s) → ⊥) → 5 ≡ firstOf (regionChecks a width height)
   unfolding regionOf allOf regionChecks offSheet firstOf refusedOr
-  region-none area.Whole h = absurd (h (all width height) (rw fine))
-  region-none (area.Part s) h = go (inside s width height) refl
+  none-in area.Whole h = absurd (h (all width height) (rw fine))
+  none-in (area.Part s) h = go (inside s width height) refl
     where
       go : (b : Bool) → inside s width height ≡ b → 5 ≡ firstOf (regionChecks (area.Part s) width height)
       go true q = absurd (h s (rw (fine, q)))
       go false q = rw q
+
+  pub region-none : (a : Area) (r : Chosen) → chosenTold r ≡ regionOf a width height → ((s : Selection) → r ≡ chosen.Part s → ⊥) → 5 ≡ firstOf (regionChecks a width height)
+  region-none a r e h = none-in a (λ s q. h s (part-told r (e ∙ q)))

@@ -2,8 +2,8 @@
 use mathlib.Core.Bool.{Bool, false, not}
 use mathlib.Core.List.{List, [], _∷_}
 use Prim.Native.Nat.{ℕ, _+_, _*_, _≤_}
-use Rattle.base_limits.specs.Numbers.{offTheSheet}
-use Rattle.base_limits.specs.Checks.{Check, _when_}
+use Rattle.base.specs.Numbers.{offTheSheet}
+use Rattle.base.specs.Checks.{Check, _when_}
 use Rattle.selection.specs.declared.Selection.{Selection}
 use Rattle.selection.specs.declared.Area.{Area}
 use Rattle.selection.specs.declared.Area.the-variants as area

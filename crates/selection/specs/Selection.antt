@@ -1,6 +1,8 @@
--- The rectangles of selection.rs, on whole numbers and as the Rust writes them; the crate selection_spans has one axis, and rows. Definitions only. Assumes nothing.
+-- The rectangles of selection.rs, on whole numbers and as the Rust writes them; the crate selection_spans has one axis,
+-- and rows. Definitions only. Assumes nothing.
 use mathlib.Core.Bool.{Bool, cond, _&&_, _||_}
 use mathlib.Core.List.{List}
+use mathlib.Core.Option.{Option, none, some}
 use Prim.Native.Nat.{ℕ, _+_}
 use lib.Dec.{leb}
 use lib.IntN.{ℤ, natAbs}
@@ -9,8 +11,6 @@ use Rattle.selection_spans.specs.declared.Span.{Span}
 use Rattle.selection_spans.specs.Spans.{first, last, between, inSpan, movedFirst, movedLast, widened}
 use Rattle.selection_spans.specs.Positions.{Position, rows}
 use Rattle.selection.specs.declared.Selection.{Selection}
-use Rattle.selection.specs.declared.Chosen.{Chosen}
-use Rattle.selection.specs.declared.Chosen.the-variants.{Part, Nothing}
 
 -- "off the sheet: a selection, not inside": document 01's number 5
 unfoldable pub inside : Selection → ℕ → ℕ → Bool
@@ -26,11 +26,11 @@ all width height = record { x = 0; y = 0; w = width; h = height }
 
 -- ---- `from_corners`: "The rectangle between two pixel positions (both included, in any order), clipped to the image"
 -- "`None` when nothing of it is inside": `if x0 > x1 || y0 > y1`
-unfoldable pub fromCorners : ℤ → ℤ → ℤ → ℤ → ℕ → ℕ → Chosen
+unfoldable pub fromCorners : ℤ → ℤ → ℤ → ℤ → ℕ → ℕ → Option Selection
 fromCorners ax ay bx by width height =
     cond (ltZ (last ax bx width) (first ax bx) || ltZ (last ay by height) (first ay by))
-    Nothing
-    (Part (rectangle (between ax bx width) (between ay by height)))
+    none
+    (some (rectangle (between ax bx width) (between ay by height)))
 
 -- ---- `contains`
 unfoldable pub contains : Selection → ℕ → ℕ → Bool
@@ -41,7 +41,7 @@ unfoldable pub containsI : Selection → ℤ → ℤ → Bool
 containsI s x y = nonNeg x && nonNeg y && contains s (natAbs x) (natAbs y)
 
 -- ---- `translated`: "The rectangle moved by (dx, dy) and clipped to the image"
-unfoldable pub translated : Selection → ℤ → ℤ → ℕ → ℕ → Chosen
+unfoldable pub translated : Selection → ℤ → ℤ → ℕ → ℕ → Option Selection
 translated s dx dy width height =
     fromCorners
     (movedFirst (s .x) dx)

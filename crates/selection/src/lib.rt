@@ -1,16 +1,16 @@
 // The rectangular selection, in pixel coordinates: selection.rs. A selection is four 16-bit numbers that
 // may lie anywhere; a call that is given an image's size asks that it lies inside.
 //
-// Each axis is worked out by itself, as a span of places (crate spans), and two spans make a rectangle.
-use base_ints::from_zero;
-use base_ints::is_far;
-use base_limits::BAD_SHEET;
-use base_limits::Counted;
-use base_limits::MAX_DISTANCE;
-use base_limits::MAX_SIDE;
-use base_limits::NO_SPACE;
-use base_limits::OFF_THE_SHEET;
-use base_limits::TOO_FAR;
+// Each axis is worked out by itself, as a span of places (crate selection_spans), and two spans make a rectangle.
+use base::BAD_SHEET;
+use base::Counted;
+use base::MAX_DISTANCE;
+use base::MAX_SIDE;
+use base::NO_SPACE;
+use base::OFF_THE_SHEET;
+use base::TOO_FAR;
+use base::from_zero;
+use base::is_far;
 use selection_spans::Span;
 use selection_spans::between;
 use selection_spans::in_span;
@@ -22,8 +22,11 @@ ghost use mathlib.Core.Bool.{cond, _||_};
 ghost use Prim.Native.Nat.{_<_};
 ghost use lib.Dec.{eqb};
 ghost use Rattle.selection.specs.Selection.{inside, rectangle, contains};
-ghost use Rattle.selection.specs.Calls.{chosenNumber, heldNumber, tooLarge, farAway, allOf, fromCornersOf, containsIOf, translatedOf, grownOf, positionsOf, regionOf};
-ghost use Rattle.base_limits.specs.Answer.{filled};
+ghost use Rattle.selection.specs.Calls.{chosenTold, chosenNumber, heldTold, heldNumber, shiftedNumber, tooLarge};
+ghost use Rattle.selection.specs.Calls.{farAway, allOf, fromCornersOf, containsIOf, translatedOf, grownOf, positionsOf, regionOf};
+ghost use mathlib.Core.Option.{none, some};
+ghost use Rattle.base.specs.Answer.{filled};
+ghost use Rattle.base.specs.Answer.Told.{result};
 ghost use Rattle.selection.specs.Asked.{Narrow};
 
 // The same limit of a margin, which has no sign.
@@ -85,7 +88,7 @@ impl Held {
 impl Selection {
     // The whole image. A side over the limit is 1, here and in each call that is given an image's size.
     pub fn all(width: usize, height: usize) -> Chosen
-        ensures { λ r. ⌜ r ≡ allOf width height ⌝ }
+        ensures { λ r. ⌜ chosenTold r ≡ allOf width height ⌝ }
     {
         if too_large(width, height) {
             return Chosen::Refused(BAD_SHEET);
@@ -101,7 +104,7 @@ impl Selection {
     // The rectangle between two positions (both included, in any order), clipped to the image; nothing
     // where none of it is inside. A coordinate past the limit is 15.
     pub fn from_corners(ax: i32, ay: i32, bx: i32, by: i32, width: usize, height: usize) -> Chosen
-        ensures { λ r. ⌜ r ≡ fromCornersOf ax ay bx by width height ⌝ }
+        ensures { λ r. ⌜ chosenTold r ≡ fromCornersOf ax ay bx by width height ⌝ }
     {
         if too_large(width, height) {
             return Chosen::Refused(BAD_SHEET);
@@ -124,7 +127,7 @@ impl Selection {
 
     // Whether a pointer position (possibly negative) is inside. A coordinate past the limit is 15.
     pub fn contains_i(self, x: i32, y: i32) -> Held
-        ensures { λ r. ⌜ r ≡ containsIOf self x y ⌝ }
+        ensures { λ r. ⌜ heldTold r ≡ containsIOf self x y ⌝ }
     {
         if far_away(x, y) {
             return Held::Refused(TOO_FAR);
@@ -145,7 +148,7 @@ impl Selection {
     // no width or no height comes back two places wide or high, as from the Rust. A shift past the
     // limit is 15, a selection that is not inside 5.
     pub fn translated(self, dx: i32, dy: i32, width: usize, height: usize) -> Chosen
-        ensures { λ r. ⌜ r ≡ translatedOf self dx dy width height ⌝ }
+        ensures { λ r. ⌜ chosenTold r ≡ translatedOf self dx dy width height ⌝ }
     {
         if too_large(width, height) {
             return Chosen::Refused(BAD_SHEET);
@@ -165,7 +168,7 @@ impl Selection {
     // The rectangle grown by margin on every side, clipped to the image. A margin past the limit is 15, a
     // selection that is not inside 5.
     pub fn grown(self, margin: usize, width: usize, height: usize) -> Chosen
-        ensures { λ r. ⌜ r ≡ grownOf self margin width height ⌝ }
+        ensures { λ r. ⌜ chosenTold r ≡ grownOf self margin width height ⌝ }
     {
         if too_large(width, height) {
             return Chosen::Refused(BAD_SHEET);
@@ -207,7 +210,7 @@ impl Selection {
 
 // The region a tool works in: the selection, or the whole image. A selection that is not inside is 5.
 pub fn region(selection: Area, width: usize, height: usize) -> Chosen
-    ensures { λ r. ⌜ r ≡ regionOf selection width height ⌝ }
+    ensures { λ r. ⌜ chosenTold r ≡ regionOf selection width height ⌝ }
 {
     match selection {
         Area::Whole => Selection::all(width, height),
@@ -253,7 +256,7 @@ fn rectangle(x: Span, y: Span) -> Selection
 // The same, or nothing where an axis has no place of it.
 fn clip(x: Span, y: Span) -> Chosen
     requires { ⌜ (0 < x .count → Narrow x) × (0 < y .count → Narrow y) ⌝ }
-    ensures { λ r. ⌜ r ≡ cond (eqb (x .count) 0 || eqb (y .count) 0) Chosen.Nothing (Chosen.Part (rectangle x y)) ⌝ }
+    ensures { λ r. ⌜ chosenTold r ≡ result (cond (eqb (x .count) 0 || eqb (y .count) 0) none (some (rectangle x y))) ⌝ }
 {
     if x.count == 0 {
         return Chosen::Nothing;
@@ -262,4 +265,26 @@ fn clip(x: Span, y: Span) -> Chosen
         return Chosen::Nothing;
     }
     Chosen::Part(rectangle(x, y))
+}
+
+// What a call answers that puts a rectangle of indices somewhere: how many changes it makes, and the rectangle as
+// the new selection, a part or nothing.
+pub enum Shifted {
+    Changes { count: usize, selection: Chosen },
+    Refused(u8),
+}
+
+impl Shifted {
+    // The number as document 01 has it: a refusal's own, else 0.
+    pub fn number(self) -> u8
+        ensures { λ r. ⌜ r ≡ shiftedNumber self ⌝ }
+    {
+        match self {
+            Shifted::Changes {
+                count: _,
+                selection: _,
+            } => 0,
+            Shifted::Refused(n) => n,
+        }
+    }
 }

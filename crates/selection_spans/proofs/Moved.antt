@@ -7,9 +7,9 @@ use lib.IntN.{ℤ, pos, negsuc, _+ℤ_}
 use mir.Syntax.{w32}
 use mir.Val.{SFits, toZ}
 use mir.Facts.{toZ-pos}
-use Rattle.base_ints.specs.Ints.{far}
-use Rattle.base_ints.proofs.Back.{near-abs}
-use Rattle.base_ints.proofs.Sums.{abs-sum, sum-fits}
+use Rattle.base.specs.Ints.{far}
+use Rattle.base.proofs.Back.{near-abs}
+use Rattle.base.proofs.Sums.{abs-sum, sum-fits}
 
 pub record Corners (start count : ℕ) (d : ℤ) : Type 0 where
   pub start-is : toZ w32 start ≡ pos start

@@ -7,9 +7,9 @@ use native.Mathlib.Omega.{arith}
 use borrow.Rule.Slice.PartMut.{putMid}
 use lib.IntN.{ℤ, pos}
 use lib.ListN.{length, take, drop, set, length-map}
-use Rattle.base_lists.specs.Lists.{range, over}
-use Rattle.base_lists.proofs.Over.{over-pair, over-lent}
-use Rattle.base_lists.proofs.Collect.{length-range, range-next, flatMap-append, flatMap-one, length-flatMap}
+use Rattle.base.specs.Lists.{range, over}
+use Rattle.base.proofs.Over.{over-pair, over-lent}
+use Rattle.base.proofs.Collect.{length-range, range-next, flatMap-append, flatMap-one, length-flatMap}
 use Rattle.selection_spans.specs.Positions.{Position, position, row, rows, coordinates, flat}
 
 length-flat : (ps : List Position) → length (flat ps) ≡ 2 * length ps

@@ -4,9 +4,9 @@ use Prim.Native.Nat.{ℕ, _-_, min}
 use lib.Dec.{eqb}
 use lib.IntN.{ℤ, pos}
 use lib.Signed.{ltZ}
-use Rattle.base_ints.specs.Ints.{minZ, maxZ, fromZero, upTo}
-use Rattle.base_ints.proofs.Sums.{count-from}
-use Rattle.base_ints.proofs.Clip.{max-zero, up-to-within, none-from}
+use Rattle.base.specs.Ints.{minZ, maxZ, fromZero, upTo}
+use Rattle.base.proofs.Sums.{count-from}
+use Rattle.base.proofs.Clip.{max-zero, up-to-within, none-from}
 use Rattle.selection_spans.specs.Spans.{first, last, between}
 
 -- x0 is the lesser corner from 0 on

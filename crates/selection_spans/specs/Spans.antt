@@ -3,7 +3,7 @@ use mathlib.Core.Bool.{Bool, _&&_}
 use Prim.Native.Nat.{ℕ, _+_, _-_, min}
 use lib.Dec.{leb, ltb}
 use lib.IntN.{ℤ, pos, _+ℤ_, _-ℤ_}
-use Rattle.base_ints.specs.Ints.{minZ, maxZ, fromZero}
+use Rattle.base.specs.Ints.{minZ, maxZ, fromZero}
 use Rattle.selection_spans.specs.declared.Span.{Span}
 
 -- ---- `from_corners`

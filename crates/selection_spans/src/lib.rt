@@ -1,16 +1,16 @@
 // One axis of a rectangle in pixel coordinates, as a span of places; and the positions of a rectangle, row by row.
-use base_ints::from_zero;
-use base_ints::max_i32;
-use base_ints::min_i32;
-use base_ints::min_usize;
-use base_ints::saturating_sub;
-use base_ints::up_to;
+use base::from_zero;
+use base::max_i32;
+use base::min_i32;
+use base::min_usize;
+use base::saturating_sub;
+use base::up_to;
 ghost use mathlib.Core.Path.{_≡_};
 ghost use mathlib.Core.Bool.{false};
 ghost use Prim.Native.Nat.{_*_, _≤_};
 ghost use lib.ListN.{length};
-ghost use Rattle.base_lists.specs.Lists.{over};
-ghost use Rattle.base_ints.specs.Ints.{far};
+ghost use Rattle.base.specs.Lists.{over};
+ghost use Rattle.base.specs.Ints.{far};
 ghost use Rattle.selection_spans.specs.Spans.{between, inSpan, moved, widened};
 ghost use Rattle.selection_spans.specs.Positions.{row, rows, flat, RowFits};
 

@@ -4,10 +4,10 @@ use mathlib.Core.Bool.{true, false}
 use mathlib.Core.List.{List, _++_}
 use Prim.Native.Nat.{ℕ}
 use lib.Ieee.{Float}
-use Rattle.base_limits.specs.Checks.{firstOf, refusedOr}
-use Rattle.base_limits.specs.declared.Answer.the-variants as answer
-use Rattle.base_limits.proofs.First.{first-past, first-here, refused-first}
-use Rattle.base_lists.specs.Lists.{some}
+use Rattle.base.specs.Checks.{firstOf, refusedOr}
+use Rattle.base.specs.declared.Answer.the-variants as answer
+use Rattle.base.proofs.First.{first-past, first-here, refused-first}
+use Rattle.base.specs.Lists.{some}
 use Rattle.sheet.specs.Sheet.{Sheet, stray}
 use Rattle.sheet.specs.Checks.{limitChecks, indexChecks, Limits, Limited}
 use Rattle.sheet.specs.Document.{newLab, newMade, newOf}

@@ -6,8 +6,8 @@ use native.Mathlib.Omega.{arith}
 use native.Mathlib.Numerals.{towards-suc}
 use lib.ListN.{length, take, drop, getD}
 use lib.Seq.{drop-cons}
-use Rattle.base_limits.specs.declared.Rgb.{Rgb}
-use Rattle.base_storage.specs.Triples.{rgbAt}
+use Rattle.base.specs.declared.Rgb.{Rgb}
+use Rattle.base.specs.Triples.{rgbAt}
 
 -- three elements that stand one after the other
 pub three : {A : Type 0} (l : List A) (n : ℕ) (d : A) → n + 3 ≤ length l → take 3 (drop n l) ≡ getD l n d ∷ getD l (n + 1) d ∷ getD l (n + 2) d ∷ []

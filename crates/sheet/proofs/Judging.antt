@@ -8,11 +8,11 @@ use native.Mathlib.Omega.{arith}
 use borrow.Author.Tests.{le-ltb, ltb-false, eq-eqb, eqb-true, not-false}
 use lib.Dec.{ltb, eqb}
 use lib.ListN.{length, take}
-use Rattle.base_limits.specs.Checks.{Check, _when_, firstOf, checked}
-use Rattle.base_limits.specs.Numbers.{strayIndex, unfitLab}
-use Rattle.base_limits.proofs.First.{first-past, first-here, refused-first, past, past-both}
-use Rattle.base_lists.specs.Lists.{some}
-use Rattle.base_lists.proofs.Scan.{or-left, or-right}
+use Rattle.base.specs.Checks.{Check, _when_, firstOf, checked}
+use Rattle.base.specs.Numbers.{strayIndex, unfitLab}
+use Rattle.base.proofs.First.{first-past, first-here, refused-first, past, past-both}
+use Rattle.base.specs.Lists.{some}
+use Rattle.base.proofs.Scan.{or-left, or-right}
 use Rattle.color_doubles.specs.Finite.{unfit}
 use Rattle.sheet.specs.Sheet.{Sheet, stray}
 use Rattle.sheet.specs.Checks.{limitChecks, indexChecks, labChecks, sheetChecks, Limits, Limited, WellFormed, Judged}

@@ -7,13 +7,13 @@ use native.Mathlib.Numerals.{add-one, add-two}
 use lib.Ieee.{Float}
 use lib.ListN.{length, take, drop}
 use lib.Seq.{length-take-le, take-add}
-use Rattle.base_limits.specs.declared.Rgb.{Rgb}
-use Rattle.base_limits.specs.declared.Lab.{Lab}
+use Rattle.base.specs.declared.Rgb.{Rgb}
+use Rattle.base.specs.declared.Lab.{Lab}
 use Rattle.color_lab.specs.Convert.{labOf}
-use Rattle.base_lists.specs.Lists.{over}
-use Rattle.base_lists.proofs.Over.{over-is}
+use Rattle.base.specs.Lists.{over}
+use Rattle.base.proofs.Over.{over-is}
 use Rattle.sheet.specs.Document.{labsOf}
-use Rattle.base_storage.specs.Triples.{rgbAt, withLab}
+use Rattle.base.specs.Triples.{rgbAt, withLab}
 use Rattle.sheet.proofs.Front.{written}
 use Rattle.sheet.proofs.Entries.{bytesOf, entry}
 

@@ -8,9 +8,9 @@ use lib.Signed.{mag}
 use lib.ListN.{length, getD}
 use mir.Syntax.{w16}
 use mir.Val.{toZ, ofZ, hbits}
-use Rattle.base_lists.specs.Lists.{some}
-use Rattle.base_lists.proofs.Scan.{some-none}
-use Rattle.base_ints.proofs.Back.{back}
+use Rattle.base.specs.Lists.{some}
+use Rattle.base.proofs.Scan.{some-none}
+use Rattle.base.proofs.Back.{back}
 
 -- the one that a loop reads is not, though its bits are read back
 pub read-none : (p : ℤ → Bool) (l : List ℤ) (i : ℕ) → some p l ≡ false → i < length l → mag (getD l i (pos 0)) < 2 ^ hbits w16 → p (toZ w16 (ofZ w16 (getD l i (pos 0)))) ≡ false

@@ -8,8 +8,8 @@ use native.Mathlib.Omega.{arith}
 use lib.Dec.{T, ltb, ltb→lt}
 use lib.IntN.{ℤ, pos, negsuc}
 use lib.ListN.{getD}
-use Rattle.base_ints.specs.Ints.{onAxis}
-use Rattle.sheet.specs.declared.Got.the-variants.{Index, Outside}
+use Rattle.base.specs.Ints.{onAxis}
+use mathlib.Core.Option.{none, some}
 use Rattle.sheet.specs.Document.{indexAt}
 
 -- a place of a row below h and a column below w
@@ -39,24 +39,24 @@ never n size h = omega arith
 
 -- ---- the index at a position, by where it falls on the two axes
 module _ (w h : ℕ) (l : List ℤ) where
-  inside : (x y : ℤ) → onAxis x w < w → onAxis y h < h → Index (getD l (onAxis y h * w + onAxis x w) (pos 0)) ≡ indexAt w h l x y
+  inside : (x y : ℤ) → onAxis x w < w → onAxis y h < h → some (getD l (onAxis y h * w + onAxis x w) (pos 0)) ≡ indexAt w h l x y
   unfolding onAxis indexAt
   inside (pos x) (pos y) a b = rw (on x w a, on y h b)
   inside (pos x) (negsuc y) a b = absurd (never y h b)
   inside (negsuc x) y a b = absurd (never x w a)
 
-  pub off-column : (x y : ℤ) → w ≤ onAxis x w → Outside ≡ indexAt w h l x y
+  pub off-column : (x y : ℤ) → w ≤ onAxis x w → none ≡ indexAt w h l x y
   unfolding indexAt
   off-column (pos x) (pos y) a = rw (off x w a)
   off-column (pos x) (negsuc y) a = refl
   off-column (negsuc x) y a = refl
 
-  pub off-row : (x y : ℤ) → h ≤ onAxis y h → Outside ≡ indexAt w h l x y
+  pub off-row : (x y : ℤ) → h ≤ onAxis y h → none ≡ indexAt w h l x y
   unfolding indexAt
   off-row (pos x) (pos y) b = rw (off y h b, and-false (ltb x w))
   off-row (pos x) (negsuc y) b = refl
   off-row (negsuc x) y b = refl
 
   pub index-inside : (x y : ℤ) (column row : ℕ) → column ≡ onAxis x w → row ≡ onAxis y h → column < w → row < h
-      → Index (getD l (row * w + column) (pos 0)) ≡ indexAt w h l x y
+      → some (getD l (row * w + column) (pos 0)) ≡ indexAt w h l x y
   index-inside x y column row e f a b = rw (e, f) (inside x y (rw e at a) (rw f at b))

@@ -7,8 +7,8 @@ use native.Mathlib.Nat.{zero-lt-suc}
 use native.Mathlib.Omega.{arith}
 use borrow.Author.Tests.{lt-ltb, leb-false, lt-leb}
 use lib.IntN.{ℤ, pos, negsuc}
-use Rattle.base_lists.specs.Lists.{some}
-use Rattle.base_lists.proofs.Nowhere.{nowhere-weaker}
+use Rattle.base.specs.Lists.{some}
+use Rattle.base.proofs.Nowhere.{nowhere-weaker}
 use Rattle.sheet.specs.Sheet.{stray, strayZ}
 
 stray-is : (k : ℕ) (z : ℤ) → strayZ (pos k) z ≡ stray k z

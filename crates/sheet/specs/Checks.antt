@@ -5,10 +5,10 @@ use mathlib.Core.Bool.{Bool, false, not, _&&_, _||_}
 use mathlib.Core.List.{List, [], _∷_, _++_}
 use lib.Dec.{ltb, eqb}
 use lib.ListN.{length, take}
-use Rattle.base_limits.specs.Limits.{maxSide, maxEntries, storage, maxPermitted}
-use Rattle.base_limits.specs.Numbers.{badSheet, strayIndex, unfitLab}
-use Rattle.base_limits.specs.Checks.{Check, _when_, firstOf}
-use Rattle.base_lists.specs.Lists.{some}
+use Rattle.base.specs.Limits.{maxSide, maxEntries, storage, maxPermitted}
+use Rattle.base.specs.Numbers.{badSheet, strayIndex, unfitLab}
+use Rattle.base.specs.Checks.{Check, _when_, firstOf}
+use Rattle.base.specs.Lists.{some}
 use Rattle.color_doubles.specs.Finite.{unfit}
 use Rattle.sheet.specs.Sheet.{Sheet, stray}
 

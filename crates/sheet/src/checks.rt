@@ -1,18 +1,18 @@
 // Checks 1 to 3, which every call on a sheet begins with. The scans have no early exit, so that they
 // are compiled to vector code.
-use base_limits::BAD_SHEET;
-use base_limits::MAX_ENTRIES;
-use base_limits::MAX_PERMITTED;
-use base_limits::MAX_SIDE;
-use base_limits::STORAGE;
-use base_limits::STRAY_INDEX;
-use base_limits::UNFIT_LAB;
-use base_lists::either;
+use base::BAD_SHEET;
+use base::MAX_ENTRIES;
+use base::MAX_PERMITTED;
+use base::MAX_SIDE;
+use base::STORAGE;
+use base::STRAY_INDEX;
+use base::UNFIT_LAB;
+use base::either;
 use color_doubles::any_unfit;
 ghost use mathlib.Core.Path.{_≡_};
 ghost use Prim.Native.Nat.{_≤_};
-ghost use Rattle.base_lists.specs.Lists.{some};
-ghost use Rattle.base_limits.specs.Checks.{firstOf};
+ghost use Rattle.base.specs.Lists.{some};
+ghost use Rattle.base.specs.Checks.{firstOf};
 ghost use Rattle.sheet.specs.Sheet.{sheetOf, stray, strayZ};
 ghost use Rattle.sheet.specs.Checks.{permittedChecks, Limited, Judged};
 

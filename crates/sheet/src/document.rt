@@ -1,17 +1,19 @@
 // `with_lab`, `new` and `get_at` of document.rs.
-use crate::Got;
 use crate::checks::any_stray;
 use crate::checks::check;
 use crate::checks::limits_no;
 use crate::labs::fill_labs;
-use base_ints::is_far;
-use base_ints::on_axis;
-use base_limits::Answer;
-use base_limits::STRAY_INDEX;
-use base_limits::TOO_FAR;
+use base::Answer;
+use base::Got;
+use base::STRAY_INDEX;
+use base::TOO_FAR;
+use base::is_far;
+use base::on_axis;
 ghost use mathlib.Core.Path.{_≡_};
 ghost use Prim.Native.Nat.{_*_, _≤_};
 ghost use lib.ListN.{length};
+ghost use Rattle.base.specs.Answer.{answerTold, gotTold};
+ghost use Rattle.base.specs.Answer.Told.{result};
 ghost use Rattle.sheet.specs.Sheet.{sheetOf};
 ghost use Rattle.sheet.specs.Document.{withLabOf, newMade, newOf, indexAt, getAtOf};
 
@@ -24,7 +26,10 @@ pub fn with_lab(
     lab: &[f64],
     indices: &[i16],
 ) -> Answer
-    ensures { λ r. ⌜ r ≡ withLabOf (sheetOf w h k (now (palette .entry)) (now (lab .entry)) (now (indices .entry))) ⌝ }
+    ensures { λ r. ⌜ (
+        let sheet = sheetOf w h k (now (palette .entry)) (now (lab .entry)) (now (indices .entry)) in
+        answerTold r ≡ withLabOf sheet
+        ) ⌝ }
 {
     let no = check(w, h, k, palette, lab, indices);
     if no != 0 {
@@ -36,7 +41,10 @@ pub fn with_lab(
 // A sheet from its colours: checks 1 and 2, then the LAB of the k entries is written. LAB storage past
 // them keeps its bits.
 pub fn new(w: usize, h: usize, k: usize, palette: &[u8], lab: &mut [f64], indices: &[i16]) -> Answer
-    ensures { λ r. ⌜ newMade r (now (lab .exit)) ≡ newOf (sheetOf w h k (now (palette .entry)) (now (lab .entry)) (now (indices .entry))) ⌝ }
+    ensures { λ r. ⌜ (
+        let sheet = sheetOf w h k (now (palette .entry)) (now (lab .entry)) (now (indices .entry)) in
+        newMade r (now (lab .exit)) ≡ newOf sheet
+        ) ⌝ }
 {
     let no = limits_no(w, h, k, palette, lab, indices);
     if no != 0 {
@@ -52,7 +60,7 @@ pub fn new(w: usize, h: usize, k: usize, palette: &[u8], lab: &mut [f64], indice
 // The index at a position, or that it is outside the image.
 fn index_at(w: usize, h: usize, indices: &[i16], x: i32, y: i32) -> Got
     requires { ⌜ (length (now indices) ≡ w * h) × (w * h ≤ 1048576) ⌝ }
-    ensures { λ r. ⌜ r ≡ indexAt w h (now (indices .entry)) x y ⌝ }
+    ensures { λ r. ⌜ gotTold r ≡ result (indexAt w h (now (indices .entry)) x y) ⌝ }
 {
     let column = on_axis(x, w);
     let row = on_axis(y, h);
@@ -75,7 +83,10 @@ pub fn get_at(
     x: i32,
     y: i32,
 ) -> Got
-    ensures { λ r. ⌜ r ≡ getAtOf (sheetOf w h k (now (palette .entry)) (now (lab .entry)) (now (indices .entry))) x y ⌝ }
+    ensures { λ r. ⌜ (
+        let sheet = sheetOf w h k (now (palette .entry)) (now (lab .entry)) (now (indices .entry)) in
+        gotTold r ≡ getAtOf sheet x y
+        ) ⌝ }
 {
     let no = check(w, h, k, palette, lab, indices);
     if no != 0 {

@@ -1,10 +1,10 @@
 // LAB storage from palette bytes.
-use base_storage::put_lab;
-use base_storage::rgb_at;
+use base::put_lab;
+use base::rgb_at;
 ghost use mathlib.Core.Path.{_≡_};
 ghost use Prim.Native.Nat.{_*_, _≤_};
 ghost use lib.ListN.{length, take};
-ghost use Rattle.base_lists.specs.Lists.{over};
+ghost use Rattle.base.specs.Lists.{over};
 ghost use Rattle.sheet.specs.Document.{labsOf};
 
 // Works out the LAB of the first k entries from their bytes. The others keep. The curve's table is made

@@ -13,10 +13,3 @@ pub use checks::permitted_no;
 pub use document::get_at;
 pub use document::new;
 pub use document::with_lab;
-
-// What `get_at` answers.
-pub enum Got {
-    Index(i16),
-    Outside,
-    Refused(u8),
-}

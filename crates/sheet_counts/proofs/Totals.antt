@@ -9,10 +9,10 @@ use native.Mathlib.Omega.{arith}
 use borrow.Author.Tests.{leb-false, eq-eqb, ne-eqb}
 use lib.IntN.{ℤ, pos, negsuc}
 use lib.ListN.{length, length-append}
-use Rattle.base_lists.specs.Lists.{some}
-use Rattle.base_lists.proofs.Scan.{or-left, or-right}
-use Rattle.base_ints.specs.Ints.{eqZ}
-use Rattle.base_ints.proofs.Back.{never}
+use Rattle.base.specs.Lists.{some}
+use Rattle.base.proofs.Scan.{or-left, or-right}
+use Rattle.base.specs.Ints.{eqZ}
+use Rattle.base.proofs.Back.{never}
 use Rattle.sheet.specs.Sheet.{stray}
 use Rattle.sheet_counts.specs.Counts.{countOf, countsOf, sumOf}
 

@@ -16,8 +16,8 @@ use lib.Seq.{take-all, drop-at, getD-at, ext-getD, set-append-left}
 use mir.Syntax.{Width}
 use mir.Val.{toZ, ofZ, SFits}
 use mir.Facts.{toZ-ofZ}
-use Rattle.base_ints.specs.Ints.{eqZ}
-use Rattle.base_ints.proofs.Back.{never}
+use Rattle.base.specs.Ints.{eqZ}
+use Rattle.base.proofs.Back.{never}
 use Rattle.sheet.specs.Sheet.{stray}
 use Rattle.sheet_counts.specs.Counts.{countOf, countsOf}
 use Rattle.sheet_counts.specs.Tables.{tally, Room}

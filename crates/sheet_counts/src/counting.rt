@@ -1,14 +1,14 @@
 // Pixels per palette entry.
-use base_limits::Counted;
-use base_limits::NO_SPACE;
+use base::Counted;
+use base::NO_SPACE;
 use sheet::check;
 ghost use mathlib.Core.Path.{_≡_};
 ghost use mathlib.Core.Bool.{false};
 ghost use mathlib.Core.List.{_++_};
 ghost use Prim.Native.Nat.{_≤_};
 ghost use lib.ListN.{length, drop, replicate};
-ghost use Rattle.base_limits.specs.Answer.{filled};
-ghost use Rattle.base_lists.specs.Lists.{some, over};
+ghost use Rattle.base.specs.Answer.{filled};
+ghost use Rattle.base.specs.Lists.{some, over};
 ghost use Rattle.sheet.specs.Sheet.{sheetOf, stray};
 ghost use Rattle.sheet_counts.specs.Counts.{countsOf, Counts};
 ghost use Rattle.sheet_counts.specs.Tables.{tally, Room};
@@ -60,7 +60,10 @@ pub fn counts(
     indices: &[i16],
     out: &mut [u32],
 ) -> Counted
-    ensures { λ r. ⌜ Counts (sheetOf w h k (now (palette .entry)) (now (lab .entry)) (now (indices .entry))) (now (out .entry)) (filled r (now (out .exit))) ⌝ }
+    ensures { λ r. ⌜ (
+        let sheet = sheetOf w h k (now (palette .entry)) (now (lab .entry)) (now (indices .entry)) in
+        Counts sheet (now (out .entry)) (filled r (now (out .exit)))
+        ) ⌝ }
 {
     let no = check(w, h, k, palette, lab, indices);
     if no != 0 {

@@ -5,11 +5,11 @@ use Prim.Native.Nat.{ℕ, _*_, _≤_, _<_}
 use borrow.Author.Tests.{lt-ltb, le-ltb}
 use lib.Dec.{ltb}
 use lib.ListN.{length}
-use Rattle.base_limits.specs.Checks.{_when_, firstOf, refusedOr}
-use Rattle.base_limits.specs.Answer.{filled}
-use Rattle.base_limits.specs.declared.Counted.the-variants as counted
-use Rattle.base_limits.proofs.First.{first-past, first-here, refused-first}
-use Rattle.base_lists.specs.Lists.{over}
+use Rattle.base.specs.Checks.{_when_, firstOf, refusedOr}
+use Rattle.base.specs.Answer.{filled}
+use Rattle.base.specs.declared.Counted.the-variants as counted
+use Rattle.base.proofs.First.{first-past, first-here, refused-first}
+use Rattle.base.specs.Lists.{over}
 use Rattle.sheet.specs.Sheet.{Sheet}
 use Rattle.sheet.specs.Checks.{sheetChecks, WellFormed, Judged}
 use Rattle.sheet_diff.specs.Mask.{Baseline, baselineChecks, Based, maskOf, diffMaskOf}

@@ -7,10 +7,10 @@ use native.Mathlib.Omega.{arith}
 use borrow.Author.Tests.{le-ltb, ltb-false, eq-eqb, eqb-true, not-false}
 use lib.Dec.{ltb, eqb}
 use lib.ListN.{length}
-use Rattle.base_limits.specs.Checks.{_when_, firstOf}
-use Rattle.base_limits.proofs.First.{first-past, first-here}
-use Rattle.base_lists.specs.Lists.{some}
-use Rattle.base_lists.proofs.Scan.{or-left, or-right}
+use Rattle.base.specs.Checks.{_when_, firstOf}
+use Rattle.base.proofs.First.{first-past, first-here}
+use Rattle.base.specs.Lists.{some}
+use Rattle.base.proofs.Scan.{or-left, or-right}
 use Rattle.sheet.specs.Sheet.{stray}
 use Rattle.sheet_diff.specs.Mask.{Baseline, baselineChecks, Based}
 use Rattle.sheet.proofs.Judging.{yes, one-number}

@@ -12,11 +12,11 @@ use lib.Dec.{eqb}
 use lib.IntN.{ℤ, pos, negsuc}
 use lib.ListN.{length, getD, set}
 use lib.Seq.{getD-set-same, getD-set-other}
-use Rattle.base_limits.specs.declared.Rgb.{Rgb}
-use Rattle.base_ints.proofs.Back.{never}
+use Rattle.base.specs.declared.Rgb.{Rgb}
+use Rattle.base.proofs.Back.{never}
 use Rattle.sheet.specs.Sheet.{stray}
 use Rattle.sheet.specs.Document.{mark}
-use Rattle.base_storage.specs.Triples.{rgbAt}
+use Rattle.base.specs.Triples.{rgbAt}
 use Rattle.sheet_diff.specs.Mask.{shown, sameBytes, differs}
 use Rattle.sheet_diff.specs.Tables.{slotOf, Numbered, Shade, Shades}
 use Rattle.sheet.proofs.Entries.{bytesOf, entry}

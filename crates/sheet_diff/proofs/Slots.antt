@@ -10,7 +10,7 @@ use lib.Signed.{nonNeg}
 use mir.Syntax.{w16, w64}
 use mir.Val.{toZ, ofZ, SFits, Fits}
 use mir.Facts.{toZ-ofZ}
-use Rattle.base_ints.proofs.Back.{never}
+use Rattle.base.proofs.Back.{never}
 use Rattle.sheet.specs.Sheet.{stray}
 use Rattle.sheet_diff.specs.Tables.{slotOf}
 

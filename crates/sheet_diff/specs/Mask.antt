@@ -6,12 +6,12 @@ use mathlib.Core.List.{List, [], _∷_, _++_}
 use lib.Dec.{ltb, eqb}
 use lib.IntN.{ℤ, pos, negsuc}
 use lib.ListN.{length, take, drop}
-use Rattle.base_limits.specs.Limits.{maxSide, maxEntries, storage}
-use Rattle.base_limits.specs.Numbers.{badSheet, strayIndex, noSpace}
-use Rattle.base_limits.specs.Checks.{Check, _when_, firstOf, checked}
-use Rattle.base_lists.specs.Lists.{some, over}
-use Rattle.base_limits.specs.Answer.{Filled, filled}
-use Rattle.base_limits.specs.declared.Counted.the-variants as counted
+use Rattle.base.specs.Limits.{maxSide, maxEntries, storage}
+use Rattle.base.specs.Numbers.{badSheet, strayIndex, noSpace}
+use Rattle.base.specs.Checks.{Check, _when_, firstOf, checked}
+use Rattle.base.specs.Lists.{some, over}
+use Rattle.base.specs.Answer.{Filled, leaving}
+use Rattle.base.specs.Answer.Told.{result, alone}
 use Rattle.sheet.specs.Sheet.{Sheet, stray}
 use Rattle.sheet.specs.Checks.{sheetChecks}
 use Rattle.sheet.specs.Document.{mark}
@@ -75,5 +75,5 @@ pub record Based (w h : ℕ) (b : Baseline) (n : ℕ) : Type 0 where
 unfoldable pub diffMaskOf : Sheet → Baseline → List ℕ → Filled ℕ
 diffMaskOf s b mask =
     checked (sheetChecks [] s ++ (baselineChecks (s .w) (s .h) b ++ (noSpace when ltb (length mask) (s .w * s .h) ∷ [])))
-    (λ n. filled (counted.Refused n) mask)
-    (filled (counted.Count (s .w * s .h)) (over (maskOf (s .palette) (b .palette) (s .indices) (b .indices)) mask))
+    (λ n. leaving (alone n) mask)
+    (leaving (result (s .w * s .h)) (over (maskOf (s .palette) (b .palette) (s .indices) (b .indices)) mask))

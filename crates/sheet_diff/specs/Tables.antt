@@ -5,9 +5,9 @@ use mathlib.Core.List.{List}
 use Prim.Native.Nat.{ℕ, suc, _+_, _*_, _<_}
 use lib.IntN.{ℤ, pos, negsuc}
 use lib.ListN.{getD}
-use Rattle.base_limits.specs.declared.Rgb.{Rgb}
+use Rattle.base.specs.declared.Rgb.{Rgb}
 use Rattle.sheet.specs.Sheet.{stray}
-use Rattle.base_storage.specs.Triples.{rgbAt}
+use Rattle.base.specs.Triples.{rgbAt}
 
 -- the place of an index in a table of 256: the transparent one's is first
 unfoldable pub slotOf : ℤ → ℕ

@@ -2,14 +2,14 @@
 //
 // Each palette is turned once into a table with a number for what each index shows, equal where the
 // colours are. A pixel then costs two reads and a comparison, and no branch.
-use base_limits::Rgb;
-use base_storage::rgb_at;
+use base::Rgb;
+use base::rgb_at;
 ghost use mathlib.Core.Path.{_≡_};
 ghost use mathlib.Core.Bool.{false, not};
 ghost use Prim.Native.Nat.{_≤_};
 ghost use lib.Dec.{eqb};
 ghost use lib.ListN.{length, getD};
-ghost use Rattle.base_lists.specs.Lists.{some, over};
+ghost use Rattle.base.specs.Lists.{some, over};
 ghost use Rattle.sheet.specs.Sheet.{stray};
 ghost use Rattle.sheet.specs.Document.{mark};
 ghost use Rattle.sheet_diff.specs.Mask.{maskOf};
@@ -64,8 +64,16 @@ pub(crate) fn mark_differences(
     base_indices: &[i16],
     mask: &mut [u8],
 )
-    requires { ⌜ (length (now palette) ≡ 765) × (length (now base) ≡ 765) × (some (stray 255) (now indices) ≡ false) × (some (stray 255) (now «base_indices») ≡ false) × (length (now indices) ≡ length (now «base_indices»)) × (length (now indices) ≤ length (now mask)) ⌝ }
-    ensures { λ _. ⌜ now (mask .exit) ≡ over (maskOf (now (palette .entry)) (now (base .entry)) (now (indices .entry)) (now («base_indices» .entry))) (now (mask .entry)) ⌝ }
+    requires { ⌜
+        (length (now palette) ≡ 765) × (length (now base) ≡ 765) × (some (stray 255) (now indices) ≡ false)
+        × (some (stray 255) (now «base_indices») ≡ false) × (length (now indices) ≡ length (now «base_indices»))
+        × (length (now indices) ≤ length (now mask))
+        ⌝ }
+    ensures { λ _. ⌜
+        now (mask .exit)
+        ≡ over (maskOf (now (palette .entry)) (now (base .entry)) (now (indices .entry)) (now («base_indices» .entry)))
+        (now (mask .entry))
+        ⌝ }
 {
     let mut shown: [u32; 256] = [0; 256];
     fill_shades(palette, &mut shown);

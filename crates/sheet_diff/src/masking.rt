@@ -1,16 +1,16 @@
 // `diff_mask`.
 use crate::diff::mark_differences;
-use base_limits::BAD_SHEET;
-use base_limits::Counted;
-use base_limits::MAX_ENTRIES;
-use base_limits::MAX_SIDE;
-use base_limits::NO_SPACE;
-use base_limits::STORAGE;
-use base_limits::STRAY_INDEX;
+use base::BAD_SHEET;
+use base::Counted;
+use base::MAX_ENTRIES;
+use base::MAX_SIDE;
+use base::NO_SPACE;
+use base::STORAGE;
+use base::STRAY_INDEX;
 use sheet::any_stray_below;
 use sheet::check;
 ghost use mathlib.Core.Path.{_≡_};
-ghost use Rattle.base_limits.specs.Answer.{filled};
+ghost use Rattle.base.specs.Answer.{filled};
 ghost use Rattle.sheet.specs.Sheet.{sheetOf};
 ghost use Rattle.sheet_diff.specs.Mask.{baselineOf, Based, diffMaskOf};
 
@@ -24,7 +24,9 @@ fn baseline_no(
     base: &[u8],
     base_indices: &[i16],
 ) -> u8
-    ensures { λ r. ⌜ Based w h (baselineOf «base_w» «base_h» «base_k» (now (base .entry)) (now («base_indices» .entry))) r ⌝ }
+    ensures { λ r. ⌜
+        Based w h (baselineOf «base_w» «base_h» «base_k» (now (base .entry)) (now («base_indices» .entry))) r
+        ⌝ }
 {
     if MAX_SIDE < base_w {
         return BAD_SHEET;
@@ -69,7 +71,12 @@ pub fn diff_mask(
     base_indices: &[i16],
     mask: &mut [u8],
 ) -> Counted
-    ensures { λ r. ⌜ filled r (now (mask .exit)) ≡ diffMaskOf (sheetOf w h k (now (palette .entry)) (now (lab .entry)) (now (indices .entry))) (baselineOf «base_w» «base_h» «base_k» (now (base .entry)) (now («base_indices» .entry))) (now (mask .entry)) ⌝ }
+    ensures { λ r. ⌜ (
+        let sheet = sheetOf w h k (now (palette .entry)) (now (lab .entry)) (now (indices .entry)) in
+        filled r (now (mask .exit))
+        ≡ diffMaskOf sheet (baselineOf «base_w» «base_h» «base_k» (now (base .entry)) (now («base_indices» .entry)))
+        (now (mask .entry))
+        ) ⌝ }
 {
     let no = check(w, h, k, palette, lab, indices);
     if no != 0 {

@@ -1,5 +1,4 @@
 pub mod Loops
 pub mod While
 pub mod Lending
-pub mod Tail
 pub mod Packing

@@ -7,14 +7,14 @@ use native.Mathlib.Omega.{arith}
 use lib.IntN.{pos}
 use lib.ListN.{length, take, getD, set, length-set, length-map, List·getD-map}
 use lib.Seq.{take-suc, length-take-le, getD-take}
-use Rattle.base_lists.specs.Lists.{over, some}
-use Rattle.base_lists.proofs.Over.{over-none, over-set}
-use Rattle.base_lists.proofs.Mapped.{map-set}
-use Rattle.base_lists.proofs.Nowhere.{some-map}
-use Rattle.base_lists.proofs.Scan.{Flagged, flag-step, flag-end}
+use Rattle.base.specs.Lists.{over, some}
+use Rattle.base.proofs.Over.{over-none, over-set}
+use Rattle.base.proofs.Mapped.{map-set}
+use Rattle.base.proofs.Nowhere.{some-map}
+use Rattle.base.proofs.Scan.{Flagged, flag-step, flag-end}
 use Rattle.edit.specs.Change.{outside, unpacked}
 use Rattle.change_normal.proofs.Packing.{packed-unpacked}
-use Rattle.struct_change.specs.declared.Change.{Change}
+use Rattle.base.specs.declared.Change.{Change}
 use Rattle.struct_change.specs.Struct.{packedOf, structOf}
 
 -- what stands for an element past the end

@@ -7,7 +7,7 @@ use native.Mathlib.Decide.{decLt}
 use borrow.Author.Tests.{lt-ltb, le-ltb}
 use lib.ListN.{length, take, drop, drop-of-length-le}
 use lib.Seq.{take-all, length-take-le, take-append-le}
-use Rattle.base_lists.specs.Lists.{over}
+use Rattle.base.specs.Lists.{over}
 use Rattle.change_list.specs.Listed.{InScratch}
 use Rattle.struct_change.specs.Struct.{least}
 

@@ -3,16 +3,15 @@ use Prim.Native.Nat.{ℕ}
 use mathlib.Core.Bool.{cond}
 use mathlib.Core.List.{List}
 use lib.Dec.{ltb}
-use Rattle.base_limits.specs.Numbers.{noSpace}
-use Rattle.base_limits.specs.Answer.{Filled, filled}
-use Rattle.base_limits.specs.declared.Counted.{Counted}
-use Rattle.base_limits.specs.declared.Counted.the-variants as counted
+use Rattle.base.specs.Numbers.{noSpace}
+use Rattle.base.specs.Answer.{Told, Filled, leaving}
+use Rattle.base.specs.Answer.Told.{result, alone}
 
 -- "no space": 16, where nothing else refuses the call
-unfoldable pub noRoom : Counted → Counted
-noRoom (counted.Count n) = counted.Refused noSpace
-noRoom (counted.Refused n) = counted.Refused n
+unfoldable pub noRoom : Told ℕ → Told ℕ
+noRoom (result n) = alone noSpace
+noRoom (alone n) = alone n
 
 -- a call whose further buffer has `room` places and needs so many: with fewer its 16 stands after every other check
 unfoldable pub needing : ℕ → ℕ → (List ℕ → Filled ℕ) → List ℕ → Filled ℕ
-needing room needed call out = cond (ltb room needed) (filled (noRoom (call out .answer)) out) (call out)
+needing room needed call out = cond (ltb room needed) (leaving (noRoom (call out .answer)) out) (call out)

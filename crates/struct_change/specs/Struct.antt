@@ -2,7 +2,7 @@
 use Prim.Native.Nat.{ℕ}
 use mathlib.Core.Bool.{cond}
 use lib.Dec.{ltb}
-use Rattle.struct_change.specs.declared.Change.{Change}
+use Rattle.base.specs.declared.Change.{Change}
 use Rattle.edit.specs.Change as flat
 
 -- the change that a struct is

@@ -2,6 +2,7 @@
 // above; here is what they do with one, and with a slice.
 mod slices;
 
+use base::Change;
 use edit_pixels::change_of;
 use edit_pixels::column;
 use edit_pixels::new_of;
@@ -14,14 +15,6 @@ pub use slices::copy_front;
 pub use slices::lesser;
 pub use slices::pack;
 pub use slices::unpack;
-
-// "a list of changes, each with x, y, old and new".
-pub struct Change {
-    pub x: u16,
-    pub y: u16,
-    pub old: i16,
-    pub new: i16,
-}
 
 // The change as one number of 64 bits, as the core takes it.
 pub fn packed(c: Change) -> u64

@@ -1,15 +1,15 @@
 // Lists of change structs packed into numbers, as the core takes them, filled from numbers, copied, and gone through.
-use crate::Change;
 use crate::packed;
 use crate::unpacked;
-use base_lists::either;
+use base::Change;
+use base::either;
 use edit_pixels::is_outside;
 ghost use mathlib.Core.Path.{_≡_};
 ghost use mathlib.Core.Bool.{_||_};
 ghost use mathlib.Core.List.{map};
 ghost use Prim.Native.Nat.{_≤_};
 ghost use lib.ListN.{length, take};
-ghost use Rattle.base_lists.specs.Lists.{over, some};
+ghost use Rattle.base.specs.Lists.{over, some};
 ghost use Rattle.edit.specs.Change as flat;
 ghost use Rattle.struct_change.specs.Struct.{packedOf, least};
 
@@ -40,7 +40,9 @@ pub fn pack(list: &[Change], n: usize, flat: &mut [u64])
 // The first n numbers, as structs, over the front of out, which keeps its bits past them.
 pub fn unpack(flat: &[u64], n: usize, out: &mut [Change])
     requires { ⌜ (n ≤ length (now flat)) × (n ≤ length (now out)) ⌝ }
-    ensures { λ _. ⌜ map packedOf (now (out .exit)) ≡ over (take n (now (flat .entry))) (map packedOf (now (out .entry))) ⌝ }
+    ensures { λ _. ⌜
+        map packedOf (now (out .exit)) ≡ over (take n (now (flat .entry))) (map packedOf (now (out .entry)))
+        ⌝ }
 {
     let mut filled: usize = 0;
     while filled < n {
@@ -54,7 +56,10 @@ pub fn unpack(flat: &[u64], n: usize, out: &mut [Change])
 // The first n changes of a list over the front of out, which keeps its bits past them.
 pub fn copy_front(list: &[Change], n: usize, out: &mut [Change])
     requires { ⌜ (n ≤ length (now list)) × (n ≤ length (now out)) ⌝ }
-    ensures { λ _. ⌜ map packedOf (now (out .exit)) ≡ over (take n (map packedOf (now (list .entry)))) (map packedOf (now (out .entry))) ⌝ }
+    ensures { λ _. ⌜
+        map packedOf (now (out .exit))
+        ≡ over (take n (map packedOf (now (list .entry)))) (map packedOf (now (out .entry)))
+        ⌝ }
 {
     let mut copied: usize = 0;
     while copied < n {

@@ -5,18 +5,18 @@ use mathlib.Core.List.{List}
 use Prim.Native.Nat.{ℕ, zero, suc, _*_, _<_, _≤_}
 use native.Mathlib.Omega.{arith}
 use lib.ListN.{set}
-use Rattle.base_limits.specs.Checks.{orElse, firstOf}
-use Rattle.base_limits.specs.declared.Rgb.{Rgb}
-use Rattle.base_limits.specs.declared.Lab.{Lab}
-use Rattle.base_limits.proofs.First.{past}
+use Rattle.base.specs.Checks.{orElse, firstOf}
+use Rattle.base.specs.declared.Rgb.{Rgb}
+use Rattle.base.specs.declared.Lab.{Lab}
+use Rattle.base.proofs.First.{past}
 use Rattle.sheet.specs.Sheet.{Sheet}
-use Rattle.edit.specs.declared.Edit.{Edit}
-use Rattle.edit.specs.declared.Edit.the-variants.{Pixels, PaletteSet, PaletteAdd, PaletteRemove}
+use Rattle.base.specs.declared.Edit.{Edit}
+use Rattle.base.specs.declared.Edit.the-variants.{Pixels, PaletteSet, PaletteAdd, PaletteRemove}
 use Rattle.edit.specs.Change.{Change, place}
 use Rattle.edit.specs.Checks.{pixelChecks, remapChecks}
 use Rattle.edit_head.specs.Apart.{changeChecks, Markable}
 use Rattle.edit_pixels.proofs.Inside.{inside}
-use Rattle.struct_change.specs.declared.Change as structs
+use Rattle.base.specs.declared.Change as structs
 use Rattle.struct_edit.specs.Walk.{whenNone, checkOne, markOne, checkUpto, Checkable}
 
 -- what a number other than 0 keeps

@@ -8,12 +8,12 @@ use native.Mathlib.Omega.{arith}
 use lib.IntN.{ℤ}
 use lib.ListN.{length, getD, take, drop, length-map, length-drop, take-append-drop}
 use lib.Seq.{take-suc, take-all, take-add, take-at, drop-at, drop-drop, length-take-le}
-use Rattle.base_limits.specs.declared.Rgb.{Rgb}
-use Rattle.base_limits.specs.declared.Lab.{Lab}
-use Rattle.base_lists.specs.Lists.{over}
-use Rattle.base_lists.proofs.Collect.{flatMap-append, flatMap-one}
-use Rattle.edit.specs.declared.Edit.{Edit}
-use Rattle.edit.specs.declared.Edit.the-variants.{Pixels, PaletteSet, PaletteAdd, PaletteRemove}
+use Rattle.base.specs.declared.Rgb.{Rgb}
+use Rattle.base.specs.declared.Lab.{Lab}
+use Rattle.base.specs.Lists.{over}
+use Rattle.base.proofs.Collect.{flatMap-append, flatMap-one}
+use Rattle.base.specs.declared.Edit.{Edit}
+use Rattle.base.specs.declared.Edit.the-variants.{Pixels, PaletteSet, PaletteAdd, PaletteRemove}
 use Rattle.edit.specs.Change as flat
 use Rattle.edit.specs.Change.{filledIn}
 use Rattle.edit.specs.Apply.{filledChanges}
@@ -24,8 +24,8 @@ use Rattle.journal_frame.specs.Frame.{around}
 use Rattle.journal_write.proofs.Changes.{length-changes}
 use Rattle.journal_record.proofs.Splice.{splice-none, splice-then}
 use Rattle.journal_frame.proofs.Framing.{within, around-within}
-use Rattle.struct_change.specs.declared.Change.{Change}
-use Rattle.struct_edit.specs.Walk.{told, toldAll, none, putOne, putUpto}
+use Rattle.base.specs.declared.Change.{Change}
+use Rattle.struct_edit.specs.Walk.{flatOf, flatAll, none, putOne, putUpto}
 use Rattle.struct_edit.proofs.Told.{told-length, told-at}
 
 -- a run that is written from `a` of the part on that starts at `o`
@@ -46,31 +46,31 @@ module _ (offset w : ℕ) (indices : List ℤ) (list : List Change) (journal : L
   abbrev fill : flat.Change → flat.Change
   fill = filledIn w indices
 
-  filled-at : (l : List Change) (i : ℕ) → i < length l → getD (map fill (toldAll l)) i (fill (told none)) ≡ fill (told (getD l i none))
+  filled-at : (l : List Change) (i : ℕ) → i < length l → getD (map fill (flatAll l)) i (fill (flatOf none)) ≡ fill (flatOf (getD l i none))
   filled-at [] i h = absurd (not-suc-le-zero h)
   filled-at (c ∷ l) zero h = refl
   filled-at (c ∷ l) (suc i) h = filled-at l i (le-of-suc-le-suc h)
 
-  filled-length : length (map fill (toldAll list)) ≡ length list
+  filled-length : length (map fill (flatAll list)) ≡ length list
   filled-length = rw length-map (told-length list)
 
   pixels-upto : (tool : ℕ) → offset + (6 + 8 * length list) ≤ length journal → (i : ℕ) → i ≤ length list
-      → putUpto 0 (Pixels tool) offset w indices list journal i ≡ splice journal (offset + 6) (flatMap changeBytes (take i (map fill (toldAll list))))
+      → putUpto 0 (Pixels tool) offset w indices list journal i ≡ splice journal (offset + 6) (flatMap changeBytes (take i (map fill (flatAll list))))
   unfolding putOne flatMap
   pixels-upto tool room zero h = splice-none journal (offset + 6)
   pixels-upto tool room (suc i) h =
       let at : offset + (6 + 8 * i) ≡ offset + 6 + 8 * i = omega arith in
       rw (at, ← filled-at list i h)
-      (next journal (offset + 6) (map fill (toldAll list)) (rw filled-length (omega arith)) (fill (told none)) i _ (rw filled-length h) (pixels-upto tool room i (omega arith)))
+      (next journal (offset + 6) (map fill (flatAll list)) (rw filled-length (omega arith)) (fill (flatOf none)) i _ (rw filled-length h) (pixels-upto tool room i (omega arith)))
 
   remap-upto : (j : ℕ) (rgb : Rgb) (lab : Lab) → offset + (33 + 8 * length list) ≤ length journal → (i : ℕ) → i ≤ length list
-      → putUpto 0 (PaletteRemove j rgb lab) offset w indices list journal i ≡ splice journal (offset + 33) (flatMap changeBytes (take i (toldAll list)))
+      → putUpto 0 (PaletteRemove j rgb lab) offset w indices list journal i ≡ splice journal (offset + 33) (flatMap changeBytes (take i (flatAll list)))
   unfolding putOne flatMap
   remap-upto j rgb lab room zero h = splice-none journal (offset + 33)
   remap-upto j rgb lab room (suc i) h =
       let at : offset + (33 + 8 * i) ≡ offset + 33 + 8 * i = omega arith in
-      rw (at, ← told-at list i (told none) h)
-      (next journal (offset + 33) (toldAll list) (rw (told-length list) (omega arith)) (told none) i _ (rw (told-length list) h) (remap-upto j rgb lab room i (omega arith)))
+      rw (at, ← told-at list i (flatOf none) h)
+      (next journal (offset + 33) (flatAll list) (rw (told-length list) (omega arith)) (flatOf none) i _ (rw (told-length list) h) (remap-upto j rgb lab room i (omega arith)))
 
   none-upto-set : (j : ℕ) (old new : Rgb) (lab : Lab) (i : ℕ) → putUpto 0 (PaletteSet j old new lab) offset w indices list journal i ≡ journal
   unfolding putOne
@@ -84,18 +84,18 @@ module _ (offset w : ℕ) (indices : List ℤ) (list : List Change) (journal : L
 
   -- the changes stand in the record
   pub put-all : (e : Edit) → offset + recordLength e (length list) ≤ length journal
-      → putUpto 0 e offset w indices list journal (length list) ≡ take offset journal ++ within e (filledChanges (rowsOf w indices) e (toldAll list)) (drop offset journal)
+      → putUpto 0 e offset w indices list journal (length list) ≡ take offset journal ++ within e (filledChanges (rowsOf w indices) e (flatAll list)) (drop offset journal)
   unfolding recordLength within filledChanges
   put-all (Pixels tool) h =
       pixels-upto tool (omega arith) (length list) (omega arith)
-      ∙ rw (take-all (length list) (map fill (toldAll list)) (omega (arith, filled-length)))
-      (from-part journal (flatMap changeBytes (map fill (toldAll list))) offset 6)
+      ∙ rw (take-all (length list) (map fill (flatAll list)) (omega (arith, filled-length)))
+      (from-part journal (flatMap changeBytes (map fill (flatAll list))) offset 6)
   put-all (PaletteSet j old new lab) h = none-upto-set j old new lab (length list) ∙ sym (take-append-drop offset journal)
   put-all (PaletteAdd rgb) h = none-upto-add rgb (length list) ∙ sym (take-append-drop offset journal)
   put-all (PaletteRemove j rgb lab) h =
       remap-upto j rgb lab (omega arith) (length list) (omega arith)
-      ∙ rw (take-all (length list) (toldAll list) (omega (arith, told-length list)))
-      (from-part journal (flatMap changeBytes (toldAll list)) offset 33)
+      ∙ rw (take-all (length list) (flatAll list) (omega (arith, told-length list)))
+      (from-part journal (flatMap changeBytes (flatAll list)) offset 33)
 
 -- ---- the rest of the record is written around them
 pub whole-record : (e : Edit) (cs : List flat.Change) (n offset : ℕ) (journal after : List ℕ) → length cs ≡ n → offset + recordLength e n ≤ length journal

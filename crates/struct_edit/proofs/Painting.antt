@@ -4,13 +4,13 @@ use mathlib.Core.List.{List}
 use Prim.Native.Nat.{ℕ, _<_}
 use lib.IntN.{ℤ}
 use lib.ListN.{length, getD, set}
-use Rattle.base_limits.specs.declared.Rgb.{Rgb}
-use Rattle.base_limits.specs.declared.Lab.{Lab}
-use Rattle.edit.specs.declared.Edit.{Edit}
-use Rattle.edit.specs.declared.Edit.the-variants.{Pixels, PaletteSet, PaletteAdd, PaletteRemove}
+use Rattle.base.specs.declared.Rgb.{Rgb}
+use Rattle.base.specs.declared.Lab.{Lab}
+use Rattle.base.specs.declared.Edit.{Edit}
+use Rattle.base.specs.declared.Edit.the-variants.{Pixels, PaletteSet, PaletteAdd, PaletteRemove}
 use Rattle.edit.specs.Change.{Change, place, newOf}
-use Rattle.struct_change.specs.declared.Change as structs
-use Rattle.struct_edit.specs.Walk.{told, toldAll, none, paintOne, Paintable, AllPaintable}
+use Rattle.base.specs.declared.Change as structs
+use Rattle.struct_edit.specs.Walk.{flatOf, flatAll, none, paintOne, Paintable, AllPaintable}
 use Rattle.struct_edit.proofs.Checking.{kept}
 use Rattle.struct_edit.proofs.Told.{told-inside}
 
@@ -53,7 +53,7 @@ unfolding Paintable
 move-stands w n c k p = rw k at p
 
 -- ---- a list: what is asked of all is asked of each
-pub paintable-at : (e : Edit) (list : List structs.Change) (i w : ℕ) {n m : ℕ} → i < length list → m ≡ n → AllPaintable e w n (toldAll list) → Paintable e w m (told (getD list i none))
+pub paintable-at : (e : Edit) (list : List structs.Change) (i w : ℕ) {n m : ℕ} → i < length list → m ≡ n → AllPaintable e w n (flatAll list) → Paintable e w m (flatOf (getD list i none))
 unfolding Paintable AllPaintable
 paintable-at (Pixels tool) list i w {n} h l p = rw l (told-inside w n list i p h)
 paintable-at (PaletteSet j old new lab) list i w h l p = tt

@@ -7,16 +7,16 @@ use borrow.Rule.Slice.PartMut.{putMid}
 use lib.IntN.{ℤ}
 use lib.ListN.{length, take, drop, getD, length-drop, drop-of-length-le}
 use lib.Seq.{take-all, take-add, drop-drop}
-use Rattle.base_limits.specs.declared.Rgb.{Rgb}
-use Rattle.base_limits.specs.declared.Lab.{Lab}
-use Rattle.base_lists.specs.Lists.{over}
-use Rattle.edit.specs.declared.Edit.{Edit}
-use Rattle.edit.specs.declared.Edit.the-variants.{Pixels, PaletteSet, PaletteAdd, PaletteRemove}
+use Rattle.base.specs.declared.Rgb.{Rgb}
+use Rattle.base.specs.declared.Lab.{Lab}
+use Rattle.base.specs.Lists.{over}
+use Rattle.base.specs.declared.Edit.{Edit}
+use Rattle.base.specs.declared.Edit.the-variants.{Pixels, PaletteSet, PaletteAdd, PaletteRemove}
 use Rattle.edit.specs.Change.{Change, place, filledIn}
 use Rattle.journal_record.specs.Bytes.{splice}
 use Rattle.journal_record.specs.Record.{changeBytes}
-use Rattle.struct_change.specs.declared.Change as structs
-use Rattle.struct_edit.specs.Walk.{told, toldAll, none, putOne, Puttable, AllPuttable}
+use Rattle.base.specs.declared.Change as structs
+use Rattle.struct_edit.specs.Walk.{flatOf, flatAll, none, putOne, Puttable, AllPuttable}
 use Rattle.struct_edit.proofs.Checking.{kept}
 use Rattle.struct_edit.proofs.Told.{told-length, told-inside}
 
@@ -73,8 +73,8 @@ unfolding Puttable
 move-fits offset m i w n c k p = rw k at p
 
 -- ---- a list: what is asked of all is asked of each
-pub puttable-at : (e : Edit) (list : List structs.Change) (i offset w n : ℕ) {m o : ℕ} → i < length list → o ≡ m → AllPuttable e offset m w n (toldAll list)
-    → Puttable e offset o i w n (told (getD list i none))
+pub puttable-at : (e : Edit) (list : List structs.Change) (i offset w n : ℕ) {m o : ℕ} → i < length list → o ≡ m → AllPuttable e offset m w n (flatAll list)
+    → Puttable e offset o i w n (flatOf (getD list i none))
 unfolding Puttable AllPuttable
 puttable-at (Pixels tool) list i offset w n h l p = (omega (arith, l, p .0 (rw (told-length list) (omega (arith, h))), told-length list), told-inside w n list i (p .1) h)
 puttable-at (PaletteSet j old new lab) list i offset w n h l p = tt

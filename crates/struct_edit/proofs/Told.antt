@@ -6,19 +6,19 @@ use Prim.Native.Nat.{ℕ, zero, suc, _<_}
 use native.Mathlib.Nat.{le-of-suc-le-suc, not-suc-le-zero}
 use borrow.Author.Tests.{leb-false}
 use lib.ListN.{length, getD, length-map}
-use Rattle.base_lists.specs.Lists.{some}
-use Rattle.base_lists.proofs.Scan.{some-none}
+use Rattle.base.specs.Lists.{some}
+use Rattle.base.proofs.Scan.{some-none}
 use Rattle.edit.specs.Change as flat
 use Rattle.edit.specs.Change.{place}
 use Rattle.edit_pixels.specs.Inside.{past}
-use Rattle.struct_change.specs.declared.Change.{Change}
+use Rattle.base.specs.declared.Change.{Change}
 use Rattle.struct_change.specs.Struct.{packedOf}
-use Rattle.struct_edit.specs.Walk.{told, packedAll, toldAll, none}
+use Rattle.struct_edit.specs.Walk.{flatOf, packedAll, flatAll, none}
 
-pub told-length : (list : List Change) → length (toldAll list) ≡ length list
+pub told-length : (list : List Change) → length (flatAll list) ≡ length list
 told-length list = rw (length-map, length-map)
 
-pub told-at : (list : List Change) (i : ℕ) (d : flat.Change) → i < length list → getD (toldAll list) i d ≡ told (getD list i none)
+pub told-at : (list : List Change) (i : ℕ) (d : flat.Change) → i < length list → getD (flatAll list) i d ≡ flatOf (getD list i none)
 told-at [] i d h = absurd (not-suc-le-zero h)
 told-at (c ∷ list) zero d h = refl
 told-at (c ∷ list) (suc i) d h = told-at list i d (le-of-suc-le-suc h)
@@ -29,6 +29,6 @@ packed-at (c ∷ list) zero h = refl
 packed-at (c ∷ list) (suc i) h = packed-at list i (le-of-suc-le-suc h)
 
 -- where none stands past the picture, the i-th does not
-pub told-inside : (w n : ℕ) (list : List Change) (i : ℕ) → some (past w n) (toldAll list) ≡ false → i < length list → place w (told (getD list i none)) < n
+pub told-inside : (w n : ℕ) (list : List Change) (i : ℕ) → some (past w n) (flatAll list) ≡ false → i < length list → place w (flatOf (getD list i none)) < n
 unfolding past
-told-inside w n list i e h = leb-false n _ (rw (told-at list i (told none) h) at (some-none (past w n) (toldAll list) i (told none) e (rw (told-length list) h)))
+told-inside w n list i e h = leb-false n _ (rw (told-at list i (flatOf none) h) at (some-none (past w n) (flatAll list) i (flatOf none) e (rw (told-length list) h)))

@@ -9,47 +9,47 @@ use native.Mathlib.Omega.{arith}
 use lib.IntN.{ℤ}
 use lib.ListN.{length, getD, set, take, replicate, length-map}
 use lib.Seq.{take-suc, take-all, take-set-lt, length-take-le}
-use Rattle.base_limits.specs.Checks.{Check, orElse, firstOf}
-use Rattle.base_limits.specs.declared.Rgb.{Rgb}
-use Rattle.base_limits.specs.declared.Lab.{Lab}
-use Rattle.base_limits.proofs.First.{or-else-assoc, or-else-zero, first-append}
-use Rattle.base_lists.proofs.Collect.{flatMap-append, flatMap-one}
+use Rattle.base.specs.Checks.{Check, orElse, firstOf}
+use Rattle.base.specs.declared.Rgb.{Rgb}
+use Rattle.base.specs.declared.Lab.{Lab}
+use Rattle.base.proofs.First.{or-else-assoc, or-else-zero, first-append}
+use Rattle.base.proofs.Collect.{flatMap-append, flatMap-one}
 use Rattle.sheet.specs.Sheet.{Sheet}
-use Rattle.edit.specs.declared.Edit.{Edit}
-use Rattle.edit.specs.declared.Edit.the-variants.{Pixels, PaletteSet, PaletteAdd, PaletteRemove}
+use Rattle.base.specs.declared.Edit.{Edit}
+use Rattle.base.specs.declared.Edit.the-variants.{Pixels, PaletteSet, PaletteAdd, PaletteRemove}
 use Rattle.edit.specs.Change as flat
 use Rattle.edit.specs.Change.{unpacked, place, painted, newOf}
 use Rattle.edit_head.specs.Apart.{changeChecks, ClearFor, MarksFor}
 use Rattle.edit_head.proofs.Together.{paintedBy}
 use Rattle.edit_remap.proofs.Marking.{Marking, marking-none, marking-next, marking-all}
-use Rattle.struct_change.specs.declared.Change.{Change}
-use Rattle.struct_edit.specs.Walk.{told, packedAll, toldAll, none, checkUpto, markOne, markUpto, paintOne, paintUpto}
+use Rattle.base.specs.declared.Change.{Change}
+use Rattle.struct_edit.specs.Walk.{flatOf, packedAll, flatAll, none, checkUpto, markOne, markUpto, paintOne, paintUpto}
 use Rattle.struct_edit.proofs.Checking.{move-inside, or-zero}
 use Rattle.struct_edit.proofs.Told.{told-length, told-at, packed-at}
 
 -- the first i changes and the next one are the first i + 1
-take-told : (list : List Change) (i : ℕ) → i < length list → take (suc i) (toldAll list) ≡ take i (toldAll list) ++ (told (getD list i none) ∷ [])
-take-told list i h = take-suc (toldAll list) i (told none) (rw (told-length list) h) ∙ ap (λ (c : flat.Change). take i (toldAll list) ++ (c ∷ [])) (told-at list i (told none) h)
+take-told : (list : List Change) (i : ℕ) → i < length list → take (suc i) (flatAll list) ≡ take i (flatAll list) ++ (flatOf (getD list i none) ∷ [])
+take-told list i h = take-suc (flatAll list) i (flatOf none) (rw (told-length list) h) ∙ ap (λ (c : flat.Change). take i (flatAll list) ++ (c ∷ [])) (told-at list i (flatOf none) h)
 
-all-told : (list : List Change) → take (length list) (toldAll list) ≡ toldAll list
-all-told list = take-all (length list) (toldAll list) (omega (arith, told-length list))
+all-told : (list : List Change) → take (length list) (flatAll list) ≡ flatAll list
+all-told list = take-all (length list) (flatAll list) (omega (arith, told-length list))
 
 -- ---- checked
 module _ (n : ℕ) (replay : Bool) (s : Sheet) (e : Edit) (list : List Change) where
   abbrev each : flat.Change → List Check
   each = changeChecks replay s e
 
-  checked-upto : (i : ℕ) → i ≤ length list → checkUpto n replay s e list i ≡ orElse n (firstOf (flatMap each (take i (toldAll list))))
+  checked-upto : (i : ℕ) → i ≤ length list → checkUpto n replay s e list i ≡ orElse n (firstOf (flatMap each (take i (flatAll list))))
   unfolding flatMap firstOf
   checked-upto zero h = sym (or-else-zero n)
   checked-upto (suc i) h =
-      let c : flat.Change = told (getD list i none) in
-      let before : List Check = flatMap each (take i (toldAll list)) in
+      let c : flat.Change = flatOf (getD list i none) in
+      let before : List Check = flatMap each (take i (flatAll list)) in
       ap (λ (m : ℕ). orElse m (firstOf (each c))) (checked-upto i (omega arith))
       ∙ sym (or-else-assoc n (firstOf before) (firstOf (each c)))
       ∙ ap (orElse n) (sym (first-append before (each c)) ∙ rw (take-told list i h, flatMap-append, flatMap-one))
 
-  pub checked-all : checkUpto n replay s e list (length list) ≡ orElse n (firstOf (flatMap each (toldAll list)))
+  pub checked-all : checkUpto n replay s e list (length list) ≡ orElse n (firstOf (flatMap each (flatAll list)))
   checked-all = checked-upto (length list) (omega arith) ∙ rw (all-told list)
 
 -- ---- marked: a removal whose list passes
@@ -61,7 +61,7 @@ module _ (replay : Bool) (s : Sheet) (j : ℕ) (rgb : Rgb) (lab : Lab) (list : L
   unfolding markOne changeChecks
   marking-upto zero h z = rw (length-take-le m marks long) at (marking-none (s .w) (packedAll list) m clear)
   marking-upto (suc i) h z =
-      let c : flat.Change = told (getD list i none) in
+      let c : flat.Change = flatOf (getD list i none) in
       let before : List ℕ = markUpto 0 replay s removal list marks i in
       let z₀ : checkUpto 0 replay s removal list i ≡ 0 = or-zero _ _ z in
       let stands : place (s .w) c < m = move-inside s j m c size (rw z₀ at z) in
@@ -70,7 +70,7 @@ module _ (replay : Bool) (s : Sheet) (j : ℕ) (rgb : Rgb) (lab : Lab) (list : L
       rw (z, take-set-lt m before (place (s .w) c) 1 stands, ← add-one i) next
 
 pub marked-all : (replay : Bool) (s : Sheet) (e : Edit) (list : List Change) (marks : List ℕ) (m : ℕ) → m ≡ s .w * s .h → m ≤ length marks → ClearFor e m marks
-    → checkUpto 0 replay s e list (length list) ≡ 0 → MarksFor e (s .w) m (toldAll list) (markUpto 0 replay s e list marks (length list))
+    → checkUpto 0 replay s e list (length list) ≡ 0 → MarksFor e (s .w) m (flatAll list) (markUpto 0 replay s e list marks (length list))
 unfolding ClearFor MarksFor
 marked-all replay s (Pixels tool) list marks m size long clear z = tt
 marked-all replay s (PaletteSet i old new lab) list marks m size long clear z = tt
@@ -86,11 +86,11 @@ module _ (w : ℕ) where
   painted-then (c ∷ xs) ys l = painted-then xs ys (set l (place w c) (newOf c))
 
   module _ (list : List Change) (l : List ℤ) where
-    painted-next : (i : ℕ) → i < length list → set (painted newOf w (take i (toldAll list)) l) (place w (told (getD list i none))) (newOf (told (getD list i none))) ≡ painted newOf w (take (suc i) (toldAll list)) l
+    painted-next : (i : ℕ) → i < length list → set (painted newOf w (take i (flatAll list)) l) (place w (flatOf (getD list i none))) (newOf (flatOf (getD list i none))) ≡ painted newOf w (take (suc i) (flatAll list)) l
     unfolding painted
-    painted-next i h = sym (ap (λ (cs : List flat.Change). painted newOf w cs l) (take-told list i h) ∙ painted-then (take i (toldAll list)) (told (getD list i none) ∷ []) l)
+    painted-next i h = sym (ap (λ (cs : List flat.Change). painted newOf w cs l) (take-told list i h) ∙ painted-then (take i (flatAll list)) (flatOf (getD list i none) ∷ []) l)
 
-    painted-upto : (e : Edit) (i : ℕ) → i ≤ length list → paintUpto 0 e w list l i ≡ paintedBy e w (take i (toldAll list)) l
+    painted-upto : (e : Edit) (i : ℕ) → i ≤ length list → paintUpto 0 e w list l i ≡ paintedBy e w (take i (flatAll list)) l
     unfolding paintOne paintedBy painted
     painted-upto (Pixels tool) zero h = refl
     painted-upto (Pixels tool) (suc i) h = rw (painted-upto (Pixels tool) i (omega arith)) (painted-next i h)
@@ -101,5 +101,5 @@ module _ (w : ℕ) where
     painted-upto (PaletteRemove j rgb lab) zero h = refl
     painted-upto (PaletteRemove j rgb lab) (suc i) h = rw (painted-upto (PaletteRemove j rgb lab) i (omega arith)) (painted-next i h)
 
-    pub painted-all : (e : Edit) → paintUpto 0 e w list l (length list) ≡ paintedBy e w (toldAll list) l
+    pub painted-all : (e : Edit) → paintUpto 0 e w list l (length list) ≡ paintedBy e w (flatAll list) l
     painted-all e = painted-upto e (length list) (omega arith) ∙ rw (all-told list)

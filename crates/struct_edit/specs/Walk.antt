@@ -5,29 +5,29 @@ use mathlib.Core.Bool.{Bool, false}
 use mathlib.Core.List.{List, map}
 use lib.IntN.{ℤ, pos}
 use lib.ListN.{length, getD, set}
-use Rattle.base_limits.specs.Checks.{orElse, firstOf}
-use Rattle.base_lists.specs.Lists.{some}
+use Rattle.base.specs.Checks.{orElse, firstOf}
+use Rattle.base.specs.Lists.{some}
 use Rattle.sheet.specs.Sheet.{Sheet}
-use Rattle.edit.specs.declared.Edit.{Edit}
-use Rattle.edit.specs.declared.Edit.the-variants.{Pixels, PaletteSet, PaletteAdd, PaletteRemove}
+use Rattle.base.specs.declared.Edit.{Edit}
+use Rattle.base.specs.declared.Edit.the-variants.{Pixels, PaletteSet, PaletteAdd, PaletteRemove}
 use Rattle.edit.specs.Change as flat
 use Rattle.edit.specs.Change.{unpacked, place, newOf, filledIn}
 use Rattle.edit_pixels.specs.Inside.{past}
 use Rattle.edit_head.specs.Apart.{changeChecks, Markable}
 use Rattle.journal_record.specs.Bytes.{splice}
 use Rattle.journal_record.specs.Record.{changeBytes}
-use Rattle.struct_change.specs.declared.Change.{Change}
+use Rattle.base.specs.declared.Change.{Change}
 use Rattle.struct_change.specs.Struct.{packedOf}
 
 -- the change that the core reads of a struct, and those of a list
-abbrev pub told : Change → flat.Change
-told c = unpacked (packedOf c)
+abbrev pub flatOf : Change → flat.Change
+flatOf c = unpacked (packedOf c)
 
 abbrev pub packedAll : List Change → List ℕ
 packedAll list = map packedOf list
 
-abbrev pub toldAll : List Change → List flat.Change
-toldAll list = map unpacked (packedAll list)
+abbrev pub flatAll : List Change → List flat.Change
+flatAll list = map unpacked (packedAll list)
 
 -- what stands for an element past the end
 abbrev pub none : Change
@@ -52,11 +52,13 @@ markOne n (PaletteRemove i rgb lab) w c marks = whenNone n (set marks (place w c
 -- the first i of a list
 abbrev pub checkUpto : ℕ → Bool → Sheet → Edit → List Change → ℕ → ℕ
 checkUpto n replay s e list zero = n
-checkUpto n replay s e list (suc i) = checkOne (checkUpto n replay s e list i) replay s e (told (getD list i none))
+checkUpto n replay s e list (suc i) = checkOne (checkUpto n replay s e list i) replay s e (flatOf (getD list i none))
 
 abbrev pub markUpto : ℕ → Bool → Sheet → Edit → List Change → List ℕ → ℕ → List ℕ
 markUpto n replay s e list marks zero = marks
-markUpto n replay s e list marks (suc i) = markOne (checkUpto n replay s e list (suc i)) e (s .w) (told (getD list i none)) (markUpto n replay s e list marks i)
+markUpto n replay s e list marks (suc i) =
+    markOne (checkUpto n replay s e list (suc i)) e (s .w) (flatOf (getD list i none))
+    (markUpto n replay s e list marks i)
 
 -- what a check asks: an index a pixel, and a removal's marks
 pub record Checkable (e : Edit) (w h indices marks : ℕ) : Type 0 where
@@ -72,7 +74,7 @@ putOne n (PaletteRemove j rgb lab) offset i w indices c journal = whenNone n (sp
 
 abbrev pub putUpto : ℕ → Edit → ℕ → ℕ → List ℤ → List Change → List ℕ → ℕ → List ℕ
 putUpto n e offset w indices list journal zero = journal
-putUpto n e offset w indices list journal (suc i) = putOne n e offset i w indices (told (getD list i none)) (putUpto n e offset w indices list journal i)
+putUpto n e offset w indices list journal (suc i) = putOne n e offset i w indices (flatOf (getD list i none)) (putUpto n e offset w indices list journal i)
 
 -- what is asked: the bytes lie in a journal of m, a pixel among n indices
 unfoldable pub Puttable : Edit → ℕ → ℕ → ℕ → ℕ → ℕ → flat.Change → Type 0
@@ -96,7 +98,7 @@ paintOne n (PaletteRemove i rgb lab) w c indices = whenNone n (set indices (plac
 
 abbrev pub paintUpto : ℕ → Edit → ℕ → List Change → List ℤ → ℕ → List ℤ
 paintUpto n e w list indices zero = indices
-paintUpto n e w list indices (suc i) = paintOne n e w (told (getD list i none)) (paintUpto n e w list indices i)
+paintUpto n e w list indices (suc i) = paintOne n e w (flatOf (getD list i none)) (paintUpto n e w list indices i)
 
 -- what is asked: a change that is painted stands among n indices
 unfoldable pub Paintable : Edit → ℕ → ℕ → flat.Change → Type 0

@@ -1,25 +1,26 @@
 // The loops over a lent slice of change structs: an edit's list checked, written and painted in place. Each
 // hands its changes one by one to a function over one change; an edit that was refused before (a number that
 // is not 0) leaves everything as it is.
-use edit::Edit;
+use base::Change;
+use base::Edit;
 use edit_pixels::filled_in;
 use edit_pixels::paint_new;
 use edit_pixels::pixel_no;
 use edit_pixels::place_of;
 use edit_remap::move_no;
 use journal_write::put_change;
-use struct_change::Change;
 use struct_change::packed;
 ghost use mathlib.Core.Path.{_≡_};
 ghost use Prim.Native.Nat.{_+_, _*_, _≤_};
 ghost use lib.ListN.{length, set};
-ghost use Rattle.base_limits.specs.Checks.{firstOf};
+ghost use Rattle.base.specs.Checks.{firstOf};
 ghost use Rattle.edit.specs.Change.{unpacked, place};
 ghost use Rattle.edit.specs.Checks.{remapChecks};
 ghost use Rattle.edit_pixels.specs.Inside.{bare};
 ghost use Rattle.journal_record.specs.Bytes.{splice};
 ghost use Rattle.journal_record.specs.Record.{changeBytes};
-ghost use Rattle.struct_edit.specs.Walk.{whenNone, told, checkOne, markOne, checkUpto, markUpto, Checkable, toldAll, putOne, putUpto, Puttable, AllPuttable, paintOne, paintUpto, Paintable, AllPaintable};
+ghost use Rattle.struct_edit.specs.Walk.{whenNone, flatOf, checkOne, markOne, checkUpto, markUpto, Checkable};
+ghost use Rattle.struct_edit.specs.Walk.{flatAll, putOne, putUpto, Puttable, AllPuttable, paintOne, paintUpto, Paintable, AllPaintable};
 
 // The number of the first check that applies to one change of a remap, or 0: then its place is marked.
 fn mark_move(
@@ -32,7 +33,10 @@ fn mark_move(
     c: u64,
 ) -> u8
     requires { ⌜ (index ≤ 255) × (length (now indices) ≡ w * h) × (w * h ≤ length (now marks)) ⌝ }
-    ensures { λ r. ⌜ (r ≡ firstOf (remapChecks (bare w h k (now (indices .entry))) index (unpacked c))) × (now (marks .exit) ≡ whenNone r (set (now (marks .entry)) (place w (unpacked c)) 1) (now (marks .entry))) ⌝ }
+    ensures { λ r. ⌜
+        (r ≡ firstOf (remapChecks (bare w h k (now (indices .entry))) index (unpacked c)))
+        × (now (marks .exit) ≡ whenNone r (set (now (marks .entry)) (place w (unpacked c)) 1) (now (marks .entry)))
+        ⌝ }
 {
     let no = move_no(w, h, k, index, indices, c);
     if no != 0 {
@@ -58,7 +62,10 @@ pub fn check_one(
     c: Change,
 ) -> u8
     requires { ⌜ (no ≡ 0 → Checkable edit w h (length (now indices)) (length (now marks))) ⌝ }
-    ensures { λ r. ⌜ (r ≡ checkOne no replay (bare w h k (now (indices .entry))) edit (told c)) × (now (marks .exit) ≡ markOne r edit w (told c) (now (marks .entry))) ⌝ }
+    ensures { λ r. ⌜
+        (r ≡ checkOne no replay (bare w h k (now (indices .entry))) edit (flatOf c))
+        × (now (marks .exit) ≡ markOne r edit w (flatOf c) (now (marks .entry)))
+        ⌝ }
 {
     if no != 0 {
         return no;
@@ -94,7 +101,13 @@ pub fn check_list(
     list: &[Change],
 ) -> u8
     requires { ⌜ (no ≡ 0 → Checkable edit w h (length (now indices)) (length (now marks))) ⌝ }
-    ensures { λ r. ⌜ (r ≡ checkUpto no replay (bare w h k (now (indices .entry))) edit (now (list .entry)) (length (now (list .entry)))) × (now (marks .exit) ≡ markUpto no replay (bare w h k (now (indices .entry))) edit (now (list .entry)) (now (marks .entry)) (length (now (list .entry)))) ⌝ }
+    ensures { λ r. ⌜
+        (r
+        ≡ checkUpto no replay (bare w h k (now (indices .entry))) edit (now (list .entry)) (length (now (list .entry))))
+        × (now (marks .exit)
+        ≡ markUpto no replay (bare w h k (now (indices .entry))) edit (now (list .entry)) (now (marks .entry))
+        (length (now (list .entry))))
+        ⌝ }
 {
     let mut code = no;
     let mut checked: usize = 0;
@@ -125,8 +138,10 @@ pub fn put_one(
     w: usize,
     c: Change,
 )
-    requires { ⌜ (no ≡ 0 → Puttable edit offset (length (now journal)) i w (length (now indices)) (told c)) ⌝ }
-    ensures { λ _. ⌜ now (journal .exit) ≡ putOne no edit offset i w (now (indices .entry)) (told c) (now (journal .entry)) ⌝ }
+    requires { ⌜ (no ≡ 0 → Puttable edit offset (length (now journal)) i w (length (now indices)) (flatOf c)) ⌝ }
+    ensures { λ _. ⌜
+        now (journal .exit) ≡ putOne no edit offset i w (now (indices .entry)) (flatOf c) (now (journal .entry))
+        ⌝ }
 {
     if no != 0 {
         return;
@@ -162,8 +177,14 @@ pub fn put_list(
     w: usize,
     list: &[Change],
 )
-    requires { ⌜ (no ≡ 0 → AllPuttable edit offset (length (now journal)) w (length (now indices)) (toldAll (now list))) ⌝ }
-    ensures { λ _. ⌜ now (journal .exit) ≡ putUpto no edit offset w (now (indices .entry)) (now (list .entry)) (now (journal .entry)) (length (now (list .entry))) ⌝ }
+    requires { ⌜
+        (no ≡ 0 → AllPuttable edit offset (length (now journal)) w (length (now indices)) (flatAll (now list)))
+        ⌝ }
+    ensures { λ _. ⌜
+        now (journal .exit)
+        ≡ putUpto no edit offset w (now (indices .entry)) (now (list .entry)) (now (journal .entry))
+        (length (now (list .entry)))
+        ⌝ }
 {
     let mut i: usize = 0;
     while i < list.len() {
@@ -174,8 +195,8 @@ pub fn put_list(
 
 // Paints the new of a change of an edit that was not refused at its place.
 pub fn paint_one(no: u8, edit: Edit, indices: &mut [i16], w: usize, c: Change)
-    requires { ⌜ (no ≡ 0 → Paintable edit w (length (now indices)) (told c)) ⌝ }
-    ensures { λ _. ⌜ now (indices .exit) ≡ paintOne no edit w (told c) (now (indices .entry)) ⌝ }
+    requires { ⌜ (no ≡ 0 → Paintable edit w (length (now indices)) (flatOf c)) ⌝ }
+    ensures { λ _. ⌜ now (indices .exit) ≡ paintOne no edit w (flatOf c) (now (indices .entry)) ⌝ }
 {
     if no != 0 {
         return;
@@ -200,8 +221,11 @@ pub fn paint_one(no: u8, edit: Edit, indices: &mut [i16], w: usize, c: Change)
 
 // The same of a list.
 pub fn paint_list(no: u8, edit: Edit, indices: &mut [i16], w: usize, list: &[Change])
-    requires { ⌜ (no ≡ 0 → AllPaintable edit w (length (now indices)) (toldAll (now list))) ⌝ }
-    ensures { λ _. ⌜ now (indices .exit) ≡ paintUpto no edit w (now (list .entry)) (now (indices .entry)) (length (now (list .entry))) ⌝ }
+    requires { ⌜ (no ≡ 0 → AllPaintable edit w (length (now indices)) (flatAll (now list))) ⌝ }
+    ensures { λ _. ⌜
+        now (indices .exit)
+        ≡ paintUpto no edit w (now (list .entry)) (now (indices .entry)) (length (now (list .entry)))
+        ⌝ }
 {
     let mut painted: usize = 0;
     while painted < list.len() {

@@ -7,11 +7,10 @@ use native.Mathlib.Decide.{decLt}
 use borrow.Author.Tests.{lt-ltb, le-ltb}
 use lib.ListN.{length, take, drop}
 use lib.Seq.{take-all, length-take-le, take-append-le}
-use Rattle.base_limits.specs.Checks.{firstOf}
-use Rattle.base_limits.specs.Answer.{filled}
-use Rattle.base_limits.specs.declared.Counted.{Counted}
-use Rattle.base_limits.specs.declared.Counted.the-variants.{Refused}
-use Rattle.base_lists.specs.Lists.{over}
+use Rattle.base.specs.Checks.{firstOf}
+use Rattle.base.specs.Answer.{filled, Told, leaving}
+use Rattle.base.specs.declared.Counted.the-variants.{Refused}
+use Rattle.base.specs.Lists.{over}
 use Rattle.edit.specs.Change.{unpacked}
 use Rattle.change_list.specs.Fronts.{Front}
 use Rattle.change_list.specs.Listed.{handed, InScratch}
@@ -78,8 +77,8 @@ module _ (room count : ℕ) (list stroke : List ℕ) {places n rm : ℕ} {s : Li
   unfolding extendOver
   over-refused m q h = scratch-none (λ out k. listed-refused (extendChecks count (length stroke) (length list) room) (extended (map unpacked (take count stroke)) (map unpacked list)) out m (rw (e, l, ← j) q) h)
 
-  pub over-done : {a : Counted} {k c : ℕ} (first second : List ℕ) → firstOf (extendChecks count places n rm) ≡ 0 → first ≡ take count stroke → second ≡ list
-      → Front (normalPacked (first ++ second)) s k → InScratch c places s (filled a) (handed (take k s)) → InScratch c places s (filled a) (extendOver room count list stroke)
+  pub over-done : {a : Told ℕ} {k c : ℕ} (first second : List ℕ) → firstOf (extendChecks count places n rm) ≡ 0 → first ≡ take count stroke → second ≡ list
+      → Front (normalPacked (first ++ second)) s k → InScratch c places s (leaving a) (handed (take k s)) → InScratch c places s (leaving a) (extendOver room count list stroke)
   unfolding extendOver extended normalPacked
   over-done first second z p q f d =
       scratch-then d (λ out after h v.

@@ -4,7 +4,7 @@ use mathlib.Core.Bool.{cond, _||_}
 use mathlib.Core.List.{List, map}
 use lib.Dec.{ltb}
 use lib.ListN.{length, take}
-use Rattle.base_limits.specs.Answer.{Filled}
+use Rattle.base.specs.Answer.{Filled}
 use Rattle.edit.specs.Change.{unpacked}
 use Rattle.change_list.specs.Listed.{listed}
 use Rattle.change_stroke.specs.Stroke.{extended, extendChecks}
@@ -15,4 +15,6 @@ roomFor flat more room count n = cond (ltb flat count || ltb more n) 0 room
 
 -- `extendCall` of a stroke and a list, over any buffer as long as the stroke
 unfoldable pub extendOver : ℕ → ℕ → List ℕ → List ℕ → List ℕ → Filled ℕ
-extendOver room count list stroke out = listed (extendChecks count (length stroke) (length list) room) (extended (map unpacked (take count stroke)) (map unpacked list)) out
+extendOver room count list stroke out =
+    listed (extendChecks count (length stroke) (length list) room)
+    (extended (map unpacked (take count stroke)) (map unpacked list)) out

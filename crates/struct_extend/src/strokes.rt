@@ -1,11 +1,11 @@
 // `Stroke::extend` of tools.rs: the stroke and the list are packed into lent buffers of numbers and normalised in
 // another, and the structs are filled from there.
-use base_limits::Counted;
+use base::Change;
+use base::Counted;
 use change_list::count_of;
 use change_list::counted;
 use change_normal::normalize_joined;
 use change_stroke::extend_no;
-use struct_change::Change;
 use struct_change::lesser;
 use struct_change::pack;
 use struct_change::unpack;
@@ -13,7 +13,7 @@ ghost use mathlib.Core.Path.{_≡_};
 ghost use mathlib.Core.List.{List, map};
 ghost use Prim.Native.Nat.{ℕ, _≤_};
 ghost use lib.ListN.{length, take};
-ghost use Rattle.base_limits.specs.Answer.{filled};
+ghost use Rattle.base.specs.Answer.{filled};
 ghost use Rattle.change_list.specs.Listed.{countOf, InScratch};
 ghost use Rattle.struct_change.specs.Struct.{packedOf, least};
 ghost use Rattle.change_stroke.specs.Stroke.{extendCall};
@@ -49,7 +49,14 @@ fn extend_packed(
     places: usize,
     scratch: &mut [u64],
 ) -> Counted
-    ensures { λ r. ⌜ ((stroke list : List ℕ) → length stroke ≡ places → length list ≡ n → (count ≤ places → count ≤ length (now (flat .entry)) → take count (now (flat .entry)) ≡ take count stroke) → (n ≤ length (now (more .entry)) → take n (now (more .entry)) ≡ list) → InScratch (countOf r) places (now (scratch .exit)) (filled r) (extendOver (roomFor (length (now (flat .entry))) (length (now (more .entry))) (length (now (scratch .entry))) count n) count list stroke)) ⌝ }
+    ensures { λ r. ⌜
+        ((stroke list : List ℕ) → length stroke ≡ places → length list ≡ n
+        → (count ≤ places → count ≤ length (now (flat .entry)) → take count (now (flat .entry)) ≡ take count stroke)
+        → (n ≤ length (now (more .entry)) → take n (now (more .entry)) ≡ list)
+        → InScratch (countOf r) places (now (scratch .exit)) (filled r) (extendOver
+        (roomFor (length (now (flat .entry))) (length (now (more .entry))) (length (now (scratch .entry))) count n)
+        count list stroke))
+        ⌝ }
 {
     let room = room_for(flat.len(), more.len(), scratch.len(), count, n);
     let no = extend_no(count, places, n, room);
@@ -69,7 +76,15 @@ pub fn extend(
     more: &mut [u64],
     scratch: &mut [u64],
 ) -> Counted
-    ensures { λ r. ⌜ (filled r (map packedOf (now (stroke .exit))) ≡ extendCall (roomFor (length (now (flat .entry))) (length (now (more .entry))) (length (now (scratch .entry))) count (length (now (list .entry)))) count (map packedOf (now (list .entry))) (map packedOf (now (stroke .entry)))) × (length (now (flat .exit)) ≡ length (now (flat .entry))) × (length (now (more .exit)) ≡ length (now (more .entry))) × (length (now (scratch .exit)) ≡ length (now (scratch .entry))) ⌝ }
+    ensures { λ r. ⌜
+        (filled r (map packedOf (now (stroke .exit)))
+        ≡ extendCall
+        (roomFor (length (now (flat .entry))) (length (now (more .entry))) (length (now (scratch .entry))) count
+        (length (now (list .entry)))) count (map packedOf (now (list .entry))) (map packedOf (now (stroke .entry))))
+        × (length (now (flat .exit)) ≡ length (now (flat .entry)))
+        × (length (now (more .exit)) ≡ length (now (more .entry)))
+        × (length (now (scratch .exit)) ≡ length (now (scratch .entry)))
+        ⌝ }
 {
     let n = list.len();
     let held = least_of(count, stroke.len(), flat.len());

@@ -1,6 +1,6 @@
 // `undo`, `redo` and `mark_saved` with the handle lent.
-use base_limits::Answer;
-use history_ledger::Handle;
+use base::Answer;
+use base::Handle;
 ghost use mathlib.Core.Path.{_≡_};
 ghost use lib.ListN.{length};
 ghost use Rattle.sheet.specs.Sheet.{sheetOf};
@@ -8,7 +8,7 @@ ghost use Rattle.history_ledger.specs.Journal.{undoOf, redoOf, markOf};
 ghost use Rattle.history_model.specs.Editing.{editing};
 ghost use Rattle.history_model.specs.Calls.{stateOf};
 ghost use Rattle.history_model.specs.Calls.{outcomeOf};
-ghost use Rattle.struct_push.specs.Lent.{left};
+ghost use Rattle.struct_push.specs.Lent.{leavesLent};
 
 // `history::undo`, with palette count and handle lent.
 pub fn undo(
@@ -21,7 +21,12 @@ pub fn undo(
     journal: &[u8],
     handle: &mut Handle,
 ) -> Answer
-    ensures { λ r. ⌜ left r w h (now (k .exit)) (now (palette .exit)) (now (lab .exit)) (now (indices .exit)) (now (journal .entry)) (now (handle .exit)) ≡ undoOf editing (stateOf (sheetOf w h (now (k .entry)) (now (palette .entry)) (now (lab .entry)) (now (indices .entry))) (now (journal .entry)) (now (handle .entry))) ⌝ }
+    ensures { λ r. ⌜ (
+        let sheet = sheetOf w h (now (k .entry)) (now (palette .entry)) (now (lab .entry)) (now (indices .entry)) in
+        leavesLent r w h (now (k .exit)) (now (palette .exit)) (now (lab .exit)) (now (indices .exit))
+        (now (journal .entry)) (now (handle .exit))
+        ≡ undoOf editing (stateOf sheet (now (journal .entry)) (now (handle .entry)))
+        ) ⌝ }
 {
     let undone = history::undo(w, h, *k, palette, lab, indices, journal, *handle);
     *k = undone.k;
@@ -41,7 +46,13 @@ pub fn redo(
     handle: &mut Handle,
     scratch: &mut [u8],
 ) -> Answer
-    ensures { λ r. ⌜ (left r w h (now (k .exit)) (now (palette .exit)) (now (lab .exit)) (now (indices .exit)) (now (journal .entry)) (now (handle .exit)) ≡ redoOf editing (length (now (scratch .entry))) (stateOf (sheetOf w h (now (k .entry)) (now (palette .entry)) (now (lab .entry)) (now (indices .entry))) (now (journal .entry)) (now (handle .entry)))) × (length (now (scratch .exit)) ≡ length (now (scratch .entry))) ⌝ }
+    ensures { λ r. ⌜ (
+        let sheet = sheetOf w h (now (k .entry)) (now (palette .entry)) (now (lab .entry)) (now (indices .entry)) in
+        (leavesLent r w h (now (k .exit)) (now (palette .exit)) (now (lab .exit)) (now (indices .exit))
+        (now (journal .entry)) (now (handle .exit))
+        ≡ redoOf editing (length (now (scratch .entry))) (stateOf sheet (now (journal .entry)) (now (handle .entry))))
+        × (length (now (scratch .exit)) ≡ length (now (scratch .entry)))
+        ) ⌝ }
 {
     let redone = history::redo(w, h, *k, palette, lab, indices, journal, *handle, scratch);
     *k = redone.k;

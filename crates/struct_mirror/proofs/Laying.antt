@@ -9,21 +9,22 @@ use lib.Dec.{ltb}
 use lib.IntN.{ℤ}
 use lib.ListN.{length, take}
 use lib.Seq.{take-all, length-take-le}
-use Rattle.base_limits.specs.Limits.{maxChanges}
-use Rattle.base_limits.specs.Numbers.{noSpace}
-use Rattle.base_limits.specs.Checks.{_when_, firstOf, refusedOr}
-use Rattle.base_limits.specs.Answer.{Filled, filled}
-use Rattle.base_limits.specs.declared.Counted.{Counted}
-use Rattle.base_limits.specs.declared.Counted.the-variants.{Count, Refused}
-use Rattle.base_lists.specs.Lists.{over, some}
-use Rattle.base_ints.proofs.Back.{never}
+use Rattle.base.specs.Limits.{maxChanges}
+use Rattle.base.specs.Numbers.{noSpace}
+use Rattle.base.specs.Checks.{_when_, firstOf, refusedOr}
+use Rattle.base.specs.Answer.{Told, Filled, leaving, filled, countTold}
+use Rattle.base.specs.declared.Counted.{Counted}
+use Rattle.base.specs.declared.Counted.the-variants.{Count, Refused}
+use Rattle.base.specs.Answer.Told.{alone}
+use Rattle.base.specs.Lists.{over, some}
+use Rattle.base.proofs.Back.{never}
 use Rattle.selection.specs.declared.Selection.{Selection}
 use Rattle.selection.specs.declared.Area.{Area}
 use Rattle.sheet.specs.Sheet.{Sheet}
 use Rattle.sheet.specs.Checks.{WellFormed}
 use Rattle.edit.specs.Change.{outside, packed, unpacked}
 use Rattle.change_list.specs.Fronts.{Front}
-use Rattle.change_list.specs.Listed.{handed, countOf, InScratch}
+use Rattle.change_list.specs.Listed.{handed, InScratch}
 use Rattle.change_list.proofs.InScratch.{scratch-then}
 use Rattle.struct_change.specs.Struct.{least}
 use Rattle.struct_change.specs.Scratch.{noRoom, needing}
@@ -61,24 +62,30 @@ module _ (room needed : ℕ) (call : List ℕ → Filled ℕ) where
   unfolding needing noRoom handed firstOf refusedOr
   needs-handed l out h e = rw (lt-ltb room needed h, e) (either (ltb (length out) (length l)))
     where
-      either : (b : Bool) → filled (Refused 16) out ≡ filled (noRoom (refusedOr (firstOf (noSpace when b ∷ [])) (λ n. filled (Refused n) out) (filled (Count (length l)) (over l out)) .answer)) out
+      either : (b : Bool) → filled (Refused 16) out ≡ leaving (noRoom (refusedOr (firstOf (noSpace when b ∷ [])) (λ n. filled (Refused n) out) (filled (Count (length l)) (over l out)) .answer)) out
       either true = refl
       either false = refl
 
 -- ---- what is laid over a buffer
+abbrev madeBy : Bool → Told ℕ → ℕ
+madeBy touched told = cond touched (countTold told) 0
+
+abbrev keptBy : Bool → Told ℕ → ℕ
+keptBy touched told = cond touched 0 (countTold told)
+
 module _ {room : ℕ} {scratch list : List ℕ} {call : List ℕ → Filled ℕ} where
-  pub laid-refused : (touched : Bool) (n : ℕ) → ((out : List ℕ) → length out ≡ room → filled (Refused n) out ≡ call out)
-      → Laid (madeOf touched (Refused n)) (keptOf touched (Refused n)) room scratch list (filled (Refused n)) call
+  pub laid-refused : (touched : Bool) (n : ℕ) → ((out : List ℕ) → length out ≡ room → leaving (alone n) out ≡ call out)
+      → Laid (madeBy touched (alone n)) (keptBy touched (alone n)) room scratch list (leaving (alone n)) call
   unfolding over
   laid-refused true n f = record { made-fits = omega arith; made-held = omega arith; kept-fits = omega arith; kept-held = omega arith; value = f }
   laid-refused false n f = record { made-fits = omega arith; made-held = omega arith; kept-fits = omega arith; kept-held = omega arith; value = f }
 
-  pub laid-kept : (touched : Bool) {r : Counted} → touched ≡ false → InScratch (countOf r) room list (filled r) call → Laid (madeOf touched r) (keptOf touched r) room scratch list (filled r) call
+  pub laid-kept : (touched : Bool) {r : Told ℕ} → touched ≡ false → InScratch (countTold r) room list (leaving r) call → Laid (madeBy touched r) (keptBy touched r) room scratch list (leaving r) call
   unfolding over
   laid-kept true e c = never (sym e)
   laid-kept false e c = record { made-fits = omega arith; made-held = omega arith; kept-fits = c .fits; kept-held = c .held; value = c .value }
 
-  pub laid-made : (touched : Bool) {r : Counted} → touched ≡ true → InScratch (countOf r) room scratch (filled r) call → Laid (madeOf touched r) (keptOf touched r) room scratch list (filled r) call
+  pub laid-made : (touched : Bool) {r : Told ℕ} → touched ≡ true → InScratch (countTold r) room scratch (leaving r) call → Laid (madeBy touched r) (keptBy touched r) room scratch list (leaving r) call
   unfolding over
   laid-made true e c = record { made-fits = c .fits; made-held = c .held; kept-fits = omega arith; kept-held = omega arith; value = c .value }
   laid-made false e c = never e
@@ -91,20 +98,20 @@ module _ (w h t : ℕ) (l : List ℤ) (region : Selection) (touched : Bool) (fla
   abbrev result : List ℕ
   result = mirrorList touched w h t l region list
 
-  abbrev Left : Counted → Type 0
-  Left r = Laid (madeOf touched r) (keptOf touched r) room scratch list (filled r) (needing (length flat) (readOf touched n) (handed result))
+  abbrev Left : Told ℕ → Type 0
+  Left r = Laid (madeBy touched r) (keptBy touched r) room scratch list (leaving r) (needing (length flat) (readOf touched n) (handed result))
 
-  pub finish-kept : {r : Counted} → touched ≡ false → (n ≤ length list → InScratch (countOf r) room list (filled r) (handed (take n list))) → Left r
+  pub finish-kept : {r : Told ℕ} → touched ≡ false → (n ≤ length list → InScratch (countTold r) room list (leaving r) (handed (take n list))) → Left r
   unfolding mirrorList
   finish-kept y c =
       laid-kept touched y
       (scratch-then (c (omega arith)) (λ out after k d. d ∙ ap (λ (m : List ℕ). handed m out) (take-all n list (omega arith) ∙ rw y) ∙ needs-none (length flat) (readOf touched n) (handed result) out (rw y)))
 
-  pub finish-short : touched ≡ true → length flat < n → Left (Refused 16)
+  pub finish-short : touched ≡ true → length flat < n → Left (alone 16)
   finish-short y h = laid-refused touched 16 (λ out k. needs-handed (length flat) (readOf touched n) (handed result) result out (rw y h) refl)
 
-  pub finish-made : {r : Counted} {c : ℕ} → touched ≡ true → n ≤ length flat → take n flat ≡ list → Front (map packed (mirrored w h t l region (map unpacked (take n flat)))) scratch c
-      → InScratch (countOf r) room scratch (filled r) (handed (take c scratch)) → Left r
+  pub finish-made : {r : Told ℕ} {c : ℕ} → touched ≡ true → n ≤ length flat → take n flat ≡ list → Front (map packed (mirrored w h t l region (map unpacked (take n flat)))) scratch c
+      → InScratch (countTold r) room scratch (leaving r) (handed (take c scratch)) → Left r
   unfolding mirrorList
   finish-made y h q f d =
       laid-made touched y
@@ -123,20 +130,20 @@ module _ (s : Sheet) (a : Area) (on : Bool) (t : ℕ) (touched : Bool) (n : ℕ)
     abbrev calls : List ℕ → Filled ℕ
     calls = mirrorCall s a on t list room
 
-    abbrev Meant : Counted → Type 0
-    Meant r = Laid (madeOf (touching on n t (s .w) (s .h)) r) (keptOf (touching on n t (s .w) (s .h)) r) places scratch list (filled r) (mirrorLent s a on t list (length flat) room)
+    abbrev Meant : Told ℕ → Type 0
+    Meant r = Laid (madeBy (touching on n t (s .w) (s .h)) r) (keptBy (touching on n t (s .w) (s .h)) r) places scratch list (leaving r) (mirrorLent s a on t list (length flat) room)
 
     lent-is : (out : List ℕ) → needing (length flat) (readOf touched n) calls out ≡ mirrorLent s a on t list (length flat) room out
     unfolding mirrorLent
     lent-is out = rw (e, is)
 
-    pub packed-refused : (m : ℕ) → stage.Refused m ≡ stageOf s a n off room → Meant (Refused m)
+    pub packed-refused : (m : ℕ) → stage.Refused m ≡ stageOf s a n off room → Meant (alone m)
     packed-refused m q =
         laid-refused (touching on n t (s .w) (s .h)) m
         (λ out k. needs-refused (length flat) (readOf touched n) calls m out (call-refused s a touched list off room on t out (rw e is) (rw is j) m (rw e q)) ∙ lent-is out)
 
-    pub packed-done : (region : Selection) {r : Counted} → Passed s a n off room region
-        → Laid (madeOf touched r) (keptOf touched r) places scratch list (filled r) (needing (length flat) (readOf touched n) (handed (mirrorList touched (s .w) (s .h) t (s .indices) region list))) → Meant r
+    pub packed-done : (region : Selection) {r : Told ℕ} → Passed s a n off room region
+        → Laid (madeBy touched r) (keptBy touched r) places scratch list (leaving r) (needing (length flat) (readOf touched n) (handed (mirrorList touched (s .w) (s .h) t (s .indices) region list))) → Meant r
     packed-done region p d =
         rw (← is)
         (laid-then d

@@ -5,9 +5,9 @@ use mathlib.Core.Path.{_≡_}
 use mathlib.Core.Bool.{Bool, cond}
 use mathlib.Core.List.{List}
 use lib.ListN.{length, take}
-use Rattle.base_limits.specs.Answer.{Filled}
-use Rattle.base_limits.specs.declared.Counted.{Counted}
-use Rattle.base_lists.specs.Lists.{over}
+use Rattle.base.specs.Answer.{Filled}
+use Rattle.base.specs.declared.Counted.{Counted}
+use Rattle.base.specs.Lists.{over}
 use Rattle.selection.specs.declared.Area.{Area}
 use Rattle.sheet.specs.Sheet.{Sheet}
 use Rattle.change_list.specs.Listed.{countOf}

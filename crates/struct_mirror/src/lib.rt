@@ -5,13 +5,13 @@
 // Two buffers of numbers are lent as scratch; what they hold after the call is free.
 mod packed;
 
-use base_limits::Counted;
+use base::Change;
+use base::Counted;
 use packed::kept_of;
 use packed::made_of;
 use packed::mirror_packed;
 use packed::read_of;
 use selection::Area;
-use struct_change::Change;
 use struct_change::any_outside;
 use struct_change::copy_front;
 use struct_change::lesser;
@@ -21,7 +21,7 @@ use tile_mirror_checks::is_touching;
 ghost use mathlib.Core.Path.{_≡_};
 ghost use mathlib.Core.List.{map};
 ghost use lib.ListN.{length};
-ghost use Rattle.base_limits.specs.Answer.{filled};
+ghost use Rattle.base.specs.Answer.{filled};
 ghost use Rattle.sheet.specs.Sheet.{sheetOf};
 ghost use Rattle.struct_change.specs.Struct.{packedOf};
 ghost use Rattle.struct_mirror.specs.Lent.{mirrorLent};
@@ -44,7 +44,14 @@ pub fn mirror_tiles(
     scratch: &mut [u64],
     out: &mut [Change],
 ) -> Counted
-    ensures { λ r. ⌜ (filled r (map packedOf (now (out .exit))) ≡ mirrorLent (sheetOf w h k (now (palette .entry)) (now (lab .entry)) (now (indices .entry))) area on t (map packedOf (now (list .entry))) (length (now (flat .entry))) (length (now (scratch .entry))) (map packedOf (now (out .entry)))) × (length (now (flat .exit)) ≡ length (now (flat .entry))) × (length (now (scratch .exit)) ≡ length (now (scratch .entry))) ⌝ }
+    ensures { λ r. ⌜ (
+        let sheet = sheetOf w h k (now (palette .entry)) (now (lab .entry)) (now (indices .entry)) in
+        (filled r (map packedOf (now (out .exit)))
+        ≡ mirrorLent sheet area on t (map packedOf (now (list .entry))) (length (now (flat .entry)))
+        (length (now (scratch .entry))) (map packedOf (now (out .entry))))
+        × (length (now (flat .exit)) ≡ length (now (flat .entry)))
+        × (length (now (scratch .exit)) ≡ length (now (scratch .entry)))
+        ) ⌝ }
 {
     let n = list.len();
     let places = flat.len();

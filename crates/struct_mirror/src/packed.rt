@@ -1,6 +1,6 @@
 // `mirror_tiles` for a list that is packed into a buffer of numbers where it is touched.
-use base_limits::Counted;
-use base_limits::NO_SPACE;
+use base::Counted;
+use base::NO_SPACE;
 use change_list::count_of;
 use change_list::counted;
 use selection::Area;
@@ -14,8 +14,8 @@ ghost use mathlib.Core.Bool.{true};
 ghost use mathlib.Core.List.{List, map};
 ghost use Prim.Native.Nat.{ℕ, _*_, _≤_};
 ghost use lib.ListN.{length, take};
-ghost use Rattle.base_limits.specs.Answer.{filled};
-ghost use Rattle.base_lists.specs.Lists.{some};
+ghost use Rattle.base.specs.Answer.{filled};
+ghost use Rattle.base.specs.Lists.{some};
 ghost use Rattle.sheet.specs.Sheet.{sheetOf};
 ghost use Rattle.edit.specs.Change.{outside, unpacked};
 ghost use Rattle.change_list.specs.Listed.{handed};
@@ -68,8 +68,17 @@ fn finish(
     scratch: &mut [u64],
     room: usize,
 ) -> Counted
-    requires { ⌜ (touched ≡ true → n ≤ length (now flat) → Mirrorable w h t (now indices) (take n (now flat))) × (w * h ≤ length (now scratch)) ⌝ }
-    ensures { λ r. ⌜ ((list : List ℕ) → length list ≡ n → (touched ≡ true → n ≤ length (now (flat .entry)) → take n (now (flat .entry)) ≡ list) → Laid (madeOf touched r) (keptOf touched r) room (now (scratch .exit)) list (filled r) (needing (length (now (flat .entry))) (readOf touched n) (handed (mirrorList touched w h t (now (indices .entry)) s list)))) ⌝ }
+    requires { ⌜
+        (touched ≡ true → n ≤ length (now flat) → Mirrorable w h t (now indices) (take n (now flat)))
+        × (w * h ≤ length (now scratch))
+        ⌝ }
+    ensures { λ r. ⌜
+        ((list : List ℕ) → length list ≡ n
+        → (touched ≡ true → n ≤ length (now (flat .entry)) → take n (now (flat .entry)) ≡ list)
+        → Laid (madeOf touched r) (keptOf touched r) room (now (scratch .exit)) list (filled r)
+        (needing (length (now (flat .entry))) (readOf touched n)
+        (handed (mirrorList touched w h t (now (indices .entry)) s list))))
+        ⌝ }
 {
     if !touched {
         return counted(n, room);
@@ -99,8 +108,17 @@ pub(crate) fn mirror_packed(
     scratch: &mut [u64],
     room: usize,
 ) -> Counted
-    requires { ⌜ (touching on n t w h ≡ true → n ≤ length (now flat) → off ≡ some (outside w h) (map unpacked (take n (now flat)))) ⌝ }
-    ensures { λ r. ⌜ ((list : List ℕ) → length list ≡ n → off ≡ straying (touching on n t w h) w h list → (touching on n t w h ≡ true → n ≤ length (now (flat .entry)) → take n (now (flat .entry)) ≡ list) → Laid (madeOf (touching on n t w h) r) (keptOf (touching on n t w h) r) room (now (scratch .exit)) list (filled r) (mirrorLent (sheetOf w h k (now (palette .entry)) (now (lab .entry)) (now (indices .entry))) area on t list (length (now (flat .entry))) (length (now (scratch .entry))))) ⌝ }
+    requires { ⌜
+        (touching on n t w h ≡ true → n ≤ length (now flat) → off ≡ some (outside w h) (map unpacked (take n (now flat))))
+        ⌝ }
+    ensures { λ r. ⌜
+        ((list : List ℕ) → length list ≡ n → off ≡ straying (touching on n t w h) w h list
+        → (touching on n t w h ≡ true → n ≤ length (now (flat .entry)) → take n (now (flat .entry)) ≡ list)
+        → Laid (madeOf (touching on n t w h) r) (keptOf (touching on n t w h) r) room (now (scratch .exit)) list
+        (filled r)
+        (mirrorLent (sheetOf w h k (now (palette .entry)) (now (lab .entry)) (now (indices .entry))) area on t list
+        (length (now (flat .entry))) (length (now (scratch .entry)))))
+        ⌝ }
 {
     let touched = is_touching(on, n, t, w, h);
     let places = scratch.len();

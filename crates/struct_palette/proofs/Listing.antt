@@ -6,8 +6,8 @@ use native.Mathlib.Omega.{arith}
 use native.Mathlib.Decide.{ℕ-discrete, decLt}
 use lib.ListN.{length, take, drop, length-append}
 use lib.Seq.{length-take-le, take-at}
-use Rattle.base_lists.specs.Lists.{over}
-use Rattle.base_lists.proofs.Over.{length-over}
+use Rattle.base.specs.Lists.{over}
+use Rattle.base.proofs.Over.{length-over}
 use Rattle.change_list.specs.Listed.{InScratch}
 use Rattle.change_list.proofs.InScratch.{scratch-none}
 use Rattle.struct_change.specs.Struct.{least}

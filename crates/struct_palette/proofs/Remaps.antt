@@ -6,36 +6,36 @@ use native.Mathlib.Omega.{arith}
 use borrow.Author.Tests.{lt-ltb, le-ltb}
 use lib.IntN.{ℤ, pos}
 use lib.ListN.{length, take, drop, length-map}
-use Rattle.base_limits.specs.Checks.{Check, firstOf}
-use Rattle.base_lists.specs.Lists.{over}
+use Rattle.base.specs.Checks.{Check, firstOf}
+use Rattle.base.specs.Lists.{over}
 use Rattle.sheet.specs.Sheet.{Sheet}
-use Rattle.base_storage.specs.Triples.{rgbAt}
-use Rattle.edit.specs.declared.Edit.the-variants.{PaletteRemove}
+use Rattle.base.specs.Triples.{rgbAt}
+use Rattle.base.specs.declared.Edit.the-variants.{PaletteRemove}
 use Rattle.edit.specs.Change.{packed}
 use Rattle.change_list.specs.Listed.{InScratch}
 use Rattle.change_list.proofs.InScratch.{scratch-none, scratch-then}
 use Rattle.struct_change.specs.Struct.{least}
 use Rattle.edit_pixels.specs.Listing.{placesFrom}
 use Rattle.edit_pixels.proofs.Places.{places-few}
-use Rattle.palette_remove.specs.declared.Removal.{Removal}
-use Rattle.palette_remove.specs.declared.Removal.the-variants as removal
+use Rattle.base.specs.Answer.{Told, Op, op, opCount}
+use Rattle.base.specs.Answer.Told.{result, alone}
 use Rattle.edit_entries.specs.Unfilled.{noLab}
 use Rattle.palette_nearest.specs.Nearest.{otherChecks, nearestOther}
-use Rattle.palette_remove.specs.Removal.{remapOf, Remapped, remapped, removeTo, removeEntryOf, mergeChecks, mergeEntriesOf}
+use Rattle.palette_remove.specs.Removal.{remapOf, Remapped, remapping, removeTo, removeEntryOf, mergeChecks, mergeEntriesOf}
 use Rattle.palette_remove.proofs.Answers.{remap-length, remove-refused, remove-past, remove-short, remove-done}
-use Rattle.struct_palette.specs.Scratch.{removalCount, noRemoval, needingRemap}
+use Rattle.struct_palette.specs.Scratch.{noRemoval, needingRemap}
 use Rattle.struct_palette.proofs.Listing.{Lists, listed-in, none-same}
 
 -- ---- a remap over a list
-abbrev Listing : (List ℕ → Remapped) → List ℕ → ℕ → Removal → Type 0
-Listing call ns n done = Lists remapped (λ f. f .answer) (λ f. f .list) (λ r f. refl) (λ r f. refl) removalCount removal.Refused (λ k. refl) call ns n done
+abbrev Listing : (List ℕ → Remapped) → List ℕ → ℕ → Told Op → Type 0
+Listing call ns n done = Lists remapping (λ f. f .answer) (λ f. f .list) (λ r f. refl) (λ r f. refl) opCount alone (λ k. refl) call ns n done
 
-count-none : (a : Removal) → removalCount (noRemoval a) ≡ 0
+count-none : (a : Told Op) → opCount (noRemoval a) ≡ 0
 unfolding noRemoval
-count-none (removal.Made edit n) = refl
-count-none (removal.Refused n) = refl
+count-none (result o) = refl
+count-none (alone n) = refl
 
-none-refused : (n : ℕ) → noRemoval (removal.Refused n) ≡ removal.Refused n
+none-refused : (n : ℕ) → noRemoval (alone n) ≡ alone n
 unfolding noRemoval
 none-refused n = refl
 
@@ -46,8 +46,8 @@ module _ (checks : List Check) (w : ℕ) (palette : List ℕ) (l : List ℤ) (i 
   long : length ns ≡ length (placesFrom (pos i) 0 l)
   long = length-map (remapOf w l i target) packed ∙ remap-length w l i target
 
-  abbrev made : Removal
-  made = removal.Made (PaletteRemove i (rgbAt palette i) noLab) (length (placesFrom (pos i) 0 l))
+  abbrev made : Told Op
+  made = result (op (PaletteRemove i (rgbAt palette i) noLab) (length (placesFrom (pos i) 0 l)))
 
   listing : Listing (removeTo checks w palette l i target) ns (firstOf checks) made
   listing = record {
@@ -57,24 +57,24 @@ module _ (checks : List Check) (w : ℕ) (palette : List ℕ) (l : List ℤ) (i 
     counts = sym long;
   }
 
-  none-made : noRemoval made ≡ removal.Refused 16
+  none-made : noRemoval made ≡ alone 16
   unfolding noRemoval
   none-made = refl
 
   -- ---- with scratch
   module _ {call : List ℕ → Remapped} (is : call ≡ removeTo checks w palette l i target) (room : ℕ) where
-    pub short-remap : {r r′ : Removal} {f g s : List ℕ} {places : ℕ} → room < length l → remapped r f ≡ call g → r′ ≡ noRemoval r → InScratch (removalCount r′) places s (remapped r′) (needingRemap room (length l) call)
+    pub short-remap : {r r′ : Told Op} {f g s : List ℕ} {places : ℕ} → room < length l → remapping r f ≡ call g → r′ ≡ noRemoval r → InScratch (opCount r′) places s (remapping r′) (needingRemap room (length l) call)
     unfolding needingRemap
     short-remap {r} h d e =
         rw (e, count-none r)
         (scratch-none (λ out k. rw (lt-ltb room (length l) h, is)
-        (ap (λ (a : Removal). remapped a out) (none-same remapped (λ f. f .answer) (λ f. f .list) (λ r f. refl) (λ r f. refl) removalCount removal.Refused (λ k. refl) listing noRemoval none-refused none-made (rw is at d) out))))
+        (ap (λ (a : Told Op). remapping a out) (none-same remapping (λ f. f .answer) (λ f. f .list) (λ r f. refl) (λ r f. refl) opCount alone (λ k. refl) listing noRemoval none-refused none-made (rw is at d) out))))
 
-    pub remap-in : {r : Removal} {f : List ℕ} (s : List ℕ) (m places : ℕ) → length l ≤ room → room ≡ length s → m ≡ least places (length s) → remapped r f ≡ call (take m s)
-        → InScratch (removalCount r) places (f ++ drop m s) (remapped r) (needingRemap room (length l) call)
+    pub remap-in : {r : Told Op} {f : List ℕ} (s : List ℕ) (m places : ℕ) → length l ≤ room → room ≡ length s → m ≡ least places (length s) → remapping r f ≡ call (take m s)
+        → InScratch (opCount r) places (f ++ drop m s) (remapping r) (needingRemap room (length l) call)
     unfolding needingRemap
     remap-in {r} {f} s m places h k q d =
-        scratch-then (listed-in remapped (λ f. f .answer) (λ f. f .list) (λ r f. refl) (λ r f. refl) removalCount removal.Refused (λ k. refl) listing s f r m places q
+        scratch-then (listed-in remapping (λ f. f .answer) (λ f. f .list) (λ r f. refl) (λ r f. refl) opCount alone (λ k. refl) listing s f r m places q
         (λ z. omega (arith, long, places-few (pos i) 0 l)) (rw is at d))
         (λ out after j p. rw (le-ltb room (length l) h, is) p)
 

@@ -1,12 +1,13 @@
 // `remove_entry` and `merge_entries` of palette.rs.
-use base_limits::NO_SPACE;
-use palette_remove::Removal;
-use struct_change::Change;
+use base::Change;
+use base::NO_SPACE;
+use base::Removal;
 use struct_change::lesser;
 use struct_change::unpack;
 ghost use mathlib.Core.Path.{_≡_};
 ghost use mathlib.Core.List.{map};
 ghost use lib.ListN.{length};
+ghost use Rattle.base.specs.Answer.{removalTold};
 ghost use Rattle.sheet.specs.Sheet.{sheetOf};
 ghost use Rattle.change_list.specs.Listed.{InScratch};
 ghost use Rattle.struct_change.specs.Struct.{packedOf};
@@ -25,7 +26,7 @@ fn removal_count(answer: Removal) -> usize
 
 // What a call answers that has too little scratch: 16, where nothing else refuses it.
 fn no_removal(answer: Removal) -> Removal
-    ensures { λ r. ⌜ r ≡ noRemoval answer ⌝ }
+    ensures { λ r. ⌜ removalTold r ≡ noRemoval (removalTold answer) ⌝ }
 {
     match answer {
         Removal::Made { edit: _, count: _ } => Removal::Refused(NO_SPACE),
@@ -45,7 +46,11 @@ fn remove_entry_in(
     scratch: &mut [u64],
     room: usize,
 ) -> Removal
-    ensures { λ r. ⌜ InScratch (removalCount r) room (now (scratch .exit)) (remapped r) (needingRemap (length (now (scratch .entry))) (length (now (indices .entry))) (removeEntryOf (sheetOf w h k (now (palette .entry)) (now (lab .entry)) (now (indices .entry))) index)) ⌝ }
+    ensures { λ r. ⌜ (
+        let sheet = sheetOf w h k (now (palette .entry)) (now (lab .entry)) (now (indices .entry)) in
+        InScratch (removalCount r) room (now (scratch .exit)) (remapped r)
+        (needingRemap (length (now (scratch .entry))) (length (now (indices .entry))) (removeEntryOf sheet index))
+        ) ⌝ }
 {
     if scratch.len() < indices.len() {
         let r = palette_remove::remove_entry(
@@ -76,7 +81,12 @@ pub fn remove_entry(
     scratch: &mut [u64],
     out: &mut [Change],
 ) -> Removal
-    ensures { λ r. ⌜ (remapped r (map packedOf (now (out .exit))) ≡ needingRemap (length (now (scratch .entry))) (length (now (indices .entry))) (removeEntryOf (sheetOf w h k (now (palette .entry)) (now (lab .entry)) (now (indices .entry))) index) (map packedOf (now (out .entry)))) × (length (now (scratch .exit)) ≡ length (now (scratch .entry))) ⌝ }
+    ensures { λ r. ⌜ (
+        let sheet = sheetOf w h k (now (palette .entry)) (now (lab .entry)) (now (indices .entry)) in
+        (remapped r (map packedOf (now (out .exit)))
+        ≡ needingRemap (length (now (scratch .entry))) (length (now (indices .entry))) (removeEntryOf sheet index)
+        (map packedOf (now (out .entry)))) × (length (now (scratch .exit)) ≡ length (now (scratch .entry)))
+        ) ⌝ }
 {
     let r = remove_entry_in(w, h, k, palette, lab, indices, index, scratch, out.len());
     let n = removal_count(r);
@@ -97,7 +107,11 @@ fn merge_entries_in(
     scratch: &mut [u64],
     room: usize,
 ) -> Removal
-    ensures { λ r. ⌜ InScratch (removalCount r) room (now (scratch .exit)) (remapped r) (needingRemap (length (now (scratch .entry))) (length (now (indices .entry))) (mergeEntriesOf (sheetOf w h k (now (palette .entry)) (now (lab .entry)) (now (indices .entry))) from into)) ⌝ }
+    ensures { λ r. ⌜ (
+        let sheet = sheetOf w h k (now (palette .entry)) (now (lab .entry)) (now (indices .entry)) in
+        InScratch (removalCount r) room (now (scratch .exit)) (remapped r)
+        (needingRemap (length (now (scratch .entry))) (length (now (indices .entry))) (mergeEntriesOf sheet from into))
+        ) ⌝ }
 {
     if scratch.len() < indices.len() {
         let r = palette_remove::merge_entries(
@@ -140,7 +154,12 @@ pub fn merge_entries(
     scratch: &mut [u64],
     out: &mut [Change],
 ) -> Removal
-    ensures { λ r. ⌜ (remapped r (map packedOf (now (out .exit))) ≡ needingRemap (length (now (scratch .entry))) (length (now (indices .entry))) (mergeEntriesOf (sheetOf w h k (now (palette .entry)) (now (lab .entry)) (now (indices .entry))) from into) (map packedOf (now (out .entry)))) × (length (now (scratch .exit)) ≡ length (now (scratch .entry))) ⌝ }
+    ensures { λ r. ⌜ (
+        let sheet = sheetOf w h k (now (palette .entry)) (now (lab .entry)) (now (indices .entry)) in
+        (remapped r (map packedOf (now (out .exit)))
+        ≡ needingRemap (length (now (scratch .entry))) (length (now (indices .entry))) (mergeEntriesOf sheet from into)
+        (map packedOf (now (out .entry)))) × (length (now (scratch .exit)) ≡ length (now (scratch .entry)))
+        ) ⌝ }
 {
     let r = merge_entries_in(
         w,

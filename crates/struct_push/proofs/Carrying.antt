@@ -9,13 +9,13 @@ use lib.IntN.{ℤ}
 use lib.Ieee.{Float}
 use lib.ListN.{length, take, drop, length-map}
 use lib.Seq.{drop-drop}
-use Rattle.base_limits.specs.Checks.{refusedOr}
-use Rattle.base_lists.specs.Lists.{some, over}
-use Rattle.base_ints.proofs.Back.{never}
+use Rattle.base.specs.Checks.{refusedOr}
+use Rattle.base.specs.Lists.{some, over}
+use Rattle.base.proofs.Back.{never}
 use Rattle.color_lab.specs.Convert.{labOf}
 use Rattle.sheet.specs.Sheet.{Sheet, sheetOf}
-use Rattle.edit.specs.declared.Edit.{Edit}
-use Rattle.edit.specs.declared.Edit.the-variants.{Pixels, PaletteSet, PaletteAdd, PaletteRemove}
+use Rattle.base.specs.declared.Edit.{Edit}
+use Rattle.base.specs.declared.Edit.the-variants.{Pixels, PaletteSet, PaletteAdd, PaletteRemove}
 use Rattle.edit.specs.Change as flat
 use Rattle.edit.specs.Apply.{noPixels, filledEdit, filledChanges, redone}
 use Rattle.edit_apply.specs.Redoable.{Redoable}
@@ -26,13 +26,13 @@ use Rattle.journal_record.specs.Record.{recordLength, recordOf}
 use Rattle.journal_frame.specs.Frame.{around, Framed}
 use Rattle.journal_frame.proofs.Framing.{within}
 use Rattle.journal_write.proofs.OnTheSheet.{rows-fill}
-use Rattle.struct_change.specs.declared.Change.{Change}
-use Rattle.struct_edit.specs.Walk.{packedAll, toldAll, paintUpto, putUpto, AllPuttable, AllPaintable}
+use Rattle.base.specs.declared.Change.{Change}
+use Rattle.struct_edit.specs.Walk.{packedAll, flatAll, paintUpto, putUpto, AllPuttable, AllPaintable}
 use Rattle.struct_edit.proofs.Told.{told-length}
 use Rattle.struct_edit.proofs.Putting.{refused-unwritten}
 use Rattle.struct_edit.proofs.Whole.{painted-all}
 use Rattle.struct_edit.proofs.Journaled.{put-all, whole-record}
-use Rattle.history_ledger.specs.declared.Handle.{Handle}
+use Rattle.base.specs.declared.Handle.{Handle}
 use Rattle.history_ledger.specs.Handle.{afterPush}
 use Rattle.history_ledger.specs.Calls.{done}
 use Rattle.history_ledger.specs.Journal.{State, written, pushed}
@@ -101,7 +101,7 @@ module _ (w h k : ℕ) (palette : List ℕ) (lab : List Float) (indices : List �
   st = stateOf s journal handle
 
   abbrev cs : List flat.Change
-  cs = toldAll list
+  cs = flatAll list
 
   module _ (stands : Standing st) (fine : noPixels e cs ≡ false → Acceptable st e cs) where
     redo : Acceptable st e cs → Redoable w k palette lab indices e cs

@@ -9,11 +9,11 @@ use lib.ListN.{length, take, drop, length-drop, drop-of-length-le}
 use lib.Seq.{take-all, length-take-le}
 use Rattle.color_lab.specs.Convert.{labOf}
 use Rattle.sheet.specs.Sheet.{Sheet, sheetOf}
-use Rattle.edit.specs.declared.Edit.{Edit}
+use Rattle.base.specs.declared.Edit.{Edit}
 use Rattle.edit.specs.Apply.{filledEdit, redone}
 use Rattle.journal_record.specs.Record.{recordLength}
 use Rattle.journal_frame.specs.Frame.{around, Framed}
-use Rattle.history_ledger.specs.declared.Handle.{Handle}
+use Rattle.base.specs.declared.Handle.{Handle}
 use Rattle.history_ledger.specs.Handle.{afterPush}
 use Rattle.history_ledger.specs.Journal.{State}
 use Rattle.history_model.specs.Editing.{editing}

@@ -2,7 +2,7 @@
 use mathlib.Core.Path.{_≡_, refl}
 use mathlib.Core.Bool.{Bool, true, false, cond}
 use Prim.Native.Nat.{ℕ, zero, suc}
-use Rattle.base_limits.specs.Checks.{orElse, firstOf, refusedOr}
+use Rattle.base.specs.Checks.{orElse, firstOf, refusedOr}
 use Rattle.edit.specs.Apply.{noPixels}
 use Rattle.history_ledger.specs.Calls.{refused, still, done}
 use Rattle.history_ledger.specs.Journal.{State, entryChecks, pushChecks, pushOf, pushed}

@@ -3,15 +3,16 @@ use mathlib.Core.List.{List}
 use Prim.Native.Nat.{ℕ}
 use lib.IntN.{ℤ}
 use lib.Ieee.{Float}
-use Rattle.base_limits.specs.declared.Answer.{Answer}
+use Rattle.base.specs.Answer.{answerTold}
+use Rattle.base.specs.declared.Answer.{Answer}
 use Rattle.sheet.specs.Sheet.{sheetOf}
-use Rattle.history_ledger.specs.declared.Handle.{Handle}
+use Rattle.base.specs.declared.Handle.{Handle}
 use Rattle.history_ledger.specs.Calls.{Outcome}
 use Rattle.history_ledger.specs.Journal.{State}
 use Rattle.history_model.specs.Editing.{editing}
 use Rattle.history_model.specs.Calls.{stateOf}
 
 -- the answer, and sheet, journal and handle after the call
-abbrev pub left : Answer → ℕ → ℕ → ℕ → List ℕ → List Float → List ℤ → List ℕ → Handle → Outcome (State editing)
-left answer w h k palette lab indices journal handle =
-    record { answer = answer; leaves = stateOf (sheetOf w h k palette lab indices) journal handle }
+abbrev pub leavesLent : Answer → ℕ → ℕ → ℕ → List ℕ → List Float → List ℤ → List ℕ → Handle → Outcome (State editing)
+leavesLent answer w h k palette lab indices journal handle =
+    record { answer = answerTold answer; leaves = stateOf (sheetOf w h k palette lab indices) journal handle }

@@ -1,15 +1,18 @@
 // `push` over a list of change structs, which is read where it lies: checked, then written into the record and
 // painted, change by change.
-use base_limits::Answer;
-use edit::Edit;
+use base::Answer;
+use base::Change;
+use base::Edit;
+use base::Handle;
+use base::Moved;
+use edit::is_empty;
 use edit_apply::fill_edit;
 use edit_head::finish_edit;
-use history_ledger::Handle;
 use history_ledger::after_push;
-use history_model::Moved;
 use history_model::record_length;
+use history_model::refused;
+use history_model::still;
 use journal_frame::write_around;
-use struct_change::Change;
 use struct_edit::paint_list;
 use struct_edit::put_list;
 use struct_push_checks::push_no;
@@ -20,11 +23,11 @@ ghost use Prim.Native.Nat.{ℕ};
 ghost use lib.ListN.{length};
 ghost use Rattle.sheet.specs.Sheet.{sheetOf};
 ghost use Rattle.edit.specs.Apply.{noPixels};
-ghost use Rattle.struct_edit.specs.Walk.{packedAll, toldAll};
+ghost use Rattle.struct_edit.specs.Walk.{packedAll, flatAll};
 ghost use Rattle.history_ledger.specs.Journal.{pushOf, pushed};
 ghost use Rattle.history_model.specs.Editing.{editing, givenOf};
 ghost use Rattle.history_model.specs.Calls.{stateOf, leaves, Standing, Acceptable};
-ghost use Rattle.struct_push.specs.Lent.{left};
+ghost use Rattle.struct_push.specs.Lent.{leavesLent};
 ghost use Rattle.struct_replay.specs.Phases.{nonePut, pushedOr, finished, Finishes};
 
 // What a push does beside its list, where it was not refused: the record is written around the changes into the
@@ -41,13 +44,20 @@ fn finish(
     handle: Handle,
 ) -> Moved
     requires { ⌜ (no ≡ 0 → nonePut edit n ≡ false → Finishes k (now palette) (now lab) (now journal) handle edit n) ⌝ }
-    ensures { λ r. ⌜ ((w h : ℕ) → leaves r w h (now (palette .exit)) (now (lab .exit)) (now (indices .exit)) (now (journal .exit)) ≡ pushedOr no (nonePut edit n) (stateOf (sheetOf w h k (now (palette .entry)) (now (lab .entry)) (now (indices .entry))) (now (journal .entry)) handle) (finished (stateOf (sheetOf w h k (now (palette .entry)) (now (lab .entry)) (now (indices .entry))) (now (journal .entry)) handle) edit n)) ⌝ }
+    ensures { λ r. ⌜
+        ((w h : ℕ) → leaves r w h (now (palette .exit)) (now (lab .exit)) (now (indices .exit)) (now (journal .exit))
+        ≡ pushedOr no (nonePut edit n)
+        (stateOf (sheetOf w h k (now (palette .entry)) (now (lab .entry)) (now (indices .entry))) (now (journal .entry))
+        handle) (finished
+        (stateOf (sheetOf w h k (now (palette .entry)) (now (lab .entry)) (now (indices .entry))) (now (journal .entry))
+        handle) edit n))
+        ⌝ }
 {
     if no != 0 {
-        return Moved::refused(no, k, handle);
+        return refused(no, k, handle);
     }
-    if edit.is_empty(n) {
-        return Moved::still(k, handle);
+    if is_empty(edit, n) {
+        return still(k, handle);
     }
     let offset = handle.offset;
     let filled = fill_edit(palette, lab, edit);
@@ -74,8 +84,21 @@ fn carry_out(
     journal: &mut [u8],
     handle: Handle,
 ) -> Moved
-    requires { ⌜ (no ≡ 0 → Standing (stateOf (sheetOf w h k (now palette) (now lab) (now indices)) (now journal) handle)) × (no ≡ 0 → noPixels edit (toldAll (now list)) ≡ false → Acceptable (stateOf (sheetOf w h k (now palette) (now lab) (now indices)) (now journal) handle) edit (toldAll (now list))) ⌝ }
-    ensures { λ r. ⌜ ((limited : Bool) (permitted : List ℕ) → leaves r w h (now (palette .exit)) (now (lab .exit)) (now (indices .exit)) (now (journal .exit)) ≡ pushedOr no (noPixels edit (toldAll (now (list .entry)))) (stateOf (sheetOf w h k (now (palette .entry)) (now (lab .entry)) (now (indices .entry))) (now (journal .entry)) handle) (pushed editing (stateOf (sheetOf w h k (now (palette .entry)) (now (lab .entry)) (now (indices .entry))) (now (journal .entry)) handle) (givenOf limited permitted edit (packedAll (now (list .entry)))))) ⌝ }
+    requires { ⌜
+        (no ≡ 0 → Standing (stateOf (sheetOf w h k (now palette) (now lab) (now indices)) (now journal) handle))
+        × (no ≡ 0 → noPixels edit (flatAll (now list)) ≡ false
+        → Acceptable (stateOf (sheetOf w h k (now palette) (now lab) (now indices)) (now journal) handle) edit
+        (flatAll (now list)))
+        ⌝ }
+    ensures { λ r. ⌜
+        ((limited : Bool) (permitted : List ℕ)
+        → leaves r w h (now (palette .exit)) (now (lab .exit)) (now (indices .exit)) (now (journal .exit))
+        ≡ pushedOr no (noPixels edit (flatAll (now (list .entry))))
+        (stateOf (sheetOf w h k (now (palette .entry)) (now (lab .entry)) (now (indices .entry))) (now (journal .entry))
+        handle) (pushed editing
+        (stateOf (sheetOf w h k (now (palette .entry)) (now (lab .entry)) (now (indices .entry))) (now (journal .entry))
+        handle) (givenOf limited permitted edit (packedAll (now (list .entry))))))
+        ⌝ }
 {
     let n = list.len();
     let offset = handle.offset;
@@ -101,7 +124,14 @@ pub fn push(
     handle: &mut Handle,
     scratch: &mut [u8],
 ) -> Answer
-    ensures { λ r. ⌜ (left r w h (now (k .exit)) (now (palette .exit)) (now (lab .exit)) (now (indices .exit)) (now (journal .exit)) (now (handle .exit)) ≡ pushOf editing (length (now (scratch .entry))) (stateOf (sheetOf w h (now (k .entry)) (now (palette .entry)) (now (lab .entry)) (now (indices .entry))) (now (journal .entry)) (now (handle .entry))) (givenOf limited (now (permitted .entry)) edit (packedAll (now (list .entry))))) × (length (now (scratch .exit)) ≡ length (now (scratch .entry))) ⌝ }
+    ensures { λ r. ⌜ (
+        let sheet = sheetOf w h (now (k .entry)) (now (palette .entry)) (now (lab .entry)) (now (indices .entry)) in
+        (leavesLent r w h (now (k .exit)) (now (palette .exit)) (now (lab .exit)) (now (indices .exit))
+        (now (journal .exit)) (now (handle .exit))
+        ≡ pushOf editing (length (now (scratch .entry))) (stateOf sheet (now (journal .entry)) (now (handle .entry)))
+        (givenOf limited (now (permitted .entry)) edit (packedAll (now (list .entry)))))
+        × (length (now (scratch .exit)) ≡ length (now (scratch .entry)))
+        ) ⌝ }
 {
     let count = *k;
     let held = *handle;

@@ -9,31 +9,31 @@ use lib.Dec.{ltb}
 use lib.IntN.{ℤ, pos}
 use lib.Ieee.{Float}
 use lib.ListN.{length, replicate, length-replicate}
-use Rattle.base_limits.specs.Limits.{maxChanges, maxJournal}
-use Rattle.base_limits.specs.Checks.{orElse, firstOf}
-use Rattle.base_limits.proofs.First.{or-else-assoc}
-use Rattle.base_ints.proofs.Back.{never}
+use Rattle.base.specs.Limits.{maxChanges, maxJournal}
+use Rattle.base.specs.Checks.{orElse, firstOf}
+use Rattle.base.proofs.First.{or-else-assoc}
+use Rattle.base.proofs.Back.{never}
 use Rattle.sheet.specs.Sheet.{Sheet, sheetOf}
-use Rattle.edit.specs.declared.Edit.{Edit}
-use Rattle.edit.specs.declared.Edit.the-variants.{Pixels, PaletteSet, PaletteAdd, PaletteRemove}
+use Rattle.base.specs.declared.Edit.{Edit}
+use Rattle.base.specs.declared.Edit.the-variants.{Pixels, PaletteSet, PaletteAdd, PaletteRemove}
 use Rattle.edit.specs.Change as flat
 use Rattle.edit.specs.Checks.{permittedOf, ownChecks}
 use Rattle.edit.specs.Apply.{noPixels}
 use Rattle.edit_pixels.specs.Inside.{bare}
 use Rattle.edit_head.specs.Apart.{changeChecks, leftChecks, Markable, MarksFor}
 use Rattle.journal_record.specs.Record.{recordLength}
-use Rattle.struct_change.specs.declared.Change.{Change}
-use Rattle.struct_edit.specs.Walk.{packedAll, toldAll, checkUpto, markUpto, Checkable}
+use Rattle.base.specs.declared.Change.{Change}
+use Rattle.struct_edit.specs.Walk.{packedAll, flatAll, checkUpto, markUpto, Checkable}
 use Rattle.struct_edit.proofs.Checking.{first-zero}
 use Rattle.struct_edit.proofs.Told.{told-length}
 use Rattle.struct_edit.proofs.Whole.{checked-all, marked-all}
-use Rattle.history_ledger.specs.declared.Handle.{Handle}
+use Rattle.base.specs.declared.Handle.{Handle}
 use Rattle.history_ledger.specs.Journal.{State, entryChecks, pushChecks}
 use Rattle.history_ledger.proofs.Soundness.{sound-facts}
 use Rattle.history_model.specs.Editing.{Given, givenOf, editing}
 use Rattle.history_model.specs.Calls.{stateOf, Standing}
 use Rattle.history_model.proofs.PushChecks.{pushes-own, pushes-full, pushes-fine}
-use Rattle.struct_replay.specs.Phases.{pushNumber, Readied, Begun, Numbered, nonePut, fullNumber}
+use Rattle.struct_replay.specs.Phases.{pushNumber, Readied, Begun, PushNumbered, nonePut, fullNumber}
 use Rattle.struct_replay.proofs.Replaying.{first-kept, head-markable, list-decides, bare-each, bare-left}
 
 -- ---- "an empty pixel list"
@@ -108,7 +108,7 @@ module _ (room w h k : ℕ) (palette : List ℕ) (lab : List Float) (indices : L
   given = givenOf limited permitted e (packedAll list)
 
   abbrev cs : List flat.Change
-  cs = toldAll list
+  cs = flatAll list
 
   abbrev there : Sheet
   there = bare w h k indices
@@ -193,7 +193,7 @@ module _ (room w h k : ℕ) (palette : List ℕ) (lab : List Float) (indices : L
         after : l ≡ orElse (orElse each rest) full
         after = rw z at whole
 
-        not-still : (f : noPixels e cs ≡ false) → Readied room state given marks → (m : ℕ) → orElse each rest ≡ m → Numbered room state given l
+        not-still : (f : noPixels e cs ≡ false) → Readied room state given marks → (m : ℕ) → orElse each rest ≡ m → PushNumbered room state given l
         not-still f r zero p = by-journal (ltb (length journal) (handle .offset + recordLength e (length list))) refl
           where
             own : 0 ≡ firstOf (ownChecks false s (permittedOf limited permitted) e cs)
@@ -205,7 +205,7 @@ module _ (room w h k : ℕ) (palette : List ℕ) (lab : List Float) (indices : L
             last : l ≡ full
             last = rw p at after
 
-            by-journal : (t : Bool) → ltb (length journal) (handle .offset + recordLength e (length list)) ≡ t → Numbered room state given l
+            by-journal : (t : Bool) → ltb (length journal) (handle .offset + recordLength e (length list)) ≡ t → PushNumbered room state given l
             by-journal true t =
                 let is : l ≡ 14 = last ∙ rw (sym (none-put e cs (length list) long) ∙ f, t) in
                 let p = pushes-full room state given (r .short) (b .stands z) (r .enough) 0 own refl (rw long (ltb-true _ _ t)) in
@@ -228,16 +228,16 @@ module _ (room w h k : ℕ) (palette : List ℕ) (lab : List Float) (indices : L
               fine = λ y _. absurd (omega (arith, is, y));
             }
 
-        by-still : (t : Bool) → noPixels e cs ≡ t → Numbered room state given l
+        by-still : (t : Bool) → noPixels e cs ≡ t → PushNumbered room state given l
         by-still true t =
             let is : l ≡ 0 = after ∙ rw (still-each false s e cs (none-there e cs t), still-left s e cs t, sym (none-put e cs (length list) (told-length list)) ∙ t) in
             record { value = is ∙ number-still room state given (b .entered z) t; stands = λ _. b .stands z; fine = λ y f. never (sym f ∙ t) }
         by-still false f = not-still f (b .readied z f) (orElse each rest) refl
 
-      pub push-number : Numbered room state given l
+      pub push-number : PushNumbered room state given l
       push-number = by-number n refl
         where
-          by-number : (m : ℕ) → n ≡ m → Numbered room state given l
+          by-number : (m : ℕ) → n ≡ m → PushNumbered room state given l
           by-number zero z = by-still z (noPixels e cs) refl
           by-number (suc m) z =
               let kept : n ≡ 0 → ⊥ = λ y. omega (arith, z, y) in

@@ -1,25 +1,26 @@
 // The checks of `push` over a list of change structs, which is read where it lies: the number of the first that
 // applies.
-use base_limits::JOURNAL_FULL;
-use base_limits::LIST_TOO_LONG;
-use base_limits::MAX_CHANGES;
-use base_limits::NO_SPACE;
-use edit::Edit;
+use base::Change;
+use base::Edit;
+use base::Handle;
+use base::JOURNAL_FULL;
+use base::LIST_TOO_LONG;
+use base::MAX_CHANGES;
+use base::NO_SPACE;
+use edit::is_empty;
 use edit_head::clear_marks;
 use edit_head::head_no;
 use edit_head::left_no;
-use history_ledger::Handle;
 use history_model::entry_no;
 use history_model::record_length;
-use struct_change::Change;
 use struct_edit::check_list;
 ghost use mathlib.Core.Path.{_≡_};
 ghost use mathlib.Core.Bool.{false};
 ghost use mathlib.Core.List.{List};
 ghost use Prim.Native.Nat.{ℕ, _*_, _≤_};
 ghost use lib.ListN.{length};
-ghost use Rattle.base_limits.specs.Limits.{maxChanges, maxJournal};
-ghost use Rattle.base_limits.specs.Checks.{orElse, firstOf};
+ghost use Rattle.base.specs.Limits.{maxChanges, maxJournal};
+ghost use Rattle.base.specs.Checks.{orElse, firstOf};
 ghost use Rattle.sheet.specs.Sheet.{sheetOf};
 ghost use Rattle.edit.specs.Change as flat;
 ghost use Rattle.edit_pixels.specs.Inside.{bare};
@@ -27,7 +28,7 @@ ghost use Rattle.edit_head.specs.Apart.{leftChecks, MarksFor};
 ghost use Rattle.struct_edit.specs.Walk.{packedAll, Checkable};
 ghost use Rattle.history_model.specs.Editing.{givenOf};
 ghost use Rattle.history_model.specs.Calls.{stateOf};
-ghost use Rattle.struct_replay.specs.Phases.{Begun, Numbered, fullNumber};
+ghost use Rattle.struct_replay.specs.Phases.{Begun, PushNumbered, fullNumber};
 
 // Before the list: the number of the first check that applies, or 0. A removal's marks are cleared.
 fn begin(
@@ -45,7 +46,11 @@ fn begin(
     handle: Handle,
     marks: &mut [u8],
 ) -> u8
-    ensures { λ r. ⌜ ((list : List ℕ) → length list ≡ n → Begun (length (now (marks .entry))) (stateOf (sheetOf w h k (now (palette .entry)) (now (lab .entry)) (now (indices .entry))) (now (journal .entry)) handle) (givenOf limited (now (permitted .entry)) edit list) r (now (marks .exit))) ⌝ }
+    ensures { λ r. ⌜
+        ((list : List ℕ) → length list ≡ n → Begun (length (now (marks .entry)))
+        (stateOf (sheetOf w h k (now (palette .entry)) (now (lab .entry)) (now (indices .entry))) (now (journal .entry))
+        handle) (givenOf limited (now (permitted .entry)) edit list) r (now (marks .exit)))
+        ⌝ }
 {
     let no = entry_no(
         w,
@@ -62,7 +67,7 @@ fn begin(
     if no != 0 {
         return no;
     }
-    if edit.is_empty(n) {
+    if is_empty(edit, n) {
         return 0;
     }
     if MAX_CHANGES < n {
@@ -92,8 +97,15 @@ fn settle(
     size: usize,
     offset: usize,
 ) -> u8
-    requires { ⌜ (no ≡ 0 → Checkable edit w h (length (now indices)) (length (now marks))) × (no ≡ 0 → (n ≤ maxChanges) × (offset ≤ maxJournal)) ⌝ }
-    ensures { λ r. ⌜ ((cs : List flat.Change) → (no ≡ 0 → MarksFor edit w (w * h) cs (now (marks .entry))) → r ≡ orElse (orElse no (firstOf (leftChecks (bare w h 0 (now (indices .entry))) edit cs))) (fullNumber offset edit n size)) ⌝ }
+    requires { ⌜
+        (no ≡ 0 → Checkable edit w h (length (now indices)) (length (now marks)))
+        × (no ≡ 0 → (n ≤ maxChanges) × (offset ≤ maxJournal))
+        ⌝ }
+    ensures { λ r. ⌜
+        ((cs : List flat.Change) → (no ≡ 0 → MarksFor edit w (w * h) cs (now (marks .entry))) → r
+        ≡ orElse (orElse no (firstOf (leftChecks (bare w h 0 (now (indices .entry))) edit cs)))
+        (fullNumber offset edit n size))
+        ⌝ }
 {
     if no != 0 {
         return no;
@@ -102,7 +114,7 @@ fn settle(
     if left != 0 {
         return left;
     }
-    if edit.is_empty(n) {
+    if is_empty(edit, n) {
         return 0;
     }
     if size < offset + record_length(edit, n) {
@@ -127,7 +139,11 @@ pub fn push_no(
     handle: Handle,
     marks: &mut [u8],
 ) -> u8
-    ensures { λ r. ⌜ Numbered (length (now (marks .entry))) (stateOf (sheetOf w h k (now (palette .entry)) (now (lab .entry)) (now (indices .entry))) (now (journal .entry)) handle) (givenOf limited (now (permitted .entry)) edit (packedAll (now (list .entry)))) r ⌝ }
+    ensures { λ r. ⌜ (
+        let sheet = sheetOf w h k (now (palette .entry)) (now (lab .entry)) (now (indices .entry)) in
+        PushNumbered (length (now (marks .entry))) (stateOf sheet (now (journal .entry)) handle)
+        (givenOf limited (now (permitted .entry)) edit (packedAll (now (list .entry)))) r
+        ) ⌝ }
 {
     let n = list.len();
     let size = journal.len();

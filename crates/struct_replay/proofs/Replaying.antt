@@ -8,13 +8,13 @@ use borrow.Author.Tests.{leb-false}
 use lib.IntN.{ℤ}
 use lib.Ieee.{Float}
 use lib.ListN.{length}
-use Rattle.base_limits.specs.Checks.{orElse, firstOf, refusedOr}
-use Rattle.base_limits.proofs.First.{or-else-assoc, past}
+use Rattle.base.specs.Checks.{orElse, firstOf, refusedOr}
+use Rattle.base.proofs.First.{or-else-assoc, past}
 use Rattle.color_lab.specs.Convert.{labOf}
 use Rattle.sheet.specs.Sheet.{Sheet, sheetOf}
 use Rattle.sheet.specs.Checks.{Limits}
-use Rattle.edit.specs.declared.Edit.{Edit}
-use Rattle.edit.specs.declared.Edit.the-variants.{Pixels, PaletteSet, PaletteAdd, PaletteRemove}
+use Rattle.base.specs.declared.Edit.{Edit}
+use Rattle.base.specs.declared.Edit.the-variants.{Pixels, PaletteSet, PaletteAdd, PaletteRemove}
 use Rattle.edit.specs.Change as flat
 use Rattle.edit.specs.Checks.{Permitted, pixelChecks, misdirected, remapChecks, ownChecks}
 use Rattle.edit.specs.Apply.{redone}
@@ -23,14 +23,14 @@ use Rattle.edit_head.specs.Apart.{headChecks, changeChecks, leftChecks, Markabl
 use Rattle.edit_apply.specs.Redoable.{Redoable}
 use Rattle.edit_apply.proofs.Redoing.{pixels-fit, set-fits, add-fits, remove-fits}
 use Rattle.edit_head.proofs.Together.{own-apart, done-apart}
-use Rattle.struct_change.specs.declared.Change.{Change}
-use Rattle.struct_edit.specs.Walk.{toldAll, checkUpto, markUpto, paintUpto, Checkable, AllPaintable}
+use Rattle.base.specs.declared.Change.{Change}
+use Rattle.struct_edit.specs.Walk.{flatAll, checkUpto, markUpto, paintUpto, Checkable, AllPaintable}
 use Rattle.struct_edit.proofs.Checking.{first-zero}
 use Rattle.struct_edit.proofs.Painting.{refused-unpainted}
 use Rattle.struct_edit.proofs.Whole.{checked-all, marked-all, painted-all}
 use Rattle.history_ledger.specs.Calls.{refused, done}
 use Rattle.history_model.specs.Replay.{replayChecks, replayOf}
-use Rattle.struct_replay.specs.Phases.{Opened, doneOr}
+use Rattle.struct_replay.specs.Phases.{ReplayBegun, doneOr}
 
 -- ---- a number other than 0 stands
 pub first-kept : (n m : ℕ) → (n ≡ 0 → ⊥) → orElse n m ≡ n
@@ -80,7 +80,7 @@ unfolding doneOr refusedOr
 passed-done n s t u z q = rw (z, q)
 
 -- ---- `open_replay`
-pub opened-refused : {room : ℕ} {s : Sheet} {p : Permitted} {e : Edit} {cs : List flat.Change} {marks : List ℕ} (n : ℕ) → (n ≡ 0 → ⊥) → n ≡ firstOf (replayChecks room s p e cs) → Opened room s p e cs n marks
+pub opened-refused : {room : ℕ} {s : Sheet} {p : Permitted} {e : Edit} {cs : List flat.Change} {marks : List ℕ} (n : ℕ) → (n ≡ 0 → ⊥) → n ≡ firstOf (replayChecks room s p e cs) → ReplayBegun room s p e cs n marks
 opened-refused n h q = record { refuses = λ _. q; ready = λ z. absurd (h z) }
 
 -- ---- the number
@@ -89,12 +89,12 @@ module _ (room w h k : ℕ) (palette : List ℕ) (lab : List Float) (indices : L
   s = sheetOf w h k palette lab indices
 
   abbrev cs : List flat.Change
-  cs = toldAll list
+  cs = flatAll list
 
   abbrev there : Sheet
   there = bare w h k indices
 
-  module _ (n : ℕ) (marks : List ℕ) (o : Opened room s p e cs n marks) (same : length marks ≡ room) where
+  module _ (n : ℕ) (marks : List ℕ) (o : ReplayBegun room s p e cs n marks) (same : length marks ≡ room) where
     abbrev checked : ℕ
     checked = checkUpto n true there e list (length list)
 
@@ -136,10 +136,10 @@ unpainted n w e list l zero = refl
 unpainted n w e list l (suc i) = sym (refused-unpainted w (paintUpto (suc n) e w list l i) e (suc n) _ (λ z. omega (arith, z))) ∙ unpainted n w e list l i
 
 pub done-either : (w h k : ℕ) (palette : List ℕ) (lab : List Float) (indices : List ℤ) (e : Edit) (list : List Change) (n : ℕ) (l : List ℤ) → l ≡ paintUpto n e w list indices (length list)
-    → doneOr n (sheetOf w h k palette lab l) (redone labOf (sheetOf w h k palette lab l) e []) ≡ doneOr n (sheetOf w h k palette lab indices) (redone labOf (sheetOf w h k palette lab indices) e (toldAll list))
+    → doneOr n (sheetOf w h k palette lab l) (redone labOf (sheetOf w h k palette lab l) e []) ≡ doneOr n (sheetOf w h k palette lab indices) (redone labOf (sheetOf w h k palette lab indices) e (flatAll list))
 unfolding doneOr refusedOr
 done-either w h k palette lab indices e list zero l q =
-    ap done (done-apart (sheetOf w h k palette lab indices) e (toldAll list) l (q ∙ painted-all w list indices e))
+    ap done (done-apart (sheetOf w h k palette lab indices) e (flatAll list) l (q ∙ painted-all w list indices e))
 done-either w h k palette lab indices e list (suc n) l q = rw (q ∙ unpainted n w e list indices (length list))
 
 -- what is asked of an edit that was not refused

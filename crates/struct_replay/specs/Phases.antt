@@ -1,5 +1,5 @@
--- What the steps of `replay` and `push` over a list of structs say to each other: the steps before the list, and after it, do not see the list, so that they speak
--- of every list of as many changes. Definitions only. Assumes nothing.
+-- What the steps of `replay` and `push` over a list of structs say to each other: the steps before the list, and after
+-- it, do not see the list, so that they speak of every list of as many changes. Definitions only. Assumes nothing.
 use mathlib.Core.Path.{_≡_}
 use mathlib.Core.Bool.{Bool, false, true, cond}
 use mathlib.Core.List.{List, [], _++_}
@@ -7,14 +7,14 @@ use Prim.Native.Nat.{ℕ, _+_, _*_, _≤_}
 use lib.Dec.{ltb, eqb}
 use lib.Ieee.{Float}
 use lib.ListN.{length, take, drop}
-use Rattle.base_limits.specs.Limits.{maxChanges, maxJournal}
-use Rattle.base_limits.specs.Numbers.{journalFull}
-use Rattle.base_limits.specs.Checks.{orElse, firstOf, refusedOr}
+use Rattle.base.specs.Limits.{maxChanges, maxJournal}
+use Rattle.base.specs.Numbers.{journalFull}
+use Rattle.base.specs.Checks.{orElse, firstOf, refusedOr}
 use Rattle.color_lab.specs.Convert.{labOf}
 use Rattle.sheet.specs.Sheet.{Sheet, sheetOf}
 use Rattle.sheet.specs.Checks.{WellFormed}
-use Rattle.edit.specs.declared.Edit.{Edit}
-use Rattle.edit.specs.declared.Edit.the-variants.{Pixels, PaletteSet, PaletteAdd, PaletteRemove}
+use Rattle.base.specs.declared.Edit.{Edit}
+use Rattle.base.specs.declared.Edit.the-variants.{Pixels, PaletteSet, PaletteAdd, PaletteRemove}
 use Rattle.edit.specs.Change.{Change}
 use Rattle.edit.specs.Checks.{Permitted, ownChecks}
 use Rattle.edit.specs.Apply.{noPixels, filledEdit, redone}
@@ -22,7 +22,7 @@ use Rattle.edit_head.specs.Apart.{headChecks, ClearFor, Finishable}
 use Rattle.edit_apply.specs.Redoable.{EntryIn}
 use Rattle.journal_record.specs.Record.{recordLength}
 use Rattle.journal_frame.specs.Frame.{around, Framed}
-use Rattle.history_ledger.specs.declared.Handle.{Handle}
+use Rattle.base.specs.declared.Handle.{Handle}
 use Rattle.history_ledger.specs.Handle.{afterPush}
 use Rattle.history_ledger.specs.Calls.{Outcome, done, still, refused}
 use Rattle.history_ledger.specs.Journal.{State, entryChecks, pushChecks}
@@ -30,8 +30,8 @@ use Rattle.history_model.specs.Editing.{Given, editing}
 use Rattle.history_model.specs.Calls.{Standing, Acceptable}
 use Rattle.history_model.specs.Replay.{replayChecks}
 
--- ---- replay, before its list: a number other than 0 is the call's; with 0 the edit's own checks decide, none of those before the list applies, and a removal's
--- marks are clear
+-- ---- replay, before its list: a number other than 0 is the call's; with 0 the edit's own checks decide, none of those
+-- before the list applies, and a removal's marks are clear
 pub record Ready (room : ℕ) (s : Sheet) (p : Permitted) (e : Edit) (cs : List Change) (marks : List ℕ) : Type 0 where
   pub formed : WellFormed s
   pub enough : s .w * s .h ≤ room
@@ -39,7 +39,7 @@ pub record Ready (room : ℕ) (s : Sheet) (p : Permitted) (e : Edit) (cs : List 
   pub decides : firstOf (ownChecks true s p e cs) ≡ firstOf (replayChecks room s p e cs)
   pub clear : ClearFor e (s .w * s .h) marks
 
-pub record Opened (room : ℕ) (s : Sheet) (p : Permitted) (e : Edit) (cs : List Change) (n : ℕ) (marks : List ℕ) : Type 0 where
+pub record ReplayBegun (room : ℕ) (s : Sheet) (p : Permitted) (e : Edit) (cs : List Change) (n : ℕ) (marks : List ℕ) : Type 0 where
   pub refuses : (n ≡ 0 → ⊥) → n ≡ firstOf (replayChecks room s p e cs)
   pub ready : n ≡ 0 → Ready room s p e cs marks
 
@@ -69,7 +69,7 @@ pub record Begun (room : ℕ) (st : State editing) (g : Given) (n : ℕ) (marks 
   pub readied : n ≡ 0 → noPixels (g .edit) (g .changes) ≡ false → Readied room st g marks
 
 -- the number, and what 0 means
-pub record Numbered (room : ℕ) (st : State editing) (g : Given) (n : ℕ) : Type 0 where
+pub record PushNumbered (room : ℕ) (st : State editing) (g : Given) (n : ℕ) : Type 0 where
   pub value : n ≡ pushNumber room st g
   pub stands : n ≡ 0 → Standing st
   pub fine : n ≡ 0 → noPixels (g .edit) (g .changes) ≡ false → Acceptable st (g .edit) (g .changes)

@@ -1,24 +1,24 @@
 // `replay` over a list of change structs, which is read where it lies.
-use base_limits::Answer;
-use base_limits::LIST_TOO_LONG;
-use base_limits::MAX_CHANGES;
-use base_limits::NO_SPACE;
-use edit::Edit;
+use base::Answer;
+use base::Change;
+use base::Edit;
+use base::LIST_TOO_LONG;
+use base::MAX_CHANGES;
+use base::NO_SPACE;
+use base::Replayed;
 use edit_head::clear_marks;
 use edit_head::finish_edit;
 use edit_head::head_no;
 use edit_head::left_no;
-use history::Replayed;
 use sheet::check;
 use sheet::permitted_no;
-use struct_change::Change;
 use struct_edit::check_list;
 use struct_edit::paint_list;
 ghost use mathlib.Core.Path.{_≡_};
 ghost use mathlib.Core.List.{List, []};
 ghost use Prim.Native.Nat.{ℕ, _*_};
 ghost use lib.ListN.{length};
-ghost use Rattle.base_limits.specs.Checks.{orElse, firstOf};
+ghost use Rattle.base.specs.Checks.{orElse, firstOf};
 ghost use Rattle.color_lab.specs.Convert.{labOf};
 ghost use Rattle.sheet.specs.Sheet.{sheetOf};
 ghost use Rattle.edit.specs.Change as flat;
@@ -27,9 +27,9 @@ ghost use Rattle.edit.specs.Apply.{redone};
 ghost use Rattle.edit_pixels.specs.Inside.{bare};
 ghost use Rattle.edit_head.specs.Apart.{leftChecks, MarksFor, Finishable};
 ghost use Rattle.edit_apply.specs.Redoable.{Redoable};
-ghost use Rattle.struct_edit.specs.Walk.{toldAll, Checkable};
+ghost use Rattle.struct_edit.specs.Walk.{flatAll, Checkable};
 ghost use Rattle.history_model.specs.Replay.{replayChecks, replayed, replayOf};
-ghost use Rattle.struct_replay.specs.Phases.{Opened, doneOr};
+ghost use Rattle.struct_replay.specs.Phases.{ReplayBegun, doneOr};
 
 // Before the list: the number of the first check that applies, or 0. A removal's marks are cleared.
 fn open_replay(
@@ -45,7 +45,11 @@ fn open_replay(
     n: usize,
     marks: &mut [u8],
 ) -> u8
-    ensures { λ r. ⌜ ((cs : List flat.Change) → length cs ≡ n → Opened (length (now (marks .entry))) (sheetOf w h k (now (palette .entry)) (now (lab .entry)) (now (indices .entry))) (permittedOf limited (now (permitted .entry))) edit cs r (now (marks .exit))) ⌝ }
+    ensures { λ r. ⌜
+        ((cs : List flat.Change) → length cs ≡ n → ReplayBegun (length (now (marks .entry)))
+        (sheetOf w h k (now (palette .entry)) (now (lab .entry)) (now (indices .entry)))
+        (permittedOf limited (now (permitted .entry))) edit cs r (now (marks .exit)))
+        ⌝ }
 {
     let given = permitted_no(limited, permitted);
     if given != 0 {
@@ -73,7 +77,10 @@ fn open_replay(
 // After the list: the number so far or, where that is 0, 13 of a removal that leaves a pixel of its entry, or 0.
 fn left_after(no: u8, edit: Edit, w: usize, h: usize, indices: &[i16], marks: &[u8]) -> u8
     requires { ⌜ (no ≡ 0 → Checkable edit w h (length (now indices)) (length (now marks))) ⌝ }
-    ensures { λ r. ⌜ ((cs : List flat.Change) → (no ≡ 0 → MarksFor edit w (w * h) cs (now (marks .entry))) → r ≡ orElse no (firstOf (leftChecks (bare w h 0 (now (indices .entry))) edit cs))) ⌝ }
+    ensures { λ r. ⌜
+        ((cs : List flat.Change) → (no ≡ 0 → MarksFor edit w (w * h) cs (now (marks .entry)))
+        → r ≡ orElse no (firstOf (leftChecks (bare w h 0 (now (indices .entry))) edit cs)))
+        ⌝ }
 {
     if no != 0 {
         return no;
@@ -91,7 +98,12 @@ fn finish_replay(
     edit: Edit,
 ) -> Replayed
     requires { ⌜ (no ≡ 0 → Finishable k (length (now palette)) (length (now lab)) edit) ⌝ }
-    ensures { λ r. ⌜ ((w h : ℕ) → replayed (r .answer) (sheetOf w h (r .k) (now (palette .exit)) (now (lab .exit)) (now (indices .exit))) ≡ doneOr no (sheetOf w h k (now (palette .entry)) (now (lab .entry)) (now (indices .entry))) (redone labOf (sheetOf w h k (now (palette .entry)) (now (lab .entry)) (now (indices .entry))) edit [])) ⌝ }
+    ensures { λ r. ⌜
+        ((w h : ℕ)
+        → replayed (r .answer) (sheetOf w h (r .k) (now (palette .exit)) (now (lab .exit)) (now (indices .exit)))
+        ≡ doneOr no (sheetOf w h k (now (palette .entry)) (now (lab .entry)) (now (indices .entry)))
+        (redone labOf (sheetOf w h k (now (palette .entry)) (now (lab .entry)) (now (indices .entry))) edit []))
+        ⌝ }
 {
     if no != 0 {
         return Replayed {
@@ -120,7 +132,12 @@ fn replay_no(
     list: &[Change],
     marks: &mut [u8],
 ) -> u8
-    ensures { λ r. ⌜ r ≡ firstOf (replayChecks (length (now (marks .entry))) (sheetOf w h k (now (palette .entry)) (now (lab .entry)) (now (indices .entry))) (permittedOf limited (now (permitted .entry))) edit (toldAll (now (list .entry)))) ⌝ }
+    ensures { λ r. ⌜ (
+        let sheet = sheetOf w h k (now (palette .entry)) (now (lab .entry)) (now (indices .entry)) in
+        r
+        ≡ firstOf (replayChecks (length (now (marks .entry))) sheet (permittedOf limited (now (permitted .entry))) edit
+        (flatAll (now (list .entry))))
+        ) ⌝ }
 {
     let n = list.len();
     let opened = open_replay(
@@ -151,8 +168,14 @@ fn redo_list(
     edit: Edit,
     list: &[Change],
 ) -> Replayed
-    requires { ⌜ (no ≡ 0 → Redoable w k (now palette) (now lab) (now indices) edit (toldAll (now list))) ⌝ }
-    ensures { λ r. ⌜ ((h : ℕ) → replayed (r .answer) (sheetOf w h (r .k) (now (palette .exit)) (now (lab .exit)) (now (indices .exit))) ≡ doneOr no (sheetOf w h k (now (palette .entry)) (now (lab .entry)) (now (indices .entry))) (redone labOf (sheetOf w h k (now (palette .entry)) (now (lab .entry)) (now (indices .entry))) edit (toldAll (now (list .entry))))) ⌝ }
+    requires { ⌜ (no ≡ 0 → Redoable w k (now palette) (now lab) (now indices) edit (flatAll (now list))) ⌝ }
+    ensures { λ r. ⌜
+        ((h : ℕ)
+        → replayed (r .answer) (sheetOf w h (r .k) (now (palette .exit)) (now (lab .exit)) (now (indices .exit)))
+        ≡ doneOr no (sheetOf w h k (now (palette .entry)) (now (lab .entry)) (now (indices .entry)))
+        (redone labOf (sheetOf w h k (now (palette .entry)) (now (lab .entry)) (now (indices .entry))) edit
+        (flatAll (now (list .entry)))))
+        ⌝ }
 {
     paint_list(no, edit, indices, w, list);
     finish_replay(no, k, palette, lab, indices, edit)
@@ -173,7 +196,12 @@ pub fn replay(
     list: &[Change],
     scratch: &mut [u8],
 ) -> Answer
-    ensures { λ r. ⌜ (replayed r (sheetOf w h (now (k .exit)) (now (palette .exit)) (now (lab .exit)) (now (indices .exit))) ≡ replayOf (length (now (scratch .entry))) (sheetOf w h (now (k .entry)) (now (palette .entry)) (now (lab .entry)) (now (indices .entry))) (permittedOf limited (now (permitted .entry))) edit (toldAll (now (list .entry)))) × (length (now (scratch .exit)) ≡ length (now (scratch .entry))) ⌝ }
+    ensures { λ r. ⌜ (
+        let sheet = sheetOf w h (now (k .entry)) (now (palette .entry)) (now (lab .entry)) (now (indices .entry)) in
+        (replayed r (sheetOf w h (now (k .exit)) (now (palette .exit)) (now (lab .exit)) (now (indices .exit)))
+        ≡ replayOf (length (now (scratch .entry))) sheet (permittedOf limited (now (permitted .entry))) edit
+        (flatAll (now (list .entry)))) × (length (now (scratch .exit)) ≡ length (now (scratch .entry)))
+        ) ⌝ }
 {
     let count = *k;
     let no = replay_no(

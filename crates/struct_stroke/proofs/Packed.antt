@@ -8,11 +8,10 @@ use borrow.Author.Tests.{le-ltb}
 use lib.Dec.{ltb}
 use lib.ListN.{length, take}
 use lib.Seq.{take-all}
-use Rattle.base_limits.specs.Limits.{maxChanges}
-use Rattle.base_limits.specs.Answer.{filled}
-use Rattle.base_limits.specs.declared.Counted.{Counted}
-use Rattle.base_limits.specs.declared.Counted.the-variants.{Refused}
-use Rattle.change_list.specs.Listed.{countOf, InScratch}
+use Rattle.base.specs.Limits.{maxChanges}
+use Rattle.base.specs.Answer.{filled, Told, leaving, countTold}
+use Rattle.base.specs.declared.Counted.the-variants.{Refused}
+use Rattle.change_list.specs.Listed.{InScratch}
 use Rattle.change_list.proofs.InScratch.{scratch-none, scratch-then}
 use Rattle.struct_change.specs.Struct.{least}
 use Rattle.struct_change.proofs.Packing.{is-first, is-second, least-fits}
@@ -34,7 +33,7 @@ module _ (flat list : List ℕ) (n room : ℕ) {places : ℕ} {s : List ℕ} (e 
     pub first-short : length flat < n → InScratch 0 places s (filled (Refused 16)) (normalizeCall (least (length flat) room) list)
     first-short k = scratch-none (λ out j. normalize-short (least (length flat) room) list out (omega arith) (let f = least-fits (length flat) room .0 in omega arith))
 
-    pub first-done : n ≤ length flat → {a : Counted} → InScratch (countOf a) places s (filled a) (normalizeCall room (take n flat)) → InScratch (countOf a) places s (filled a) (normalizeCall (least (length flat) room) list)
+    pub first-done : n ≤ length flat → {a : Told ℕ} → InScratch (countTold a) places s (leaving a) (normalizeCall room (take n flat)) → InScratch (countTold a) places s (leaving a) (normalizeCall (least (length flat) room) list)
     unfolding normalizeCall normalizeChecks
     first-done k c =
         let is : take n flat ≡ list = q ∙ take-all (length flat) list (omega arith) in

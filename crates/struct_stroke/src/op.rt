@@ -1,15 +1,15 @@
 // `normalize` and `Op::pixels` of op.rs: the list is packed into one lent buffer of numbers and normalised in
 // another, and the structs are filled from there.
-use base_limits::Counted;
-use base_limits::LIST_TOO_LONG;
-use base_limits::MAX_CHANGES;
-use base_limits::NO_SPACE;
+use base::Change;
+use base::Counted;
+use base::LIST_TOO_LONG;
+use base::MAX_CHANGES;
+use base::MadeOp;
+use base::NO_SPACE;
 use change_list::count_of;
-use change_stroke::Made;
 use change_stroke::made_count;
 use change_stroke::normalize_in;
 use change_stroke::pixels_of;
-use struct_change::Change;
 use struct_change::lesser;
 use struct_change::pack;
 use struct_change::unpack;
@@ -17,7 +17,7 @@ ghost use mathlib.Core.Path.{_≡_};
 ghost use mathlib.Core.List.{List, map};
 ghost use Prim.Native.Nat.{ℕ};
 ghost use lib.ListN.{length, take};
-ghost use Rattle.base_limits.specs.Answer.{filled};
+ghost use Rattle.base.specs.Answer.{filled};
 ghost use Rattle.change_list.specs.Listed.{countOf, InScratch};
 ghost use Rattle.struct_change.specs.Struct.{packedOf, least};
 ghost use Rattle.change_stroke.specs.Op.{normalizeCall, made, madeCount, pixelsCall};
@@ -25,7 +25,11 @@ ghost use Rattle.change_stroke.specs.Op.{normalizeCall, made, madeCount, pixels
 // The normal form of n changes, left in the scratch, where flat has their numbers as far as it has places; 16 where
 // it has fewer.
 fn normalize_packed(flat: &[u64], n: usize, scratch: &mut [u64], room: usize) -> Counted
-    ensures { λ r. ⌜ ((list : List ℕ) → length list ≡ n → take n (now (flat .entry)) ≡ take (length (now (flat .entry))) list → InScratch (countOf r) room (now (scratch .exit)) (filled r) (normalizeCall (least (length (now (flat .entry))) (length (now (scratch .entry)))) list)) ⌝ }
+    ensures { λ r. ⌜
+        ((list : List ℕ) → length list ≡ n → take n (now (flat .entry)) ≡ take (length (now (flat .entry))) list
+        → InScratch (countOf r) room (now (scratch .exit)) (filled r)
+        (normalizeCall (least (length (now (flat .entry))) (length (now (scratch .entry)))) list))
+        ⌝ }
 {
     if MAX_CHANGES < n {
         return Counted::Refused(LIST_TOO_LONG);
@@ -37,8 +41,12 @@ fn normalize_packed(flat: &[u64], n: usize, scratch: &mut [u64], room: usize) ->
 }
 
 // The same for an edit of pixels.
-fn pixels_packed(tool: u8, flat: &[u64], n: usize, scratch: &mut [u64], room: usize) -> Made
-    ensures { λ r. ⌜ ((list : List ℕ) → length list ≡ n → take n (now (flat .entry)) ≡ take (length (now (flat .entry))) list → InScratch (madeCount r) room (now (scratch .exit)) (made r) (pixelsCall tool (least (length (now (flat .entry))) (length (now (scratch .entry)))) list)) ⌝ }
+fn pixels_packed(tool: u8, flat: &[u64], n: usize, scratch: &mut [u64], room: usize) -> MadeOp
+    ensures { λ r. ⌜
+        ((list : List ℕ) → length list ≡ n → take n (now (flat .entry)) ≡ take (length (now (flat .entry))) list
+        → InScratch (madeCount r) room (now (scratch .exit)) (made r)
+        (pixelsCall tool (least (length (now (flat .entry))) (length (now (scratch .entry)))) list))
+        ⌝ }
 {
     pixels_of(tool, normalize_packed(flat, n, scratch, room))
 }
@@ -50,7 +58,13 @@ pub fn normalize(
     scratch: &mut [u64],
     out: &mut [Change],
 ) -> Counted
-    ensures { λ r. ⌜ (filled r (map packedOf (now (out .exit))) ≡ normalizeCall (least (length (now (flat .entry))) (length (now (scratch .entry)))) (map packedOf (now (list .entry))) (map packedOf (now (out .entry)))) × (length (now (flat .exit)) ≡ length (now (flat .entry))) × (length (now (scratch .exit)) ≡ length (now (scratch .entry))) ⌝ }
+    ensures { λ r. ⌜
+        (filled r (map packedOf (now (out .exit)))
+        ≡ normalizeCall (least (length (now (flat .entry))) (length (now (scratch .entry))))
+        (map packedOf (now (list .entry))) (map packedOf (now (out .entry))))
+        × (length (now (flat .exit)) ≡ length (now (flat .entry)))
+        × (length (now (scratch .exit)) ≡ length (now (scratch .entry)))
+        ⌝ }
 {
     let n = list.len();
     let m = lesser(n, flat.len());
@@ -68,8 +82,14 @@ pub fn pixels(
     flat: &mut [u64],
     scratch: &mut [u64],
     out: &mut [Change],
-) -> Made
-    ensures { λ r. ⌜ (made r (map packedOf (now (out .exit))) ≡ pixelsCall tool (least (length (now (flat .entry))) (length (now (scratch .entry)))) (map packedOf (now (list .entry))) (map packedOf (now (out .entry)))) × (length (now (flat .exit)) ≡ length (now (flat .entry))) × (length (now (scratch .exit)) ≡ length (now (scratch .entry))) ⌝ }
+) -> MadeOp
+    ensures { λ r. ⌜
+        (made r (map packedOf (now (out .exit)))
+        ≡ pixelsCall tool (least (length (now (flat .entry))) (length (now (scratch .entry))))
+        (map packedOf (now (list .entry))) (map packedOf (now (out .entry))))
+        × (length (now (flat .exit)) ≡ length (now (flat .entry)))
+        × (length (now (scratch .exit)) ≡ length (now (scratch .entry)))
+        ⌝ }
 {
     let n = list.len();
     let m = lesser(n, flat.len());

@@ -1,10 +1,18 @@
-// The calls of `test_sample` that look at a sheet, edit its palette or are given none, each on its inputs, and what it
-// answered and left, told by a number and a fingerprint.
-mod loose;
-mod palettes;
+// The calls of `test_sample`, each on its inputs, and what it answered and left, told by a number and a fingerprint. Calls of
+// one shape are one function over the call's number. Of these functions it is proved that they are safe and end: what the
+// calls answer stands in their own contracts.
+mod answers;
+mod bare;
+mod drawn;
+mod histories;
+mod lists;
 mod sheets;
 
-pub use loose::bare_answer;
-pub use loose::edit;
-pub use palettes::palette_answer;
-pub use sheets::look_answer;
+pub use editor::fresh;
+pub use histories::change;
+pub use histories::damage;
+pub use histories::look;
+pub use histories::told_change;
+pub use histories::told_state;
+pub use sheets::answer;
+pub use sheets::open;

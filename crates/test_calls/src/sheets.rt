@@ -1,76 +1,56 @@
-// The calls that look at a sheet.
+// The calls that look at a sheet, and the sheet that a call is given.
+use crate::answers::of_choices;
+use crate::answers::of_copied;
+use crate::answers::of_counted;
+use crate::answers::of_extraction;
+use crate::answers::of_found;
+use crate::answers::of_got;
+use crate::answers::of_made;
+use crate::answers::of_number;
+use crate::bare::bare_answer;
+use crate::drawn::list_answer;
+use base::Answer;
+use base::Copied;
+use base::MadeEdit;
 use test_inputs::Hand;
+use test_inputs::Outcome;
 use test_inputs::colour;
+use test_inputs::colours;
+use test_inputs::deal;
 use test_inputs::fill_bytes;
 use test_inputs::fill_indices;
-use test_prints::Outcome;
-use test_prints::mix_answer;
-use test_prints::mix_bytes;
-use test_prints::mix_counts;
-use test_prints::mix_doubles;
-use test_prints::mix_index;
-use test_prints::mix_number;
-use test_prints::told;
+use test_inputs::height;
+use test_inputs::mix_bytes;
+use test_inputs::mix_counts;
+use test_inputs::mix_doubles;
+use test_inputs::mix_indices;
+use test_inputs::mix_number;
+use test_inputs::pick;
+use test_inputs::told;
+use test_inputs::width;
+
+// `new`, of which callers here need no more than that it keeps the lengths.
+pub fn open(
+    w: usize,
+    h: usize,
+    k: usize,
+    palette: &[u8],
+    lab: &mut [f64],
+    indices: &[i16],
+) -> Answer {
+    editor::new(w, h, k, palette, lab, indices)
+}
 
 fn new_sheet(w: usize, h: usize, k: usize, palette: &[u8], indices: &[i16]) -> Outcome {
     let mut lab = [1.5f64; 765];
-    let no = c_exports::call_new(w, h, k, palette, &mut lab, indices);
+    let no = open(w, h, k, palette, &mut lab, indices).number();
     told(no, mix_doubles(mix_number(no), &lab))
 }
 
-fn get_at(
-    a: Hand,
-    w: usize,
-    h: usize,
-    k: usize,
-    palette: &[u8],
-    lab: &[f64],
-    indices: &[i16],
-) -> Outcome {
-    let mut got = [0x5a5ai16; 1];
-    let no = c_exports::call_get_at(
-        w,
-        h,
-        k,
-        palette,
-        lab,
-        indices,
-        a.spot.x,
-        a.spot.far_y,
-        &mut got,
-    );
-    told(no, mix_index(mix_number(no), got[0]))
-}
-
-fn eyedropper(
-    a: Hand,
-    w: usize,
-    h: usize,
-    k: usize,
-    palette: &[u8],
-    lab: &[f64],
-    indices: &[i16],
-) -> Outcome {
-    let mut got = [0x5a5ai16; 1];
-    let no = c_exports::call_eyedropper(
-        w,
-        h,
-        k,
-        palette,
-        lab,
-        indices,
-        a.spot.x,
-        a.spot.far_y,
-        &mut got,
-    );
-    told(no, mix_index(mix_number(no), got[0]))
-}
-
 fn counts(w: usize, h: usize, k: usize, palette: &[u8], lab: &[f64], indices: &[i16]) -> Outcome {
-    let mut r = [7777usize; 5];
     let mut out = [0x5a5a_5a5au32; 2];
-    let no = c_exports::call_counts(w, h, k, palette, lab, indices, &mut out, &mut r);
-    told(no, mix_counts(mix_answer(no, &r), &out))
+    let t = of_counted(editor::counts(w, h, k, palette, lab, indices, &mut out));
+    told(t.number, mix_counts(t.print, &out))
 }
 
 // A baseline of six pixels with its own size, palette count and indices. With one entry less told than dealt, some are stray.
@@ -83,50 +63,59 @@ fn diff_mask(
     lab: &[f64],
     indices: &[i16],
 ) -> Outcome {
-    let mut r = [7777usize; 5];
+    let s = a.sides;
     let mut base = [0u8; 765];
     let mut base_indices = [0i16; 6];
     let mut mask = [0x5au8; 7];
     fill_bytes(a.seeds.first, &mut base);
-    fill_indices(a.seeds.seed, a.sides.base_k, &mut base_indices);
-    let no = c_exports::call_diff_mask(
+    fill_indices(a.seeds.seed, s.base_k, &mut base_indices);
+    let base_k = if a.choice.even { 2 } else { s.base_k };
+    let t = of_counted(editor::diff_mask(
         w,
         h,
         k,
         palette,
         lab,
         indices,
-        a.sides.base_w,
-        a.sides.base_h,
-        if a.choice.even { 2 } else { a.sides.base_k },
+        s.base_w,
+        s.base_h,
+        base_k,
         &base,
         &base_indices,
         &mut mask,
-        &mut r,
-    );
-    told(no, mix_bytes(mix_answer(no, &r), &mask))
+    ));
+    told(t.number, mix_bytes(t.print, &mask))
 }
 
 fn nearest_index(a: Hand, k: usize, lab: &[f64]) -> Outcome {
-    let mut r = [7777usize; 5];
-    let mut target = [0.0f64; 3];
-    let rgb = colour(a.seeds.colour);
-    c_exports::call_rgb8_to_lab(&rgb, &mut target);
-    let no = c_exports::call_nearest_index(&target, lab, k, &mut r);
-    told(no, mix_answer(no, &r))
+    let target = editor::rgb8_to_lab(colour(a.seeds.colour));
+    of_found(editor::nearest_index(target, lab, k))
 }
 
-fn check(w: usize, h: usize, k: usize, palette: &[u8], lab: &[f64], indices: &[i16]) -> Outcome {
-    let no = c_exports::call_check(w, h, k, palette, lab, indices);
-    told(no, mix_number(no))
+// `copy`, and `snap_rgba` of six pixels.
+fn clip(
+    c: usize,
+    a: Hand,
+    w: usize,
+    h: usize,
+    k: usize,
+    palette: &[u8],
+    lab: &[f64],
+    indices: &[i16],
+    out: &mut [i16],
+) -> Copied {
+    let s = a.sides;
+    let p = a.spot;
+    let area = p.area;
+    let mut rgba = [0u8; 25];
+    fill_bytes(a.seeds.seed, &mut rgba);
+    match c {
+        17 => editor::copy(w, h, k, palette, lab, indices, area, out),
+        _ => editor::snap_rgba(w, h, k, palette, lab, indices, &rgba, s.w, s.h, out),
+    }
 }
 
-fn with_lab(w: usize, h: usize, k: usize, palette: &[u8], lab: &[f64], indices: &[i16]) -> Outcome {
-    let no = c_exports::call_with_lab(w, h, k, palette, lab, indices);
-    told(no, mix_number(no))
-}
-
-pub fn look_answer(
+fn clipped(
     c: usize,
     a: Hand,
     w: usize,
@@ -136,14 +125,181 @@ pub fn look_answer(
     lab: &[f64],
     indices: &[i16],
 ) -> Outcome {
+    let mut out = [0x5a5ai16; 5];
+    let t = of_copied(clip(c, a, w, h, k, palette, lab, indices, &mut out));
+    told(t.number, mix_indices(t.print, &out))
+}
+
+fn clip_rgba(
+    a: Hand,
+    w: usize,
+    h: usize,
+    k: usize,
+    palette: &[u8],
+    lab: &[f64],
+    indices: &[i16],
+) -> Outcome {
+    let s = a.sides;
+    let mut out = [0x5au8; 25];
+    let mut clip = [0i16; 6];
+    fill_indices(a.seeds.seed, 3, &mut clip);
+    let pixels = editor::clip_rgba(w, h, k, palette, lab, indices, s.w, s.h, &clip, &mut out);
+    let t = of_counted(pixels);
+    told(t.number, mix_bytes(t.print, &out))
+}
+
+fn fixed_choices(
+    a: Hand,
+    w: usize,
+    h: usize,
+    k: usize,
+    palette: &[u8],
+    lab: &[f64],
+    indices: &[i16],
+) -> Outcome {
+    let mut used = [0x5au8; 3];
+    let list = colours(a.seeds.listed);
+    let free = !a.choice.limited;
+    let t = of_choices(editor::fixed_choices(
+        w,
+        h,
+        k,
+        palette,
+        lab,
+        indices,
+        free,
+        &list,
+        &mut used,
+    ));
+    told(t.number, mix_bytes(t.print, &used))
+}
+
+// `set_color` and `add_color`.
+fn coloured(
+    c: usize,
+    a: Hand,
+    w: usize,
+    h: usize,
+    k: usize,
+    palette: &[u8],
+    lab: &[f64],
+    indices: &[i16],
+) -> MadeEdit {
+    let index = a.choice.from;
+    let limited = a.choice.limited;
+    let list = colours(a.seeds.listed);
+    let rgb = colour(a.seeds.colour);
     match c {
-        0 => check(w, h, k, palette, lab, indices),
-        1 => with_lab(w, h, k, palette, lab, indices),
+        21 => editor::set_color(w, h, k, palette, lab, indices, limited, &list, index, rgb),
+        _ => editor::add_color(w, h, k, palette, lab, indices, limited, &list, rgb),
+    }
+}
+
+fn extract(
+    a: Hand,
+    w: usize,
+    h: usize,
+    k: usize,
+    palette: &[u8],
+    lab: &[f64],
+    indices: &[i16],
+) -> Outcome {
+    let mut scratch = [0u64; 6];
+    let mut out = [0x5a5ai16; 4];
+    let mut map = [0x5a5a_5a5au32; 19];
+    let t = of_extraction(editor::extract(
+        w,
+        h,
+        k,
+        palette,
+        lab,
+        indices,
+        a.choice.size,
+        &mut out,
+        &mut map,
+        &mut scratch,
+    ));
+    told(t.number, mix_counts(mix_indices(t.print, &out), &map))
+}
+
+fn sheet_answer(
+    c: usize,
+    a: Hand,
+    w: usize,
+    h: usize,
+    k: usize,
+    palette: &[u8],
+    lab: &[f64],
+    indices: &[i16],
+) -> Outcome {
+    let x = a.spot.x;
+    let y = a.spot.far_y;
+    let from = a.choice.from;
+    match c {
+        0 => of_number(editor::check(w, h, k, palette, lab, indices)),
+        1 => of_number(editor::with_lab(w, h, k, palette, lab, indices).number()),
         2 => new_sheet(w, h, k, palette, indices),
-        3 => get_at(a, w, h, k, palette, lab, indices),
+        3 => of_got(editor::get_at(w, h, k, palette, lab, indices, x, y)),
         4 => counts(w, h, k, palette, lab, indices),
         5 => diff_mask(a, w, h, k, palette, lab, indices),
         6 => nearest_index(a, k, lab),
-        _ => eyedropper(a, w, h, k, palette, lab, indices),
+        7 => of_got(editor::eyedropper(w, h, k, palette, lab, indices, x, y)),
+        17 | 19 => clipped(c, a, w, h, k, palette, lab, indices),
+        18 => clip_rgba(a, w, h, k, palette, lab, indices),
+        20 => fixed_choices(a, w, h, k, palette, lab, indices),
+        21 | 22 => of_made(coloured(c, a, w, h, k, palette, lab, indices)),
+        23 => of_found(editor::nearest_other(w, h, k, palette, lab, indices, from)),
+        57 => extract(a, w, h, k, palette, lab, indices),
+        _ => list_answer(c, a, w, h, k, palette, lab, indices),
+    }
+}
+
+// Makes an index stray, now and then.
+fn spoil_index(wrong: usize, indices: &mut [i16]) {
+    if wrong == 0 {
+        if 0 < indices.len() {
+            indices[0] = 3;
+        }
+    }
+}
+
+// Makes a LAB number infinite, now and then.
+fn spoil_lab(wrong: usize, lab: &mut [f64]) {
+    if wrong == 1 {
+        if 0 < lab.len() {
+            lab[0] = 1e300 * 1e300;
+        }
+    }
+}
+
+// The palette count, or one past the limit.
+fn entries(wrong: usize, k: usize) -> usize {
+    if wrong == 2 { 256 } else { k }
+}
+
+// A call over a sheet of six pixels with up to 3 entries, which is now and then damaged.
+fn over_sheet(c: usize, d: &[u64; 32]) -> Outcome {
+    let a = deal(d);
+    let w = width(d[8]);
+    let h = height(d[8]);
+    let k = pick(d[10], 4);
+    let wrong = pick(d[11], 24);
+    let told_k = entries(wrong, k);
+    let mut palette = [0u8; 765];
+    let mut lab = [0.0f64; 765];
+    let mut indices = [0i16; 6];
+    fill_bytes(d[12], &mut palette);
+    fill_indices(d[13], k, &mut indices);
+    open(w, h, k, &palette, &mut lab, &indices);
+    spoil_index(wrong, &mut indices);
+    spoil_lab(wrong, &mut lab);
+    sheet_answer(c, a, w, h, told_k, &palette, &lab, &indices)
+}
+
+// A call that changes nothing, by its number in `test_sample`, on what is dealt.
+pub fn answer(c: usize, d: &[u64; 32]) -> Outcome {
+    match c {
+        26..=43 | 56 | 59..=62 => bare_answer(c, deal(d)),
+        _ => over_sheet(c, d),
     }
 }

@@ -1,6 +1,6 @@
 // A table of published values beside what `color::rgb8_to_lab` answers.
-use base_limits::Lab;
-use base_limits::Rgb;
+use base::Lab;
+use base::Rgb;
 ghost use mathlib.Core.Path.{_≡_};
 ghost use Prim.Native.Nat.{_+_, _≤_};
 ghost use lib.ListN.{length};

@@ -1,5 +1,5 @@
 -- The group: each example as its crate has proved it. Assumes nothing.
-use Rattle.tool_points.proofs.Examples as lines
+use Rattle.tool_line.proofs.Examples as lines
 use Rattle.change_normal.proofs.Examples as normal
 use Rattle.tool_move.proofs.Examples as moves
 use Rattle.history.proofs.Examples as history

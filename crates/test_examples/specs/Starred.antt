@@ -4,7 +4,7 @@ use mathlib.Core.List.{List, [], _∷_}
 use Prim.Native.Nat.{ℕ}
 use lib.IntN.{ℤ, pos, negsuc}
 use Rattle.selection.specs.declared.Selection.{Selection}
-use Rattle.tool_points.specs.Line.{Point, point, lineOf}
+use Rattle.tool_line.specs.Line.{Point, point, lineOf}
 use Rattle.edit.specs.Change.{Change, painted, newOf}
 use Rattle.change_normal.specs.Normal.{normalizeOf}
 use Rattle.tool_move.specs.Moves.{movedList}

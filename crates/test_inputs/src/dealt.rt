@@ -1,4 +1,6 @@
 // Inputs, dealt from a seed: a fixed sequence of numbers, and what is picked by them.
+use base::Rgb;
+use selection::Selection;
 ghost use mathlib.Core.Path.{_≡_};
 ghost use Prim.Native.Nat.{_<_};
 ghost use lib.ListN.{length};
@@ -84,8 +86,13 @@ fn extent(x: u64) -> u16 {
     }
 }
 
-pub fn selection(d: &[u64; 32]) -> [u16; 4] {
-    [corner(d[15]), corner(d[16]), extent(d[17]), extent(d[18])]
+pub fn part(d: &[u64; 32]) -> Selection {
+    Selection {
+        x: corner(d[15]),
+        y: corner(d[16]),
+        w: extent(d[17]),
+        h: extent(d[18]),
+    }
 }
 
 // A side of 0 to 3, or one at the limit or past it.
@@ -147,10 +154,14 @@ fn before(n: usize) -> i16 {
 }
 
 // A colour.
-pub fn colour(seed: u64) -> [u8; 3] {
+pub fn colour(seed: u64) -> Rgb {
     let mut rgb = [0u8; 3];
     fill_bytes(seed, &mut rgb);
-    rgb
+    Rgb {
+        r: rgb[0],
+        g: rgb[1],
+        b: rgb[2],
+    }
 }
 
 // Two colours.

@@ -6,10 +6,12 @@ use crate::dealt::index;
 use crate::dealt::kind;
 use crate::dealt::near;
 use crate::dealt::once_in;
+use crate::dealt::part;
 use crate::dealt::pick;
-use crate::dealt::selection;
 use crate::dealt::side;
 use crate::dealt::width;
+use selection::Area;
+use selection::Selection;
 
 // Two places, near the sheet, with coordinates that may be far; a place from 0 on; a selection or all.
 pub struct Spot {
@@ -22,7 +24,8 @@ pub struct Spot {
     pub across: usize,
     pub down: usize,
     pub whole: bool,
-    pub s: [u16; 4],
+    pub part: Selection,
+    pub area: Area,
 }
 
 // Two indices, two entries and a brush; whether there is a list of colours; an edit's kind, tool and byte; a radicand.
@@ -113,7 +116,15 @@ fn radicand(x: u64) -> f64 {
     }
 }
 
+// All, or the part.
+fn area(whole: bool, part: Selection) -> Area {
+    if whole { Area::Whole } else { Area::Part(part) }
+}
+
 fn deal_spot(d: &[u64; 32]) -> Spot {
+    let part = part(d);
+    let whole = once_in(d[14], 3);
+    let area = area(whole, part);
     Spot {
         x: coordinate(d[19]),
         y: near(d[20]),
@@ -123,8 +134,9 @@ fn deal_spot(d: &[u64; 32]) -> Spot {
         far_to_y: coordinate(d[22]),
         across: pick(d[19], 8),
         down: pick(d[20], 8),
-        whole: once_in(d[14], 3),
-        s: selection(d),
+        whole,
+        part,
+        area,
     }
 }
 

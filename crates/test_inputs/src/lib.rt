@@ -1,7 +1,9 @@
 // Inputs dealt from a seed, for the program `test_sample`; compare/sample.rs has the same in Rust. Of
 // these functions it is proved that they are safe and end, and what their callers need of a length or a bound.
+// Fingerprints of answers, for the program `test_sample`; compare/sample.rs has the same in Rust.
 mod dealt;
 mod hands;
+mod prints;
 
 pub use dealt::colour;
 pub use dealt::colours;
@@ -16,3 +18,18 @@ pub use dealt::pick;
 pub use dealt::width;
 pub use hands::Hand;
 pub use hands::deal;
+pub use prints::Outcome;
+pub use prints::mix_answer;
+pub use prints::mix_bytes;
+pub use prints::mix_counts;
+pub use prints::mix_doubles;
+pub use prints::mix_edit;
+pub use prints::mix_index;
+pub use prints::mix_indices;
+pub use prints::mix_number;
+pub use prints::mix_part;
+pub use prints::mix_points;
+pub use prints::mix_sizes;
+pub use prints::mix_triple;
+pub use prints::mix_words;
+pub use prints::told;

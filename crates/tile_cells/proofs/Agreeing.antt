@@ -10,7 +10,7 @@ use native.Mathlib.Omega.{arith}
 use borrow.Author.Tests.{lt-ltb, le-ltb}
 use lib.IntN.{ℤ}
 use lib.ListN.{length, getD, length-map}
-use Rattle.base_lists.specs.Lists.{range}
+use Rattle.base.specs.Lists.{range}
 use Rattle.tile_cells.specs.Tile.{position, orderTo, isFlipOf}
 use Rattle.tile_cells.specs.Cells.{cellCount, cellOf, cells, orderOf, firstCell}
 use Rattle.tile_cells.specs.Extract.{Extracted, entered, enteredAll, extractOf}

@@ -8,8 +8,8 @@ use native.Mathlib.Decide.{decLt, ℕ-discrete}
 use native.Mathlib.Omega.{arith}
 use borrow.Author.Tests.{ltb-true, ltb-false}
 use lib.IntN.{ℤ}
-use Rattle.base_lists.specs.Lists.{range}
-use Rattle.base_lists.proofs.Collect.{length-range}
+use Rattle.base.specs.Lists.{range}
+use Rattle.base.proofs.Collect.{length-range}
 use Rattle.tile_cells.specs.Tile.{isFlipOf}
 use Rattle.tile_cells.specs.Cells.{cellOf, orderOf, firstCell, codeOf}
 use Rattle.tile_cells.specs.Key.{keyOf}

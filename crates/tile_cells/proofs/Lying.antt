@@ -7,7 +7,7 @@ use native.Mathlib.Nat.{mul-le-mul-right}
 use native.Mathlib.Omega.{arith}
 use lib.IntN.{ℤ, pos}
 use lib.ListN.{length, getD}
-use Rattle.base_lists.specs.Lists.{range, over}
+use Rattle.base.specs.Lists.{range, over}
 use Rattle.tile_cells.specs.Tile.{turned, sameTile}
 use Rattle.tile_cells.specs.Seen.{inRow, rowSeen, rowOf, tileSeen, tileAt, Lies}
 use Rattle.tile_cells.specs.Key.{mixedAll}

@@ -7,9 +7,9 @@ use native.Mathlib.Decide.{decLe}
 use native.Mathlib.Omega.{arith}
 use lib.IntN.{ℤ}
 use lib.ListN.{length}
-use Rattle.base_lists.specs.Lists.{range}
-use Rattle.base_lists.proofs.Collect.{length-range}
-use Rattle.base_ints.proofs.Back.{never}
+use Rattle.base.specs.Lists.{range}
+use Rattle.base.proofs.Collect.{length-range}
+use Rattle.base.proofs.Back.{never}
 use Rattle.tile_cells.specs.Tile.{flipped, flips, flipAt, turnedBy, sameTile, position, orderTo}
 use Rattle.tile_cells.proofs.Rows.{range-at}
 use Rattle.tile_cells.proofs.Sameness.{same-equal, equal-same}

@@ -7,9 +7,9 @@ use native.Mathlib.Omega.{arith}
 use borrow.Rule.Slice.PartMut.{putMid}
 use lib.ListN.{length, set, take, drop, getD, length-map, length-set, drop-of-length-le, List·getD-append}
 use lib.Seq.{getD-append-add, getD-drop}
-use Rattle.base_lists.specs.Lists.{range, over}
-use Rattle.base_lists.proofs.Over.{over-none, over-set, over-lent, length-over}
-use Rattle.base_lists.proofs.Collect.{length-range, range-next, flatMap-append, flatMap-one, length-flatMap}
+use Rattle.base.specs.Lists.{range, over}
+use Rattle.base.proofs.Over.{over-none, over-set, over-lent, length-over}
+use Rattle.base.proofs.Collect.{length-range, range-next, flatMap-append, flatMap-one, length-flatMap}
 
 pub getD-range : (start n i d : ℕ) → i < n → getD (range start n) i d ≡ start + i
 unfolding range

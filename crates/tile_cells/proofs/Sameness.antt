@@ -7,10 +7,10 @@ use native.Mathlib.Nat.{add-zero}
 use native.Mathlib.Omega.{arith}
 use lib.IntN.{ℤ}
 use lib.ListN.{length}
-use Rattle.base_lists.specs.Lists.{range}
-use Rattle.base_lists.proofs.Bools.{and-left, and-right}
-use Rattle.base_ints.specs.Ints.{eqZ}
-use Rattle.base_ints.proofs.Back.{never, eqZ-same, same-index}
+use Rattle.base.specs.Lists.{range}
+use Rattle.base.proofs.Bools.{and-left, and-right}
+use Rattle.base.specs.Ints.{eqZ}
+use Rattle.base.proofs.Back.{never, eqZ-same, same-index}
 use Rattle.tile_cells.specs.Tile.{sameTile}
 use Rattle.tile_cells.proofs.Rows.{length-first, first-next, rows-more, length-rows}
 

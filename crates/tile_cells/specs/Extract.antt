@@ -18,7 +18,7 @@ pub record Entry : Type 0 where
 unfoldable pub entryOf : ℕ → ℕ → Entry
 entryOf tile order = record { tile = tile; h = flipAt order .h; v = flipAt order .v }
 
--- `unique` and `edit_entries`
+-- `unique` and `entries`
 pub record Extracted : Type 0 where
   pub unique : List (List ℤ)
   pub entries : List Entry

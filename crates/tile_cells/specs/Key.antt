@@ -21,7 +21,9 @@ numberOf tile = mixedAll 7 tile * mixedAll 7 tile / 2 ^ 16 % 2 ^ 32
 
 -- the numbers of its flips together: flips keep this
 unfoldable pub keyOf : ℕ → List ℤ → ℕ
-keyOf t tile = (numberOf (flipped t false false tile) + numberOf (flipped t true false tile) + numberOf (flipped t false true tile) + numberOf (flipped t true true tile)) % 2 ^ 32
+keyOf t tile =
+    (numberOf (flipped t false false tile) + numberOf (flipped t true false tile)
+    + numberOf (flipped t false true tile) + numberOf (flipped t true true tile)) % 2 ^ 32
 
 -- a key spread over n places
 unfoldable pub scaled : ℕ → ℕ → ℕ

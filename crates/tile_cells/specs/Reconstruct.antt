@@ -5,7 +5,7 @@ use mathlib.Core.List.{List, [], _∷_, _++_}
 use lib.Dec.{ltb, leb, eqb}
 use lib.IntN.{ℤ, negsuc}
 use lib.ListN.{length, getD, take, drop, replicate}
-use Rattle.base_lists.specs.Lists.{some, range}
+use Rattle.base.specs.Lists.{some, range}
 use Rattle.tile_cells.specs.Tile.{flipped}
 use Rattle.tile_cells.specs.Extract.{Entry, Extracted}
 

@@ -4,7 +4,7 @@ use mathlib.Core.Bool.{Bool, false}
 use mathlib.Core.List.{List, map, flatMap}
 use lib.IntN.{ℤ, pos}
 use lib.ListN.{getD}
-use Rattle.base_lists.specs.Lists.{range}
+use Rattle.base.specs.Lists.{range}
 use Rattle.tile_cells.specs.Tile.{turned}
 
 -- the index in column x of a row of t from a place on

@@ -5,8 +5,8 @@ use mathlib.Core.List.{List, [], _∷_, map, flatMap}
 use lib.Dec.{ltb}
 use lib.IntN.{ℤ, pos}
 use lib.ListN.{getD}
-use Rattle.base_lists.specs.Lists.{range}
-use Rattle.base_ints.specs.Ints.{eqZ}
+use Rattle.base.specs.Lists.{range}
+use Rattle.base.specs.Ints.{eqZ}
 
 -- `for y in 0..t { .. for x in 0..t { .. out.push(..) } }`
 unfoldable pub grid : ℕ → (ℕ → ℕ → ℤ) → List ℤ

@@ -1,7 +1,7 @@
 // Whether a tile, flipped, is another one, and by which flip first.
 use crate::reading::turn;
-use base_ints::same;
-use edit_pixels::both;
+use base::both;
+use base::same;
 ghost use mathlib.Core.Path.{_≡_};
 ghost use mathlib.Core.Bool.{false};
 ghost use Prim.Native.Nat.{_+_, _≤_};
@@ -24,7 +24,9 @@ fn same_row(src: &[i16], p: usize, q: usize, t: usize, fh: bool) -> bool
 // Whether the tile at p, flipped, is the tile at q. The first row that differs ends it.
 fn same_tile(src: &[i16], p: usize, q: usize, stride: usize, t: usize, fh: bool, fv: bool) -> bool
     requires { ⌜ Lies (length (now src)) p stride t × Lies (length (now src)) q stride t ⌝ }
-    ensures { λ r. ⌜ r ≡ sameTile (tileSeen (now (src .entry)) p stride t fh fv) (tileAt (now (src .entry)) q stride t) ⌝ }
+    ensures { λ r. ⌜
+        r ≡ sameTile (tileSeen (now (src .entry)) p stride t fh fv) (tileAt (now (src .entry)) q stride t)
+        ⌝ }
 {
     for y in 0..t {
         if !same_row(src, p + turn(fv, t, y) * stride, q + y * stride, t, fh) {

@@ -2,7 +2,7 @@
 ghost use mathlib.Core.Path.{_≡_};
 ghost use Prim.Native.Nat.{_+_, _*_, _≤_, _<_, _^_};
 ghost use lib.ListN.{length};
-ghost use Rattle.base_lists.specs.Lists.{over};
+ghost use Rattle.base.specs.Lists.{over};
 ghost use Rattle.tile_cells.specs.Tile.{turned};
 ghost use Rattle.tile_cells.specs.Cells.{cornerOf};
 ghost use Rattle.tile_cells.specs.Seen.{rowSeen, tileSeen, Lies};

@@ -8,7 +8,7 @@ use native.Mathlib.Omega.{arith}
 use borrow.Rule.Slice.PartMut.{putMid, midOf, postOf, same-len-mid}
 use lib.ListN.{length, take, drop, getD, length-take, length-drop, List·getD-append}
 use lib.Seq.{length-take-le, getD-take, getD-drop, getD-append-add}
-use Rattle.base_lists.proofs.Each.{at-all}
+use Rattle.base.proofs.Each.{at-all}
 use Rattle.base_sort.specs.Order.{sorted, count}
 use Rattle.base_sort.proofs.Order.{Sorted, sorted-sorted, count-sorted, one-same, one-other}
 use Rattle.tile_classes.specs.Ranks.{numberAt}

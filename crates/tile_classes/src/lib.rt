@@ -16,7 +16,9 @@ ghost use Rattle.tile_cells.specs.Cells.{Tiled, cellCount, firstCells};
 // For each cell, in order, the first cell that it is a flip of, times 4, and the first of the flips none, h, v, both
 // (0 to 3) by which it is: left at the front of the scratch, which has two places a cell.
 pub fn first_cells_sorted(w: usize, h: usize, t: usize, indices: &[i16], scratch: &mut [u64])
-    requires { ⌜ Tiled w h t (now indices) × (0 < cellCount w h t) × (cellCount w h t + cellCount w h t ≤ length (now scratch)) ⌝ }
+    requires { ⌜
+        Tiled w h t (now indices) × (0 < cellCount w h t) × (cellCount w h t + cellCount w h t ≤ length (now scratch))
+        ⌝ }
     ensures { λ _. ⌜ take (cellCount w h t) (now (scratch .exit)) ≡ firstCells w h t (now (indices .entry)) ⌝ }
 {
     let n = h / t * (w / t);

@@ -55,7 +55,9 @@ fn number(w: usize, h: usize, t: usize, indices: &[i16], c: usize, p: usize, v: 
 fn number_all(w: usize, h: usize, t: usize, indices: &[i16], n: usize, p: usize, s: &mut [u64])
     requires { ⌜ Tiled w h t (now indices) × (n ≡ cellCount w h t) × (p < t * t) ⌝ }
     requires { ⌜ Told w t (now indices) n p (now s) ⌝ }
-    ensures { λ _. ⌜ Numbered Digit n (λ c. pixelOf w t (now (indices .entry)) c p) (now (s .entry)) (now (s .exit)) n ⌝ }
+    ensures { λ _. ⌜
+        Numbered Digit n (λ c. pixelOf w t (now (indices .entry)) c p) (now (s .entry)) (now (s .exit)) n
+        ⌝ }
 {
     for c in 0..n {
         let v = number(w, h, t, indices, c, p, s[c]);

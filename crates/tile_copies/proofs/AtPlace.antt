@@ -19,7 +19,7 @@ use Rattle.edit.specs.Change.{Change, unpacked}
 use Rattle.change_normal.specs.Normal.{joined}
 use Rattle.change_normal.specs.Laws.{folded, firstLast}
 use Rattle.tile_marks.specs.Marks.{run, placeAt, newBits, lastIn, elsewhere, markBy, landBy}
-use Rattle.tile_pending.specs.Pending.{oldBits, pendingBy}
+use Rattle.tile_copies.specs.Pending.{oldBits, pendingBy}
 use Rattle.tile_marks.proofs.Runs.{run-hit, run-miss, run-none}
 
 -- ---- one change more

@@ -11,12 +11,12 @@ use lib.Dec.{eqb}
 use lib.IntN.{ℤ, pos}
 use lib.ListN.{length, getD}
 use borrow.Author.Tests.{eq-eqb, ne-eqb}
-use Rattle.base_lists.specs.Lists.{range, kept, All}
-use Rattle.base_lists.proofs.Kept.{kept-append, all-kept}
+use Rattle.base.specs.Lists.{range, kept, All}
+use Rattle.base.proofs.Kept.{kept-append, all-kept}
 use Rattle.selection.specs.declared.Selection.{Selection}
 use Rattle.selection.specs.Selection.{contains}
 use Rattle.edit.specs.Change.{Change, place}
-use Rattle.base_lists.proofs.Each.{all-flat, all-in-range}
+use Rattle.base.proofs.Each.{all-flat, all-in-range}
 use Rattle.change_normal.specs.Normal.{keyOf}
 use Rattle.change_normal.specs.Laws.{On, atPlace}
 use Rattle.tile_cells.specs.Tile.{turned}

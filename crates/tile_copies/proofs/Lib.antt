@@ -1,3 +1,4 @@
+pub mod Emitting
 pub mod Places
 pub mod AtPlace
 pub mod Written

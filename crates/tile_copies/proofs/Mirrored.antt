@@ -13,13 +13,13 @@ use lib.IntN.{ℤ}
 use lib.ListN.{length, take, getD, length-map}
 use lib.Seq.{getD-take, ext-getD}
 use borrow.Author.Tests.{eq-eqb, ne-eqb}
-use Rattle.base_lists.specs.Lists.{range, kept, All}
-use Rattle.base_lists.proofs.Kept.{kept-append}
-use Rattle.base_lists.proofs.Collect.{flatMap-append, flatMap-one}
+use Rattle.base.specs.Lists.{range, kept, All}
+use Rattle.base.proofs.Kept.{kept-append}
+use Rattle.base.proofs.Collect.{flatMap-append, flatMap-one}
 use Rattle.selection.specs.declared.Selection.{Selection}
 use Rattle.selection.specs.Selection.{contains}
 use Rattle.edit.specs.Change.{Change, packed, unpacked, place}
-use Rattle.base_lists.proofs.Each.{all-append, all-map, all-flat}
+use Rattle.base.proofs.Each.{all-append, all-map, all-flat}
 use Rattle.change_normal.specs.Normal.{keyOf, changing}
 use Rattle.change_normal.specs.Laws.{On, atPlace, firstLast}
 use Rattle.tile_cells.specs.Cells.{cellCount, codeOf, firstCells}
@@ -27,7 +27,7 @@ use Rattle.tile_cells.specs.Extract.{extractOf}
 use Rattle.tile_cells.proofs.Rows.{getD-map, length-first, first-next, first-at}
 use Rattle.tile_cells.proofs.Corners.{across, area}
 use Rattle.tile_marks.specs.Marks.{cellOfPlace, classBy, run, placeAt, markBy, markedBy, marked, landBy, landed, Listed, Coded, Classes, Marks}
-use Rattle.tile_pending.specs.Pending.{pendingBy, pending, emitted, emittedAll}
+use Rattle.tile_copies.specs.Pending.{pendingBy, pending, emitted, emittedAll}
 use Rattle.tile_marks.proofs.Runs.{mark-small, marked-class, marked-mark}
 use Rattle.tile_copies.specs.Mirror.{copiesOf, mirrorChanges, mirrored, Mirrorable}
 use Rattle.tile_copies.proofs.Places.{flat-same, keyAt, key-place, key-same, normal-gathered}

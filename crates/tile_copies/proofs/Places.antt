@@ -7,10 +7,10 @@ use native.Mathlib.Nat.{mod-lt, div-add-mod'}
 use native.Mathlib.Decide.{ℕ-discrete}
 use lib.Arith.{digits-div, digits-mod}
 use borrow.Author.Tests.{eq-eqb, ne-eqb}
-use Rattle.base_lists.specs.Lists.{range, kept, All}
+use Rattle.base.specs.Lists.{range, kept, All}
 use Rattle.edit.specs.Change.{Change, place}
-use Rattle.base_lists.proofs.Each.{all-map}
-use Rattle.base_lists.proofs.Kept.{all-kept}
+use Rattle.base.proofs.Each.{all-map}
+use Rattle.base.proofs.Kept.{all-kept}
 use Rattle.change_normal.specs.Normal.{keyOf, entered, changing, normalizeOf}
 use Rattle.change_normal.specs.Laws.{On, Ordered, atPlace, firstLast}
 use Rattle.change_normal.proofs.Shortest.{normal-ordered, inside, on-entered}

@@ -12,11 +12,11 @@ use mir.Val.{SFits, toZ, ofZ}
 use mir.ValLaws.{ofZ-toZ, toZ-ofZ, ofZ-fits}
 use Rattle.edit.specs.Change.{packed}
 use Rattle.change_normal.specs.Normal.{changing}
-use Rattle.base_lists.specs.Lists.{kept}
+use Rattle.base.specs.Lists.{kept}
 use Rattle.change_list.specs.Between.{differenceOf}
 use Rattle.change_normal.proofs.Packing.{eqZ-bits}
 use Rattle.tile_marks.specs.Marks.{newBits}
-use Rattle.tile_pending.specs.Pending.{oldIn, emitted}
+use Rattle.tile_copies.specs.Pending.{oldIn, emitted}
 use Rattle.tile_copies.proofs.AtPlace.{waitingAt}
 
 module _ (w : ℕ) (l : List ℤ) (p v : ℕ) (fits : SFits w16 (getD l p (pos 0))) where

@@ -7,7 +7,7 @@ use lib.IntN.{ℤ, pos}
 use lib.ListN.{length, getD}
 use mir.Syntax.{w16}
 use mir.Val.{SFits}
-use Rattle.base_lists.specs.Lists.{range, kept}
+use Rattle.base.specs.Lists.{range, kept}
 use Rattle.selection.specs.declared.Selection.{Selection}
 use Rattle.selection.specs.Selection.{contains}
 use Rattle.edit.specs.Change.{Change, unpacked}

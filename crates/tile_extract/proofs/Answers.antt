@@ -6,15 +6,15 @@ use native.Mathlib.Omega.{arith}
 use borrow.Author.Tests.{lt-ltb, le-ltb, eq-eqb, ne-eqb}
 use lib.IntN.{ℤ}
 use lib.ListN.{length}
-use Rattle.base_limits.specs.Checks.{firstOf, refusedOr}
-use Rattle.base_lists.specs.Lists.{over}
+use Rattle.base.specs.Checks.{firstOf, refusedOr}
+use Rattle.base.specs.Lists.{over}
 use Rattle.sheet.specs.Sheet.{Sheet}
 use Rattle.sheet.specs.Checks.{WellFormed, Judged}
 use Rattle.sheet.proofs.Judging.{past-sheet, refused-sheet}
 use Rattle.tile_cells.specs.Cells.{Tiled, cellCount}
 use Rattle.tile_cells.specs.Extract.{extractOf, tilesOf, mapOf}
 use Rattle.tile_cells.specs.Ids.{firstsBelow}
-use Rattle.tile_extract.specs.declared.Extraction.the-variants.{Made, Refused}
+use Rattle.base.specs.declared.Extraction.the-variants.{Made, Refused}
 use Rattle.tile_extract.specs.Extracts.{Left, left, sideChecks, extractedIn, extractCall}
 use Rattle.tile_layout.proofs.Laid.{unique-count, entries-count, tiles-long, map-long}
 

@@ -11,9 +11,9 @@ use lib.Dec.{leb}
 use lib.IntN.{ℤ, pos, negsuc}
 use lib.ListN.{length, getD, take, drop, replicate, length-map, length-append, length-take, length-drop, length-replicate, List·getD-append}
 use lib.Seq.{length-take-le, getD-append-add, getD-take, getD-drop, ext-getD}
-use Rattle.base_lists.specs.Lists.{range, some}
-use Rattle.base_lists.proofs.Collect.{length-range}
-use Rattle.base_lists.proofs.Nowhere.{some-map, nowhere-of}
+use Rattle.base.specs.Lists.{range, some}
+use Rattle.base.proofs.Collect.{length-range}
+use Rattle.base.proofs.Nowhere.{some-map, nowhere-of}
 use Rattle.tile_cells.specs.Tile.{Flip, flipped, flipAt, turnedBy, orderTo}
 use Rattle.tile_cells.specs.Cells.{Tiled, cellCount, cellOf, orderOf, firstCell}
 use Rattle.tile_cells.specs.Extract.{entryOf, extractOf}

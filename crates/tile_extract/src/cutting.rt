@@ -1,8 +1,8 @@
 // `extract` at tolerance 0. The first cell of each cell is left in the scratch; these are numbered there, in order, and
 // only then the tiles and the map are written.
-use crate::Extraction;
-use base_limits::BAD_CLIP;
-use base_limits::NO_SPACE;
+use base::BAD_CLIP;
+use base::Extraction;
+use base::NO_SPACE;
 use sheet::check;
 use tile_layout::copy_tiles;
 use tile_layout::number_tiles;
@@ -25,7 +25,10 @@ fn extract_in(
     map: &mut [u32],
 ) -> Extraction
     requires { ⌜ Tiled w h t (now indices) × (now s ≡ firstCells w h t (now indices)) ⌝ }
-    ensures { λ r. ⌜ left r (now (tiles .exit)) (now (map .exit)) ≡ extractedIn w h t (now (indices .entry)) (now (tiles .entry)) (now (map .entry)) ⌝ }
+    ensures { λ r. ⌜
+        left r (now (tiles .exit)) (now (map .exit))
+        ≡ extractedIn w h t (now (indices .entry)) (now (tiles .entry)) (now (map .entry))
+        ⌝ }
 {
     let m = number_tiles(s);
     if tiles.len() < m * t * t {
@@ -58,7 +61,11 @@ pub fn extract(
     map: &mut [u32],
     scratch: &mut [u64],
 ) -> Extraction
-    ensures { λ r. ⌜ left r (now (tiles .exit)) (now (map .exit)) ≡ extractCall (sheetOf w h k (now (palette .entry)) (now (lab .entry)) (now (indices .entry))) t (length (now (scratch .entry))) (now (tiles .entry)) (now (map .entry)) ⌝ }
+    ensures { λ r. ⌜ (
+        let sheet = sheetOf w h k (now (palette .entry)) (now (lab .entry)) (now (indices .entry)) in
+        left r (now (tiles .exit)) (now (map .exit))
+        ≡ extractCall sheet t (length (now (scratch .entry))) (now (tiles .entry)) (now (map .entry))
+        ) ⌝ }
     ensures { λ _. ⌜ length (now (scratch .exit)) ≡ length (now (scratch .entry)) ⌝ }
 {
     let no = check(w, h, k, palette, lab, indices);

@@ -3,9 +3,3 @@ mod cutting;
 
 pub use cutting::extract;
 pub use tile_flip::flip;
-
-// How many tiles and map entries `extract` made.
-pub enum Extraction {
-    Made { tiles: usize, entries: usize },
-    Refused(u8),
-}

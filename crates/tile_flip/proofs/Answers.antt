@@ -6,10 +6,10 @@ use Prim.Native.Nat.{ℕ, _*_, _<_, _≤_}
 use borrow.Author.Tests.{lt-ltb, le-ltb, eq-eqb, ne-eqb}
 use lib.IntN.{ℤ}
 use lib.ListN.{length}
-use Rattle.base_limits.specs.Checks.{firstOf, refusedOr}
-use Rattle.base_limits.specs.Answer.{filled}
-use Rattle.base_limits.specs.declared.Counted.the-variants as counted
-use Rattle.base_lists.specs.Lists.{over}
+use Rattle.base.specs.Checks.{firstOf, refusedOr}
+use Rattle.base.specs.Answer.{filled}
+use Rattle.base.specs.declared.Counted.the-variants as counted
+use Rattle.base.specs.Lists.{over}
 use Rattle.tile_cells.specs.Seen.{tileSeen}
 use Rattle.tile_cells.proofs.Flipping.{alone-flipped}
 use Rattle.tile_flip.specs.Flips.{flipOf}

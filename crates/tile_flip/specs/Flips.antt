@@ -5,12 +5,12 @@ use mathlib.Core.List.{List, [], _∷_}
 use lib.Dec.{ltb, eqb}
 use lib.IntN.{ℤ}
 use lib.ListN.{length}
-use Rattle.base_limits.specs.Limits.{maxSide}
-use Rattle.base_limits.specs.Numbers.{noSpace, badClip}
-use Rattle.base_limits.specs.Checks.{_when_, checked}
-use Rattle.base_limits.specs.Answer.{Filled, filled}
-use Rattle.base_limits.specs.declared.Counted.the-variants.{Count, Refused}
-use Rattle.base_lists.specs.Lists.{over}
+use Rattle.base.specs.Limits.{maxSide}
+use Rattle.base.specs.Numbers.{noSpace, badClip}
+use Rattle.base.specs.Checks.{_when_, checked}
+use Rattle.base.specs.Answer.{Filled, leaving}
+use Rattle.base.specs.Answer.Told.{result, alone}
+use Rattle.base.specs.Lists.{over}
 use Rattle.tile_cells.specs.Tile.{flipped}
 
 -- 17: "side over 1,024 .. or length not w × h (`flip`: both sides t)"; then 16; t × t indices
@@ -21,5 +21,5 @@ flipOf t flipH flipV tile out =
     ∷ badClip when not (eqb (length tile) (t * t))
     ∷ noSpace when ltb (length out) (t * t)
     ∷ [])
-    (λ n. filled (Refused n) out)
-    (filled (Count (t * t)) (over (flipped t flipH flipV tile) out))
+    (λ n. leaving (alone n) out)
+    (leaving (result (t * t)) (over (flipped t flipH flipV tile) out))

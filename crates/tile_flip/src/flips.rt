@@ -1,11 +1,11 @@
 // `flip`.
-use base_limits::BAD_CLIP;
-use base_limits::Counted;
-use base_limits::MAX_SIDE;
-use base_limits::NO_SPACE;
+use base::BAD_CLIP;
+use base::Counted;
+use base::MAX_SIDE;
+use base::NO_SPACE;
 use tile_cells::copy_tile;
 ghost use mathlib.Core.Path.{_≡_};
-ghost use Rattle.base_limits.specs.Answer.{filled};
+ghost use Rattle.base.specs.Answer.{filled};
 ghost use Rattle.tile_flip.specs.Flips.{flipOf};
 
 // A t × t tile flipped horizontally (columns reversed) and/or vertically (rows reversed), over the front of out.

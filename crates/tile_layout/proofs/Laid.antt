@@ -10,9 +10,9 @@ use native.Mathlib.Omega.{arith}
 use borrow.Rule.Slice.PartMut.{putMid}
 use lib.IntN.{ℤ}
 use lib.ListN.{length, getD, set, take, drop, length-map}
-use Rattle.base_lists.specs.Lists.{range, over}
-use Rattle.base_lists.proofs.Over.{over-none, over-lent, length-over}
-use Rattle.base_lists.proofs.Collect.{flatMap-append, flatMap-one, length-flatMap, length-range}
+use Rattle.base.specs.Lists.{range, over}
+use Rattle.base.proofs.Over.{over-none, over-lent, length-over}
+use Rattle.base.proofs.Collect.{flatMap-append, flatMap-one, length-flatMap, length-range}
 use Rattle.tile_cells.specs.Tile.{flips, flipAt}
 use Rattle.tile_cells.specs.Cells.{Tiled, cellCount, cellOf, cornerOf, orderOf, firstCell}
 use Rattle.tile_cells.specs.Seen.{tileAt}

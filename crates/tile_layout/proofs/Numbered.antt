@@ -8,7 +8,7 @@ use native.Mathlib.Omega.{arith}
 use borrow.Author.Tests.{eq-eqb, ne-eqb}
 use lib.IntN.{ℤ}
 use lib.ListN.{length, getD, set}
-use Rattle.base_lists.specs.Lists.{range}
+use Rattle.base.specs.Lists.{range}
 use Rattle.tile_cells.specs.Cells.{cellCount, orderOf, firstCell, codeOf, firstCells}
 use Rattle.tile_cells.specs.Ids.{firstsBelow, tileId, idOf}
 use Rattle.tile_cells.proofs.Rows.{Row, row-none, row-next, row-behind, row-front, row-whole, first-at, length-first}

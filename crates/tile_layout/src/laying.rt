@@ -5,7 +5,7 @@ ghost use mathlib.Core.Path.{_≡_};
 ghost use mathlib.Core.List.{map, flatMap};
 ghost use Prim.Native.Nat.{ℕ, _*_, _/_, _≤_, _<_, _^_};
 ghost use lib.ListN.{length, getD};
-ghost use Rattle.base_lists.specs.Lists.{range, over};
+ghost use Rattle.base.specs.Lists.{range, over};
 ghost use Rattle.tile_cells.specs.Cells.{Tiled, cellCount, cellOf};
 ghost use Rattle.tile_cells.specs.Ids.{firstsBelow, idOf};
 ghost use Rattle.tile_layout.specs.Numbering.{Coded, ownBelow, numbered, flatId};
@@ -13,7 +13,10 @@ ghost use Rattle.tile_layout.specs.Numbering.{Coded, ownBelow, numbered,
 // The tile of each cell in the place of its first cell; answers how many tiles there are.
 pub fn number_tiles(s: &mut [u64]) -> usize
     requires { ⌜ Coded (now s) ⌝ }
-    ensures { λ r. ⌜ (now (s .exit) ≡ map (numbered (now (s .entry))) (range 0 (length (now (s .entry))))) × (r ≡ ownBelow (now (s .entry)) (length (now (s .entry)))) ⌝ }
+    ensures { λ r. ⌜
+        (now (s .exit) ≡ map (numbered (now (s .entry))) (range 0 (length (now (s .entry)))))
+        × (r ≡ ownBelow (now (s .entry)) (length (now (s .entry))))
+        ⌝ }
 {
     let mut m: usize = 0;
     for c in 0..s.len() {
@@ -34,7 +37,11 @@ pub fn copy_tiles(w: usize, h: usize, t: usize, indices: &[i16], s: &[u64], tile
     requires { ⌜ Tiled w h t (now indices) × (length (now s) ≡ cellCount w h t) ⌝ }
     requires { ⌜ now s ≡ map (idOf w t (now indices)) (range 0 (cellCount w h t)) ⌝ }
     requires { ⌜ length (firstsBelow w t (now indices) (cellCount w h t)) * (t * t) ≤ length (now tiles) ⌝ }
-    ensures { λ _. ⌜ now (tiles .exit) ≡ over (flatMap (cellOf w t (now (indices .entry))) (firstsBelow w t (now (indices .entry)) (cellCount w h t))) (now (tiles .entry)) ⌝ }
+    ensures { λ _. ⌜
+        now (tiles .exit)
+        ≡ over (flatMap (cellOf w t (now (indices .entry))) (firstsBelow w t (now (indices .entry)) (cellCount w h t)))
+        (now (tiles .entry))
+        ⌝ }
 {
     let mut k: usize = 0;
     for c in 0..s.len() {
@@ -66,8 +73,14 @@ fn put_entry(v: u64, out: &mut [u32])
 
 // The entries of all cells.
 pub fn put_map(s: &[u64], map: &mut [u32])
-    requires { ⌜ ((i : ℕ) → i < length (now s) → getD (now s) i 0 / 4 < 2 ^ 32) × (length (now s) * 3 ≤ length (now map)) ⌝ }
-    ensures { λ _. ⌜ now (map .exit) ≡ over (flatMap (λ i. flatId (getD (now (s .entry)) i 0)) (range 0 (length (now (s .entry))))) (now (map .entry)) ⌝ }
+    requires { ⌜
+        ((i : ℕ) → i < length (now s) → getD (now s) i 0 / 4 < 2 ^ 32) × (length (now s) * 3 ≤ length (now map))
+        ⌝ }
+    ensures { λ _. ⌜
+        now (map .exit)
+        ≡ over (flatMap (λ i. flatId (getD (now (s .entry)) i 0)) (range 0 (length (now (s .entry)))))
+        (now (map .entry))
+        ⌝ }
 {
     for i in 0..s.len() {
         let to = i * 3;

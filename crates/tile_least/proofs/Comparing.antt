@@ -9,8 +9,8 @@ use borrow.Author.Tests.{ltb-true, ltb-false, le-ltb, ne-eqb}
 use lib.IntN.{ℤ, pos, negsuc}
 use lib.Signed.{ltZ}
 use lib.ListN.{length}
-use Rattle.base_lists.specs.Lists.{range}
-use Rattle.base_ints.proofs.Back.{never}
+use Rattle.base.specs.Lists.{range}
+use Rattle.base.proofs.Back.{never}
 use Rattle.tile_cells.proofs.Rows.{length-first, first-next, rows-more, length-rows}
 use Rattle.tile_cells.proofs.Positions.{cases}
 use Rattle.tile_least.specs.Least.{comparedZ, orElse, compared, lesser}

@@ -7,7 +7,7 @@ use native.Mathlib.Nat.{mod-lt, div-add-mod', div-lt-iff-lt-mul}
 use native.Mathlib.Omega.{arith}
 use lib.IntN.{ℤ, pos}
 use lib.ListN.{getD}
-use Rattle.base_lists.specs.Lists.{range}
+use Rattle.base.specs.Lists.{range}
 use Rattle.tile_cells.specs.Tile.{grid, turned, flipAt, turnedBy}
 use Rattle.tile_cells.specs.Seen.{inRow, rowSeen, rowOf, tileSeen}
 use Rattle.tile_cells.proofs.Grids.{grid-at}

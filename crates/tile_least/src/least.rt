@@ -44,7 +44,11 @@ fn compare_flips(
     qv: bool,
 ) -> u64
     requires { ⌜ Lies (length (now src)) corner stride t ⌝ }
-    ensures { λ r. ⌜ r ≡ compared (tileSeen (now (src .entry)) corner stride t ph pv) (tileSeen (now (src .entry)) corner stride t qh qv) ⌝ }
+    ensures { λ r. ⌜
+        r
+        ≡ compared (tileSeen (now (src .entry)) corner stride t ph pv)
+        (tileSeen (now (src .entry)) corner stride t qh qv)
+        ⌝ }
 {
     for y in 0..t {
         let n = compare_rows(
@@ -84,7 +88,9 @@ fn lesser_order(src: &[i16], corner: usize, stride: usize, t: usize, o: u64, q: 
 // An order of the flips none, h, v, both (0 to 3) in which the tile at a corner reads least.
 pub fn least_order(src: &[i16], corner: usize, stride: usize, t: usize) -> u64
     requires { ⌜ Lies (length (now src)) corner stride t ⌝ }
-    ensures { λ r. ⌜ (seenIn (now (src .entry)) corner stride t r ≡ leastOf t (tileAt (now (src .entry)) corner stride t)) × (r < 4) ⌝ }
+    ensures { λ r. ⌜
+        (seenIn (now (src .entry)) corner stride t r ≡ leastOf t (tileAt (now (src .entry)) corner stride t)) × (r < 4)
+        ⌝ }
 {
     let upper = lesser_order(src, corner, stride, t, 0, 1);
     let lower = lesser_order(src, corner, stride, t, 2, 3);

@@ -43,7 +43,10 @@ fn class_by(w: usize, t: usize, code: u64, p: usize) -> usize
 // place on, no code is overwritten before it was read.
 pub fn spread(w: usize, t: usize, s: &mut [u64])
     requires { ⌜ Coded w t (now s) ⌝ }
-    ensures { λ _. ⌜ ((p : ℕ) → p < length (now (s .entry)) → getD (now (s .exit)) p 0 ≡ classBy w t (getD (now (s .entry)) (cellOfPlace w t p) 0) p) ⌝ }
+    ensures { λ _. ⌜
+        ((p : ℕ) → p < length (now (s .entry))
+        → getD (now (s .exit)) p 0 ≡ classBy w t (getD (now (s .entry)) (cellOfPlace w t p) 0) p)
+        ⌝ }
 {
     let mut p = s.len();
     while 0 < p {

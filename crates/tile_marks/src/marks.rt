@@ -31,7 +31,9 @@ fn one(b: bool) -> u64
 
 // Whether a change of the class with mark m is at another place than q.
 fn is_elsewhere(w: usize, list: &[u64], m: u64, q: usize) -> bool
-    requires { ⌜ (m < 2 * length (now list) + 2) × ((j : ℕ) → j < length (now list) → placeAt w (now list) j < 2 ^ 20) ⌝ }
+    requires { ⌜
+        (m < 2 * length (now list) + 2) × ((j : ℕ) → j < length (now list) → placeAt w (now list) j < 2 ^ 20)
+        ⌝ }
     ensures { λ r. ⌜ r ≡ elsewhere w (now (list .entry)) m q ⌝ }
 {
     if m < 2 {
@@ -58,7 +60,10 @@ fn mark_by(w: usize, list: &[u64], i: usize, v: u64) -> u64
 // Each class marked with its last change, at the place that is the class.
 pub fn mark_all(w: usize, list: &[u64], s: &mut [u64])
     requires { ⌜ Listed w (now list) (length (now s)) × Classes (now s) ⌝ }
-    ensures { λ _. ⌜ ((p : ℕ) → p < length (now (s .entry)) → getD (now (s .exit)) p 0 ≡ marked w (now (list .entry)) (now (s .entry)) p) ⌝ }
+    ensures { λ _. ⌜
+        ((p : ℕ) → p < length (now (s .entry))
+        → getD (now (s .exit)) p 0 ≡ marked w (now (list .entry)) (now (s .entry)) p)
+        ⌝ }
 {
     let mut i: usize = 0;
     while i < list.len() {
@@ -71,7 +76,9 @@ pub fn mark_all(w: usize, list: &[u64], s: &mut [u64])
 
 // What lands on place p, whose class has mark m: nothing, or the new of the class's last change.
 fn land_by(w: usize, region: Selection, list: &[u64], p: usize, m: u64) -> u64
-    requires { ⌜ (0 < w) × (m < 2 * length (now list) + 2) × ((j : ℕ) → j < length (now list) → placeAt w (now list) j < 2 ^ 20) ⌝ }
+    requires { ⌜
+        (0 < w) × (m < 2 * length (now list) + 2) × ((j : ℕ) → j < length (now list) → placeAt w (now list) j < 2 ^ 20)
+        ⌝ }
     ensures { λ r. ⌜ (r ≡ landBy w region (now (list .entry)) p m) × (r < 2 ^ 22) ⌝ }
 {
     if !region.contains(p % w, p / w) {
@@ -87,7 +94,10 @@ fn land_by(w: usize, region: Selection, list: &[u64], p: usize, m: u64) -> u64
 // The copies, each at the place that it lands on.
 pub fn land_all(w: usize, region: Selection, list: &[u64], s: &mut [u64])
     requires { ⌜ (0 < w) × Listed w (now list) (length (now s)) × Marks (now list) (now s) ⌝ }
-    ensures { λ _. ⌜ ((p : ℕ) → p < length (now (s .entry)) → getD (now (s .exit)) p 0 ≡ landed w region (now (list .entry)) (now (s .entry)) p) ⌝ }
+    ensures { λ _. ⌜
+        ((p : ℕ) → p < length (now (s .entry))
+        → getD (now (s .exit)) p 0 ≡ landed w region (now (list .entry)) (now (s .entry)) p)
+        ⌝ }
 {
     let mut p: usize = 0;
     while p < s.len() {

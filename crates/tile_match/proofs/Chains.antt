@@ -10,8 +10,8 @@ use borrow.Author.Tests.{eq-eqb, eqb-true}
 use lib.Dec.{eqb}
 use lib.IntN.{ℤ}
 use lib.ListN.{getD}
-use Rattle.base_lists.proofs.Bools.{and-left, and-right}
-use Rattle.base_ints.proofs.Back.{never}
+use Rattle.base.proofs.Bools.{and-left, and-right}
+use Rattle.base.proofs.Back.{never}
 use Rattle.tile_cells.specs.Cells.{cornerOf, orderOf, firstCell, codeOf}
 use Rattle.tile_cells.specs.Seen.{tileAt}
 use Rattle.tile_cells.specs.Key.{keyOf, scaled}

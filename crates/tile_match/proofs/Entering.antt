@@ -11,7 +11,7 @@ use borrow.Author.Tests.{eq-eqb, ne-eqb}
 use lib.IntN.{ℤ}
 use lib.ListN.{length, getD, set, length-set}
 use lib.Seq.{getD-set-same, getD-set-other}
-use Rattle.base_lists.specs.Lists.{range}
+use Rattle.base.specs.Lists.{range}
 use Rattle.tile_cells.specs.Cells.{cellCount, firstCell, codeOf, firstCells}
 use Rattle.tile_cells.proofs.Rows.{length-first, first-at}
 use Rattle.tile_cells.proofs.Grids.{first-same}

@@ -10,7 +10,7 @@ ghost use mathlib.Core.Bool.{true, false};
 ghost use mathlib.Core.List.{map};
 ghost use Prim.Native.Nat.{_+_, _≤_, _<_, _^_};
 ghost use lib.ListN.{length, getD};
-ghost use Rattle.base_lists.specs.Lists.{range};
+ghost use Rattle.base.specs.Lists.{range};
 ghost use Rattle.tile_cells.specs.Cells.{Tiled, cellCount, codeOf, firstCells};
 ghost use Rattle.tile_match.specs.Table.{foundIn, headIn, nextIn, Holds, Chained, lastOn, bucketOf};
 
@@ -126,7 +126,9 @@ fn enter(
 fn enter_all(w: usize, h: usize, t: usize, indices: &[i16], most: usize, s: &mut [u64]) -> bool
     requires { ⌜ Tiled w h t (now indices) ⌝ }
     requires { ⌜ Chained w t (now indices) (cellCount w h t) 0 (now s) ⌝ }
-    ensures { λ r. ⌜ (r ≡ true → Chained w t (now (indices .entry)) (cellCount w h t) (cellCount w h t) (now (s .exit))) ⌝ }
+    ensures { λ r. ⌜
+        (r ≡ true → Chained w t (now (indices .entry)) (cellCount w h t) (cellCount w h t) (now (s .exit)))
+        ⌝ }
     ensures { λ r. ⌜ (r ≡ false → most < cellCount w h t) ⌝ }
 {
     let n = s.len();
@@ -148,7 +150,9 @@ fn clear(s: &mut [u64])
 
 // What was found alone.
 fn bare(s: &mut [u64])
-    ensures { λ _. ⌜ now (s .exit) ≡ map (λ i. foundIn (getD (now (s .entry)) i 0)) (range 0 (length (now (s .entry)))) ⌝ }
+    ensures { λ _. ⌜
+        now (s .exit) ≡ map (λ i. foundIn (getD (now (s .entry)) i 0)) (range 0 (length (now (s .entry))))
+        ⌝ }
 {
     for i in 0..s.len() {
         s[i] = s[i] % FOUND;

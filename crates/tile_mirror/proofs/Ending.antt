@@ -6,8 +6,7 @@ use Prim.Native.Nat.{ℕ}
 use lib.IntN.{ℤ}
 use lib.ListN.{length, take}
 use lib.Seq.{take-length}
-use Rattle.base_limits.specs.Answer.{filled}
-use Rattle.base_limits.specs.declared.Counted.{Counted}
+use Rattle.base.specs.Answer.{Told, leaving}
 use Rattle.selection.specs.declared.Selection.{Selection}
 use Rattle.edit.specs.Change.{packed, unpacked}
 use Rattle.change_list.specs.Fronts.{Front}
@@ -16,12 +15,12 @@ use Rattle.tile_copies.specs.Mirror.{mirrored}
 use Rattle.tile_mirror_checks.specs.Calls.{mirrorList}
 
 module _ (w h t : ℕ) (l : List ℤ) (region : Selection) (list out : List ℕ) where
-  pub handed-mirrored : (touched : Bool) {r : Counted} {m s : List ℕ} {n : ℕ} → touched ≡ true → Front (map packed (mirrored w h t l region (map unpacked list))) s n
-      → filled r m ≡ handed (take n s) out → filled r m ≡ handed (mirrorList touched w h t l region list) out
+  pub handed-mirrored : (touched : Bool) {r : Told ℕ} {m s : List ℕ} {n : ℕ} → touched ≡ true → Front (map packed (mirrored w h t l region (map unpacked list))) s n
+      → leaving r m ≡ handed (take n s) out → leaving r m ≡ handed (mirrorList touched w h t l region list) out
   unfolding mirrorList
   handed-mirrored touched e f d = d ∙ rw (e, f .front)
 
-  pub handed-untouched : (touched : Bool) {r : Counted} {m : List ℕ} → touched ≡ false → filled r m ≡ handed (take (length list) list) out
-      → filled r m ≡ handed (mirrorList touched w h t l region list) out
+  pub handed-untouched : (touched : Bool) {r : Told ℕ} {m : List ℕ} → touched ≡ false → leaving r m ≡ handed (take (length list) list) out
+      → leaving r m ≡ handed (mirrorList touched w h t l region list) out
   unfolding mirrorList
   handed-untouched touched e d = d ∙ rw (e, take-length list)

@@ -1,7 +1,7 @@
 // Per-tile editing: `mirror_tiles` of tools.rs. A list of changes is lent as one number of 64 bits a change, and so
 // is the scratch, whose contents are free before and after the call.
-use base_limits::Counted;
-use base_limits::NO_SPACE;
+use base::Counted;
+use base::NO_SPACE;
 use change_list::copy_out;
 use selection::Area;
 use selection::Selection;
@@ -13,7 +13,7 @@ use tile_mirror_checks::prepare;
 ghost use mathlib.Core.Path.{_≡_};
 ghost use Prim.Native.Nat.{_≤_};
 ghost use lib.ListN.{length, take};
-ghost use Rattle.base_limits.specs.Answer.{filled};
+ghost use Rattle.base.specs.Answer.{filled};
 ghost use Rattle.sheet.specs.Sheet.{sheetOf};
 ghost use Rattle.change_list.specs.Listed.{handed};
 ghost use Rattle.tile_mirror_checks.specs.Calls.{mirrorList, mirrorCall, Ready};
@@ -44,7 +44,10 @@ fn finish(
     out: &mut [u64],
 ) -> Counted
     requires { ⌜ Ready touched w h t (now indices) (now list) (length (now scratch)) ⌝ }
-    ensures { λ r. ⌜ filled r (now (out .exit)) ≡ handed (mirrorList touched w h t (now (indices .entry)) s (now (list .entry))) (now (out .entry)) ⌝ }
+    ensures { λ r. ⌜
+        filled r (now (out .exit))
+        ≡ handed (mirrorList touched w h t (now (indices .entry)) s (now (list .entry))) (now (out .entry))
+        ⌝ }
 {
     if touched {
         let n = mirror_in(w, h, t, indices, s, list, scratch);
@@ -72,7 +75,11 @@ pub fn mirror_tiles(
     scratch: &mut [u64],
     out: &mut [u64],
 ) -> Counted
-    ensures { λ r. ⌜ filled r (now (out .exit)) ≡ mirrorCall (sheetOf w h k (now (palette .entry)) (now (lab .entry)) (now (indices .entry))) area on t (now (list .entry)) (length (now (scratch .entry))) (now (out .entry)) ⌝ }
+    ensures { λ r. ⌜ (
+        let sheet = sheetOf w h k (now (palette .entry)) (now (lab .entry)) (now (indices .entry)) in
+        filled r (now (out .exit))
+        ≡ mirrorCall sheet area on t (now (list .entry)) (length (now (scratch .entry))) (now (out .entry))
+        ) ⌝ }
     ensures { λ _. ⌜ length (now (scratch .exit)) ≡ length (now (scratch .entry)) ⌝ }
 {
     let n = list.len();

@@ -7,13 +7,12 @@ use native.Mathlib.Omega.{arith}
 use borrow.Author.Tests.{lt-ltb, le-ltb, ltb-false}
 use lib.Dec.{ltb}
 use lib.ListN.{length}
-use Rattle.base_limits.specs.Limits.{maxChanges}
-use Rattle.base_limits.specs.Numbers.{offTheSheet, noSpace, listTooLong}
-use Rattle.base_limits.specs.Checks.{Check, _when_, firstOf, refusedOr}
-use Rattle.base_limits.specs.Answer.{Filled, filled}
-use Rattle.base_limits.specs.declared.Counted.{Counted}
-use Rattle.base_limits.specs.declared.Counted.the-variants as counted
-use Rattle.base_limits.proofs.First.{first-past, first-here, refused-first, result-first, past, past-both, skip}
+use Rattle.base.specs.Limits.{maxChanges}
+use Rattle.base.specs.Numbers.{offTheSheet, noSpace, listTooLong}
+use Rattle.base.specs.Checks.{Check, _when_, firstOf, refusedOr}
+use Rattle.base.specs.Answer.{Filled, filled, Told, leaving}
+use Rattle.base.specs.declared.Counted.the-variants as counted
+use Rattle.base.proofs.First.{first-past, first-here, refused-first, result-first, past, past-both, skip}
 use Rattle.selection.specs.declared.Selection.{Selection}
 use Rattle.selection.specs.declared.Area.{Area}
 use Rattle.selection.specs.Region.{regionChecks, regionIn}
@@ -72,15 +71,15 @@ module _ (s : Sheet) (a : Area) (count : ℕ) (off : Bool) (room : ℕ) where
           stage-done h = result-first (sheetChecks [] s ++ rest) Refused (Canvas (regionIn a (s .w) (s .h))) (past-sheet s f rest ∙ past-region ∙ rw (held, le-ltb room (s .w * s .h) h))
 
   -- ---- what the answer tells
-  pub record Told (n : ℕ) : Type 0 where
+  pub record Tells (n : ℕ) : Type 0 where
     pub value : n ≡ firstOf (mirrorChecks s a count off room)
     pub some : n ≡ 0 → ⊥
 
-  told : (n : ℕ) → Refused n ≡ stageOf s a count off room → Told n
+  told : (n : ℕ) → Refused n ≡ stageOf s a count off room → Tells n
   unfolding stageOf refusedOr
   told n e = go (firstOf (mirrorChecks s a count off room)) refl e
     where
-      go : (m : ℕ) → firstOf (mirrorChecks s a count off room) ≡ m → Refused n ≡ refusedOr m Refused (Canvas (regionIn a (s .w) (s .h))) → Told n
+      go : (m : ℕ) → firstOf (mirrorChecks s a count off room) ≡ m → Refused n ≡ refusedOr m Refused (Canvas (regionIn a (s .w) (s .h))) → Tells n
       go zero q e = absurd (let z : _≡_ {A = ℕ} 0 1 = cc in omega arith)
       go (suc m) q e = let i : n ≡ suc m = cc in record { value = i ∙ sym q; some = λ z. omega arith }
 
@@ -126,8 +125,8 @@ module _ (s : Sheet) (a : Area) (touched : Bool) (list : List ℕ) (off : Bool) 
   unfolding mirrorCall
   call-refused n e = rw (← is, ← j) (refused s a (length list) off room out (handed (mirrorList touched (s .w) (s .h) t (s .indices) (regionIn a (s .w) (s .h)) list) out) n e)
 
-  pub call-done : (region : Selection) {r : Counted} {m : List ℕ} → Passed s a (length list) off room region → filled r m ≡ handed (mirrorList touched (s .w) (s .h) t (s .indices) region list) out
-      → filled r m ≡ mirrorCall s a on t list room out
+  pub call-done : (region : Selection) {r : Told ℕ} {m : List ℕ} → Passed s a (length list) off room region → leaving r m ≡ handed (mirrorList touched (s .w) (s .h) t (s .indices) region list) out
+      → leaving r m ≡ mirrorCall s a on t list room out
   unfolding mirrorCall
   call-done region p d =
       rw (← is, ← j)

@@ -7,11 +7,11 @@ use native.Mathlib.Omega.{arith}
 use lib.Dec.{eqb, leb}
 use lib.ListN.{length, getD}
 use borrow.Author.Tests.{eq-eqb, ne-eqb, eqb-true, leb-false}
-use Rattle.base_lists.specs.Lists.{some}
-use Rattle.base_lists.proofs.Bools.{and-left, and-right}
-use Rattle.base_lists.proofs.Scan.{some-none, or-left, or-right}
-use Rattle.base_lists.proofs.Nowhere.{some-map}
-use Rattle.base_ints.proofs.Back.{never}
+use Rattle.base.specs.Lists.{some}
+use Rattle.base.proofs.Bools.{and-left, and-right}
+use Rattle.base.proofs.Scan.{some-none, or-left, or-right}
+use Rattle.base.proofs.Nowhere.{some-map}
+use Rattle.base.proofs.Back.{never}
 use Rattle.sheet.specs.Sheet.{Sheet}
 use Rattle.sheet.specs.Checks.{WellFormed}
 use Rattle.edit.specs.Change.{outside, unpacked}

@@ -6,12 +6,12 @@ use mathlib.Core.List.{List, [], _∷_, _++_, map}
 use lib.Dec.{ltb, eqb}
 use lib.IntN.{ℤ}
 use lib.ListN.{length}
-use Rattle.base_limits.specs.Limits.{maxChanges}
-use Rattle.base_limits.specs.Numbers.{offTheSheet, noSpace, listTooLong}
-use Rattle.base_limits.specs.Checks.{Check, _when_, checked}
-use Rattle.base_limits.specs.Answer.{Filled, filled}
-use Rattle.base_limits.specs.declared.Counted.the-variants as counted
-use Rattle.base_lists.specs.Lists.{some}
+use Rattle.base.specs.Limits.{maxChanges}
+use Rattle.base.specs.Numbers.{offTheSheet, noSpace, listTooLong}
+use Rattle.base.specs.Checks.{Check, _when_, checked}
+use Rattle.base.specs.Answer.{Filled, leaving}
+use Rattle.base.specs.Answer.Told.{alone}
+use Rattle.base.specs.Lists.{some}
 use Rattle.selection.specs.declared.Selection.{Selection}
 use Rattle.selection.specs.declared.Area.{Area}
 use Rattle.selection.specs.Region.{regionChecks, regionIn}
@@ -54,7 +54,7 @@ unfoldable pub mirrorCall : Sheet → Area → Bool → ℕ → List ℕ → ℕ
 mirrorCall s area on t list room out =
     let touched = touching on (length list) t (s .w) (s .h) in
     checked (mirrorChecks s area (length list) (straying touched (s .w) (s .h) list) room)
-    (λ n. filled (counted.Refused n) out)
+    (λ n. leaving (alone n) out)
     (handed (mirrorList touched (s .w) (s .h) t (s .indices) (regionIn area (s .w) (s .h)) list) out)
 
 -- what the work on a list asks, where it is touched

@@ -1,10 +1,10 @@
 // The checks of `mirror_tiles` of tools.rs: when it touches a list, and the number of the first that applies. A list
 // of changes is lent as one number of 64 bits a change.
-use base_limits::LIST_TOO_LONG;
-use base_limits::MAX_CHANGES;
-use base_limits::NO_SPACE;
-use base_limits::OFF_THE_SHEET;
-use base_lists::either;
+use base::LIST_TOO_LONG;
+use base::MAX_CHANGES;
+use base::NO_SPACE;
+use base::OFF_THE_SHEET;
+use base::either;
 use edit_pixels::is_outside;
 use selection::Area;
 use selection::Chosen;
@@ -13,7 +13,7 @@ use selection::region;
 use sheet::check;
 ghost use mathlib.Core.Path.{_≡_};
 ghost use mathlib.Core.List.{map};
-ghost use Rattle.base_lists.specs.Lists.{some};
+ghost use Rattle.base.specs.Lists.{some};
 ghost use Rattle.sheet.specs.Sheet.{sheetOf};
 ghost use Rattle.edit.specs.Change.{outside, unpacked};
 ghost use Rattle.tile_mirror_checks.specs.Calls.{divides, touching, straying, stageOf};
@@ -84,7 +84,10 @@ pub fn prepare(
     off: bool,
     room: usize,
 ) -> Stage
-    ensures { λ r. ⌜ r ≡ stageOf (sheetOf w h k (now (palette .entry)) (now (lab .entry)) (now (indices .entry))) area count off room ⌝ }
+    ensures { λ r. ⌜ (
+        let sheet = sheetOf w h k (now (palette .entry)) (now (lab .entry)) (now (indices .entry)) in
+        r ≡ stageOf sheet area count off room
+        ) ⌝ }
 {
     let first = check(w, h, k, palette, lab, indices);
     if first != 0 {

@@ -4,12 +4,12 @@ use mathlib.Core.Path.{_≡_, refl, ap, _∙_}
 use mathlib.Core.List.{List, [], _∷_, _++_, map, flatMap, append-nil}
 use native.Mathlib.Omega.{arith}
 use native.Mathlib.Decide.{decLt}
-use Rattle.base_lists.specs.Lists.{range, All}
-use Rattle.base_lists.proofs.Collect.{range-append, flatMap-append}
+use Rattle.base.specs.Lists.{range, All}
+use Rattle.base.proofs.Collect.{range-append, flatMap-append}
 use Rattle.selection_spans.specs.Positions.{Position, position, row}
 use Rattle.selection.specs.declared.Selection.{Selection}
 use Rattle.selection.specs.Selection.{positions}
-use Rattle.base_lists.proofs.Each.{all-of, all-flat, all-in-range}
+use Rattle.base.proofs.Each.{all-of, all-flat, all-in-range}
 
 module _ {A : Type 0} (f : ℕ → List A) where
   pub none-collected : (start count : ℕ) → ((i : ℕ) → start ≤ i → i < start + count → f i ≡ []) → flatMap f (range start count) ≡ []

@@ -9,9 +9,9 @@ use lib.Dec.{ltb}
 use lib.IntN.{ℤ, pos, negsuc, _+ℤ_}
 use mir.Syntax.{w32}
 use mir.Val.{SFits}
-use Rattle.base_ints.specs.Ints.{far, fromZero}
-use Rattle.base_ints.proofs.Back.{near-abs}
-use Rattle.base_ints.proofs.Sums.{from-zero-by, sum-fits}
+use Rattle.base.specs.Ints.{far, fromZero}
+use Rattle.base.proofs.Back.{near-abs}
+use Rattle.base.proofs.Sums.{from-zero-by, sum-fits}
 use Rattle.selection_spans.specs.declared.Span.{Span}
 use Rattle.tool_block.specs.declared.Landing.{Landing}
 use Rattle.tool_block.specs.Blocks.{landing, Lying, Includes}

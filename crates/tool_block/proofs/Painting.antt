@@ -5,8 +5,8 @@ use mathlib.Core.List.{List, [], _∷_, _++_, flatMap}
 use native.Mathlib.Omega.{arith}
 use lib.IntN.{ℤ}
 use lib.ListN.{set}
-use Rattle.base_lists.specs.Lists.{range}
-use Rattle.base_lists.proofs.Collect.{range-suc, flatMap-append, flatMap-one}
+use Rattle.base.specs.Lists.{range}
+use Rattle.base.proofs.Collect.{range-suc, flatMap-append, flatMap-one}
 use Rattle.edit.specs.Change.{Change, place, painted, newOf}
 use Rattle.change_normal.proofs.Pictures.{painted-append}
 use Rattle.tool_block.specs.Blocks.{written, block}

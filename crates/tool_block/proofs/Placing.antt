@@ -9,11 +9,11 @@ use borrow.Author.Tests.{lt-ltb, le-ltb, ltb-true}
 use lib.Dec.{ltb}
 use lib.IntN.{ℤ, pos, negsuc, _+ℤ_}
 use lib.ListN.{length, getD}
-use Rattle.base_lists.specs.Lists.{range, All}
-use Rattle.base_lists.proofs.Each.{all-map}
-use Rattle.base_ints.specs.Ints.{fromZero}
+use Rattle.base.specs.Lists.{range, All}
+use Rattle.base.proofs.Each.{all-map}
+use Rattle.base.specs.Ints.{fromZero}
 use Rattle.sheet.specs.Document.{indexAt}
-use Rattle.sheet.specs.declared.Got.the-variants as got
+use mathlib.Core.Option.{none, some}
 use Rattle.selection_spans.specs.declared.Span.{Span}
 use Rattle.selection_spans.specs.Positions.{Position}
 use Rattle.selection.specs.declared.Selection.{Selection}
@@ -58,7 +58,7 @@ module _ (w h : ℕ) (l : List ℤ) where
   unfolding onto ontoGot indexAt
   onto-below (pos x) y z a = rw (le-ltb y h a) (go (ltb x w) refl)
     where
-      go : (b : Bool) → ltb x w ≡ b → ontoGot (pos x) (pos y) z (cond (b && false) (got.Index (getD l (y * w + x) (pos 0))) got.Outside) ≡ []
+      go : (b : Bool) → ltb x w ≡ b → ontoGot (pos x) (pos y) z (cond (b && false) (some (getD l (y * w + x) (pos 0))) none) ≡ []
       go true e = refl
       go false e = refl
   onto-below (negsuc x) y z a = refl

@@ -5,10 +5,9 @@ use mathlib.Core.Bool.{false}
 use mathlib.Core.List.{List, [], _∷_, flatMap}
 use lib.IntN.{ℤ, pos, _+ℤ_}
 use lib.ListN.{getD, set}
-use Rattle.base_ints.specs.Ints.{far, fromZero}
+use Rattle.base.specs.Ints.{far, fromZero}
 use Rattle.sheet.specs.Document.{indexAt}
-use Rattle.sheet.specs.declared.Got.{Got}
-use Rattle.sheet.specs.declared.Got.the-variants as got
+use mathlib.Core.Option.{Option, none, some}
 use Rattle.selection_spans.specs.declared.Span.{Span}
 use Rattle.selection_spans.specs.Positions.{Position}
 use Rattle.selection.specs.declared.Selection.{Selection}
@@ -20,10 +19,9 @@ abbrev pub indexIn : ℕ → List ℤ → Position → ℤ
 indexIn w l p = getD l (p .y * w + p .x) (pos 0)
 
 -- ---- `if let Some(old) = doc.get_at(tx, ty) { out.push(PixelChange { x: tx as usize, y: ty as usize, old, new }) }`
-unfoldable pub ontoGot : ℤ → ℤ → ℤ → Got → List Change
-ontoGot tx ty new (got.Index old) = record { x = fromZero tx; y = fromZero ty; old = old; new = new } ∷ []
-ontoGot tx ty new got.Outside = []
-ontoGot tx ty new (got.Refused n) = []
+unfoldable pub ontoGot : ℤ → ℤ → ℤ → Option ℤ → List Change
+ontoGot tx ty new (some old) = record { x = fromZero tx; y = fromZero ty; old = old; new = new } ∷ []
+ontoGot tx ty new none = []
 
 unfoldable pub onto : ℕ → ℕ → List ℤ → ℤ → ℤ → ℤ → List Change
 onto w h l tx ty new = ontoGot tx ty new (indexAt w h l tx ty)

@@ -1,8 +1,8 @@
 // Blocks of indices written on a picture that is laid out in the scratch.
-use base_ints::from_zero;
-use base_ints::min_usize;
-use base_ints::saturating_sub;
-use base_limits::MAX_DISTANCE;
+use base::MAX_DISTANCE;
+use base::from_zero;
+use base::min_usize;
+use base::saturating_sub;
 use change_list::paint;
 use selection::Selection;
 use selection_spans::Span;
@@ -12,7 +12,7 @@ ghost use mathlib.Core.List.{List};
 ghost use Prim.Native.Nat.{ℕ, _+_, _*_, _≤_, _<_, _^_};
 ghost use lib.IntN.{ℤ, negsuc, pos, _+ℤ_};
 ghost use lib.ListN.{length, getD};
-ghost use Rattle.base_ints.specs.Ints.{far, fromZero};
+ghost use Rattle.base.specs.Ints.{far, fromZero};
 ghost use Rattle.selection.specs.Selection.{positions};
 ghost use Rattle.edit.specs.Change.{painted, newOf};
 ghost use Rattle.change_list.specs.Between.{laidOut};
@@ -32,7 +32,9 @@ pub struct Landing {
 // n places cleared from `to` on.
 fn clear_row(scratch: &mut [u64], to: usize, n: usize)
     requires { ⌜ (0 < n → to + n ≤ length (now scratch)) ⌝ }
-    ensures { λ _. ⌜ ((p : ℕ) → laidOut p (now (scratch .exit)) ≡ written (λ i. negsuc 0) to n (laidOut p (now (scratch .entry)))) ⌝ }
+    ensures { λ _. ⌜
+        ((p : ℕ) → laidOut p (now (scratch .exit)) ≡ written (λ i. negsuc 0) to n (laidOut p (now (scratch .entry))))
+        ⌝ }
 {
     for i in 0..n {
         paint(scratch, to + i, -1);
@@ -42,7 +44,10 @@ fn clear_row(scratch: &mut [u64], to: usize, n: usize)
 // h rows of w places cleared, from column x and row y of a picture on.
 pub fn clear_rows(scratch: &mut [u64], width: usize, x: usize, y: usize, w: usize, h: usize)
     requires { ⌜ Rows width x y w h (length (now scratch)) ⌝ }
-    ensures { λ _. ⌜ ((p : ℕ) → laidOut p (now (scratch .exit)) ≡ block (λ j i. negsuc 0) width x y w h (laidOut p (now (scratch .entry)))) ⌝ }
+    ensures { λ _. ⌜
+        ((p : ℕ)
+        → laidOut p (now (scratch .exit)) ≡ block (λ j i. negsuc 0) width x y w h (laidOut p (now (scratch .entry))))
+        ⌝ }
 {
     for j in 0..h {
         clear_row(scratch, (y + j) * width + x, w);
@@ -52,7 +57,10 @@ pub fn clear_rows(scratch: &mut [u64], width: usize, x: usize, y: usize, w: usiz
 // n indices of a source, from `from` on, written from `to` on.
 fn write_row(source: &[i16], from: usize, scratch: &mut [u64], to: usize, n: usize)
     requires { ⌜ (0 < n → (from + n ≤ length (now source)) × (to + n ≤ length (now scratch))) ⌝ }
-    ensures { λ _. ⌜ ((p : ℕ) → laidOut p (now (scratch .exit)) ≡ written (λ i. getD (now (source .entry)) (from + i) (pos 0)) to n (laidOut p (now (scratch .entry)))) ⌝ }
+    ensures { λ _. ⌜
+        ((p : ℕ) → laidOut p (now (scratch .exit))
+        ≡ written (λ i. getD (now (source .entry)) (from + i) (pos 0)) to n (laidOut p (now (scratch .entry))))
+        ⌝ }
 {
     for i in 0..n {
         paint(scratch, to + i, source[from + i]);
@@ -68,8 +76,15 @@ fn write_rows(
     x: Landing,
     y: Landing,
 )
-    requires { ⌜ Rows «source_w» (x .from) (y .from) (x .count) (y .count) (length (now source)) × Rows width (x .to) (y .to) (x .count) (y .count) (length (now scratch)) ⌝ }
-    ensures { λ _. ⌜ ((p : ℕ) → laidOut p (now (scratch .exit)) ≡ block (sourceAt (now (source .entry)) «source_w» (x .from) (y .from)) width (x .to) (y .to) (x .count) (y .count) (laidOut p (now (scratch .entry)))) ⌝ }
+    requires { ⌜
+        Rows «source_w» (x .from) (y .from) (x .count) (y .count) (length (now source))
+        × Rows width (x .to) (y .to) (x .count) (y .count) (length (now scratch))
+        ⌝ }
+    ensures { λ _. ⌜
+        ((p : ℕ) → laidOut p (now (scratch .exit))
+        ≡ block (sourceAt (now (source .entry)) «source_w» (x .from) (y .from)) width (x .to) (y .to) (x .count)
+        (y .count) (laidOut p (now (scratch .entry))))
+        ⌝ }
 {
     for j in 0..y.count {
         write_row(
@@ -133,7 +148,11 @@ pub fn land(
     scratch: &mut [u64],
 )
     requires { ⌜ Lands w h «source_w» s dx dy (length (now source)) (length (now scratch)) ⌝ }
-    ensures { λ _. ⌜ ((p : ℕ) (l : List ℤ) → laidOut p (now (scratch .exit)) ≡ painted newOf w (landed w h l «source_w» (now (source .entry)) dx dy (positions s)) (laidOut p (now (scratch .entry)))) ⌝ }
+    ensures { λ _. ⌜
+        ((p : ℕ) (l : List ℤ) → laidOut p (now (scratch .exit))
+        ≡ painted newOf w (landed w h l «source_w» (now (source .entry)) dx dy (positions s))
+        (laidOut p (now (scratch .entry))))
+        ⌝ }
 {
     let x = landing_on(s.x as usize, s.w as usize, dx, w);
     let y = landing_on(s.y as usize, s.h as usize, dy, h);

@@ -10,13 +10,13 @@ use native.Mathlib.Omega.{arith}
 use borrow.Author.Tests.{lt-ltb, le-ltb, le-leb, lt-leb}
 use lib.IntN.{ℤ, pos, negsuc, natAbs, sucℤ, _+ℤ_, +ℤ-sucℤ, sucℤ-+ℤ, +ℤ-idr}
 use lib.Signed.{nonNeg}
-use Rattle.base_lists.specs.Lists.{range}
-use Rattle.base_lists.proofs.Collect.{flatMap-append}
-use Rattle.base_ints.specs.Ints.{fromZero}
+use Rattle.base.specs.Lists.{range}
+use Rattle.base.proofs.Collect.{flatMap-append}
+use Rattle.base.specs.Ints.{fromZero}
 use Rattle.selection_spans.specs.Spans.{inSpan}
 use Rattle.selection.specs.declared.Selection.{Selection}
 use Rattle.selection.specs.Selection.{contains, containsI}
-use Rattle.tool_points.specs.Line.{point}
+use Rattle.tool_line.specs.Line.{point}
 use Rattle.tool_brush.specs.Places.{placeAt, placesOf}
 
 -- n numbers from a on

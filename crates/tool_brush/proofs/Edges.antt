@@ -9,8 +9,8 @@ use lib.IntN.{ℤ, pos}
 use mir.Syntax.{Width, w32}
 use mir.Val.{SFits, toZ, ofZ}
 use mir.Facts.{toZ-ofZ}
-use Rattle.base_ints.specs.Ints.{eqZ}
-use Rattle.base_ints.proofs.Back.{eqZ-same, same-index}
+use Rattle.base.specs.Ints.{eqZ}
+use Rattle.base.proofs.Back.{eqZ-same, same-index}
 
 same-bits : (w : Width) (a b : ℤ) → SFits w a → SFits w b → eqb (ofZ w a) (ofZ w b) ≡ eqZ a b
 same-bits w a b f g = go (eqb (ofZ w a) (ofZ w b)) refl (eqZ a b) refl

@@ -6,7 +6,7 @@ use native.Mathlib.Omega.{arith}
 use Rattle.tool_brush.specs.declared.Run.{Run}
 use lib.IntN.{ℤ}
 use lib.Signed.{ltZ}
-use Rattle.base_ints.specs.Ints.{fromZero, upTo}
+use Rattle.base.specs.Ints.{fromZero, upTo}
 use Rattle.selection.specs.declared.Selection.{Selection}
 use Rattle.selection.specs.Region.{Fits}
 use Rattle.tool_brush.specs.Places.{clipped, columnsOf, Ends, Row, Rows, AllEnd}

@@ -10,14 +10,14 @@ use borrow.Author.Tests.{eq-eqb, ne-eqb, eqb-true, eqb-false, ltb-false, le-ltb}
 use lib.Dec.{eqb}
 use lib.IntN.{ℤ, pos, negsuc, natAbs, sucℤ, _+ℤ_, _-ℤ_, +ℤ-sucℤ, +ℤ-idr, +ℤ-one, +ℤ-comm, +ℤ-invr, +ℤ-negℤ-cancel, -ℤ-+ℤ-cancel}
 use lib.Signed.{ltZ, pos-natAbs}
-use Rattle.base_lists.specs.Lists.{range, kept}
-use Rattle.base_lists.proofs.Each.{all-of}
-use Rattle.base_lists.proofs.Kept.{kept-map, kept-same, kept-all}
-use Rattle.base_ints.specs.Ints.{eqZ, fromZero, minZ, maxZ}
-use Rattle.base_ints.proofs.Back.{eqZ-same, same-index, never}
-use Rattle.base_ints.proofs.Sums.{suc-up-to}
-use Rattle.tool_points.specs.Line.{Point}
-use Rattle.tool_points.proofs.Toward.{from-less}
+use Rattle.base.specs.Lists.{range, kept}
+use Rattle.base.proofs.Each.{all-of}
+use Rattle.base.proofs.Kept.{kept-map, kept-same, kept-all}
+use Rattle.base.specs.Ints.{eqZ, fromZero, minZ, maxZ}
+use Rattle.base.proofs.Back.{eqZ-same, same-index, never}
+use Rattle.base.proofs.Sums.{suc-up-to}
+use Rattle.tool_line.specs.Line.{Point}
+use Rattle.tool_line.proofs.Toward.{from-less}
 use Rattle.selection.specs.declared.Selection.{Selection}
 use Rattle.tool_brush.specs.declared.Run.{Run}
 use Rattle.tool_brush.specs.Points.{through, rowOf, rectanglePoints}

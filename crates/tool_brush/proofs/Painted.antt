@@ -7,11 +7,11 @@ use lib.IntN.{ℤ, pos, natAbs}
 use lib.ListN.{length, getD, set, length-set}
 use mir.Syntax.{w16}
 use mir.Val.{SFits, ofZ}
-use Rattle.base_lists.specs.Lists.{range}
-use Rattle.base_lists.proofs.Collect.{range-next, flatMap-append, flatMap-one}
+use Rattle.base.specs.Lists.{range}
+use Rattle.base.proofs.Collect.{range-next, flatMap-append, flatMap-one}
 use Rattle.selection.specs.declared.Selection.{Selection}
 use Rattle.selection.specs.Selection.{containsI}
-use Rattle.tool_points.specs.Line.{Point}
+use Rattle.tool_line.specs.Line.{Point}
 use Rattle.edit.specs.Change.{place, painted, newOf}
 use Rattle.change_list.specs.Between.{laidOut}
 use Rattle.change_list.proofs.Copying.{laid-set}

@@ -8,21 +8,21 @@ use native.Mathlib.Omega.{arith}
 use borrow.Author.Tests.{lt-ltb, le-ltb}
 use lib.Dec.{ltb}
 use lib.IntN.{ℤ, pos}
-use Rattle.base_limits.specs.Checks.{_when_, firstOf}
-use Rattle.base_limits.proofs.First.{past}
-use Rattle.tool_points.proofs.Points.{near}
+use Rattle.base.specs.Checks.{_when_, firstOf}
+use Rattle.base.proofs.First.{past}
+use Rattle.tool_line.proofs.Points.{near}
 use lib.ListN.{length, getD, drop}
 use mir.Syntax.{w32}
 use mir.Val.{SFits}
-use Rattle.base_lists.specs.Lists.{some}
-use Rattle.base_lists.proofs.Scan.{some-none, drop-next, drop-end}
-use Rattle.base_ints.specs.Ints.{far}
-use Rattle.base_ints.proofs.Back.{near-abs}
+use Rattle.base.specs.Lists.{some}
+use Rattle.base.proofs.Scan.{some-none, drop-next, drop-end}
+use Rattle.base.specs.Ints.{far}
+use Rattle.base.proofs.Back.{near-abs}
 use Rattle.selection.specs.declared.Selection.{Selection}
-use Rattle.tool_points.specs.Line.{Point, point, Near, farPoint, lineOf}
-use Rattle.tool_points.specs.Brush.{clamped, stampAt, onward, pathOf, stamped}
-use Rattle.tool_points.proofs.Ends.{path-first}
-use Rattle.tool_points.proofs.Toward.{small}
+use Rattle.tool_line.specs.Line.{Point, point, Near, farPoint, lineOf}
+use Rattle.tool_line.specs.Brush.{clamped, stampAt, onward, pathOf, stamped}
+use Rattle.tool_line.proofs.Ends.{path-first}
+use Rattle.tool_line.proofs.Toward.{small}
 use Rattle.tool_brush.specs.Places.{setAll, placesOf, stampPlaces}
 use Rattle.tool_brush.specs.Given.{cornerChecks, pointsOf, pointChecks}
 use Rattle.tool_brush.proofs.Stamps.{clamped-brush, brush-clamped, paint-append}

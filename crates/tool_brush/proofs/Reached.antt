@@ -10,19 +10,19 @@ use lib.Dec.{leb, ltb}
 use lib.IntN.{ℤ, pos, negsuc, natAbs, _+ℤ_, _-ℤ_, +ℤ-comm, +ℤ-negℤ-cancel}
 use lib.ListN.{length, getD}
 use lib.Signed.{ltZ}
-use Rattle.base_lists.specs.Lists.{range, some, All}
-use Rattle.base_lists.proofs.Bools.{and-left, and-right}
-use Rattle.base_lists.proofs.Each.{all-of, all-map, all-mapped, all-flat, all-in-range}
-use Rattle.base_lists.proofs.Scan.{some-none}
-use Rattle.base_ints.specs.Ints.{far, eqZ, fromZero, upTo, minZ, maxZ}
-use Rattle.base_ints.proofs.Back.{never}
+use Rattle.base.specs.Lists.{range, some, All}
+use Rattle.base.proofs.Bools.{and-left, and-right}
+use Rattle.base.proofs.Each.{all-of, all-map, all-mapped, all-flat, all-in-range}
+use Rattle.base.proofs.Scan.{some-none}
+use Rattle.base.specs.Ints.{far, eqZ, fromZero, upTo, minZ, maxZ}
+use Rattle.base.proofs.Back.{never}
 use Rattle.selection_spans.specs.Spans.{inSpan}
 use Rattle.selection.specs.declared.Selection.{Selection}
 use Rattle.selection.specs.Selection.{contains, containsI}
-use Rattle.tool_points.specs.Line.{Point, point}
-use Rattle.tool_points.specs.Within.{Upto, Spanned}
-use Rattle.tool_points.specs.Brush.{clamped, stampAt, pathOf, stamped}
-use Rattle.tool_points.proofs.Within.{Down, upto-more, upto-on, more-apart, first-spanned, second-spanned, stamps-down}
+use Rattle.tool_line.specs.Line.{Point, point}
+use Rattle.tool_line.specs.Within.{Upto, Spanned}
+use Rattle.tool_line.specs.Brush.{clamped, stampAt, pathOf, stamped}
+use Rattle.tool_line.proofs.Within.{Down, upto-more, upto-on, more-apart, first-spanned, second-spanned, stamps-down}
 use Rattle.tool_brush.specs.declared.Run.{Run}
 use Rattle.tool_brush.specs.declared.Reach.{Reach}
 use Rattle.tool_brush.specs.Points.{through, rowOf, rectanglePoints}

@@ -9,18 +9,18 @@ use mir.Val.{SFits, toZ, ofZ}
 use mir.Facts.{toZ-ofZ}
 use mathlib.Core.Bool.{false}
 use lib.ListN.{length}
-use Rattle.base_lists.specs.Lists.{range}
-use Rattle.base_lists.proofs.Collect.{range-next, flatMap-append, flatMap-one}
-use Rattle.base_ints.proofs.Sums.{abs-sum}
+use Rattle.base.specs.Lists.{range}
+use Rattle.base.proofs.Collect.{range-next, flatMap-append, flatMap-one}
+use Rattle.base.proofs.Sums.{abs-sum}
 use Rattle.selection.specs.declared.Selection.{Selection}
-use Rattle.base_ints.specs.Ints.{far}
-use Rattle.base_ints.proofs.Back.{near-abs}
-use Rattle.tool_points.specs.declared.Walk.{Walk}
-use Rattle.tool_points.specs.Line.{Point, point, longer, pointAt}
-use Rattle.tool_points.specs.Walk.{standing, StandsAt}
-use Rattle.tool_points.proofs.Points.{stands-point, stands-small}
-use Rattle.tool_points.specs.Brush.{clamped, covered, stampAt}
-use Rattle.tool_points.proofs.Toward.{small, nat-back}
+use Rattle.base.specs.Ints.{far}
+use Rattle.base.proofs.Back.{near-abs}
+use Rattle.tool_line.specs.declared.Walk.{Walk}
+use Rattle.tool_line.specs.Line.{Point, point, longer, pointAt}
+use Rattle.tool_line.specs.Walk.{standing, StandsAt}
+use Rattle.tool_line.proofs.Points.{stands-point, stands-small}
+use Rattle.tool_line.specs.Brush.{clamped, covered, stampAt}
+use Rattle.tool_line.proofs.Toward.{small, nat-back}
 use Rattle.tool_brush.specs.declared.Run.{Run}
 use Rattle.tool_brush.specs.Places.{setAll, placeAt, placesOf, clipped, boxPlaces, stampPlaces, Brush, Close}
 use Rattle.tool_brush.proofs.Clipping.{as-run, held, inRow, rows-held}

@@ -10,16 +10,16 @@ use lib.IntN.{ℤ, pos, negsuc, natAbs, negℤ, _+ℤ_, _-ℤ_, +ℤ-assoc, +ℤ
 use lib.Signed.{ltZ}
 use mir.Syntax.{w32}
 use mir.Val.{SFits, toZ}
-use Rattle.base_ints.specs.Ints.{fromZero, upTo}
-use Rattle.base_ints.proofs.Sums.{abs-sum}
+use Rattle.base.specs.Ints.{fromZero, upTo}
+use Rattle.base.proofs.Sums.{abs-sum}
 use Rattle.selection.specs.declared.Selection.{Selection}
-use Rattle.tool_points.specs.declared.Steps.{Steps}
-use Rattle.tool_points.specs.Line.{Point, longer, pointAt}
-use Rattle.tool_points.specs.Walk.{axisAt, walkAt}
-use Rattle.tool_points.specs.Steps.{placeOn, among, liesIn, Bound}
-use Rattle.tool_points.proofs.Order.{same-order, no-more-than}
-use Rattle.tool_points.proofs.Points.{point-by-axes}
-use Rattle.tool_points.proofs.Toward.{abs-neg, small, nat-back}
+use Rattle.tool_line.specs.declared.Steps.{Steps}
+use Rattle.tool_line.specs.Line.{Point, longer, pointAt}
+use Rattle.tool_line.specs.Walk.{axisAt, walkAt}
+use Rattle.tool_line.specs.Steps.{placeOn, among, liesIn, Bound}
+use Rattle.tool_line.proofs.Order.{same-order, no-more-than}
+use Rattle.tool_line.proofs.Points.{point-by-axes}
+use Rattle.tool_line.proofs.Toward.{abs-neg, small, nat-back}
 use Rattle.tool_brush.specs.Places.{clipped, Brush}
 use Rattle.tool_brush.specs.Touching.{touches, touchesRegion, Touched}
 

@@ -9,16 +9,16 @@ use native.Mathlib.Omega.{arith}
 use borrow.Author.Tests.{ltb-false, le-ltb, lt-leb}
 use lib.Dec.{leb, ltb}
 use lib.ListN.{length, drop}
-use Rattle.base_lists.specs.Lists.{range}
-use Rattle.base_lists.proofs.Collect.{range-append}
+use Rattle.base.specs.Lists.{range}
+use Rattle.base.proofs.Collect.{range-append}
 use Rattle.selection.specs.declared.Selection.{Selection}
-use Rattle.base_ints.proofs.Back.{never}
-use Rattle.tool_points.specs.declared.Walk.{Walk}
-use Rattle.tool_points.specs.declared.Steps.{Steps}
-use Rattle.tool_points.specs.Line.{Point, longer, pointAt, lineOf}
-use Rattle.tool_points.specs.Walk.{standing, StandsAt}
-use Rattle.tool_points.specs.Steps.{among}
-use Rattle.tool_points.proofs.Ends.{line-after}
+use Rattle.base.proofs.Back.{never}
+use Rattle.tool_line.specs.declared.Walk.{Walk}
+use Rattle.tool_line.specs.declared.Steps.{Steps}
+use Rattle.tool_line.specs.Line.{Point, longer, pointAt, lineOf}
+use Rattle.tool_line.specs.Walk.{standing, StandsAt}
+use Rattle.tool_line.specs.Steps.{among}
+use Rattle.tool_line.proofs.Ends.{line-after}
 use Rattle.tool_brush.specs.declared.Run.{Run}
 use Rattle.tool_brush.specs.Places.{setAll, rowPlaces, boxPlaces, stampPlaces, placesOf, Brush}
 use Rattle.tool_brush.specs.Touching.{touches, touchesRegion, Touched}

@@ -3,11 +3,11 @@ use mathlib.Core.List.{List, [], _∷_}
 use lib.Dec.{ltb}
 use lib.IntN.{ℤ}
 use lib.ListN.{length}
-use Rattle.base_limits.specs.Limits.{maxChanges}
-use Rattle.base_limits.specs.Numbers.{tooFar, listTooLong}
-use Rattle.base_limits.specs.Checks.{Check, _when_}
-use Rattle.base_lists.specs.Lists.{some}
-use Rattle.tool_points.specs.Line.{Point, point, farPoint}
+use Rattle.base.specs.Limits.{maxChanges}
+use Rattle.base.specs.Numbers.{tooFar, listTooLong}
+use Rattle.base.specs.Checks.{Check, _when_}
+use Rattle.base.specs.Lists.{some}
+use Rattle.tool_line.specs.Line.{Point, point, farPoint}
 
 -- `rectangle` and `line`: 15 of each corner
 unfoldable pub cornerChecks : Point → Point → List Check

@@ -5,12 +5,12 @@ use Prim.Native.Nat.{ℕ, _+_, _-_, _*_, _<_, _≤_, min, max}
 use lib.IntN.{ℤ, pos, natAbs}
 use lib.ListN.{set}
 use lib.Signed.{ltZ}
-use Rattle.base_lists.specs.Lists.{range}
-use Rattle.base_ints.specs.Ints.{eqZ, fromZero, upTo}
+use Rattle.base.specs.Lists.{range}
+use Rattle.base.specs.Ints.{eqZ, fromZero, upTo}
 use Rattle.selection.specs.declared.Selection.{Selection}
 use Rattle.selection.specs.Selection.{containsI}
-use Rattle.tool_points.specs.Line.{Point}
-use Rattle.tool_points.specs.Brush.{stampAt}
+use Rattle.tool_line.specs.Line.{Point}
+use Rattle.tool_line.specs.Brush.{stampAt}
 use Rattle.tool_brush.specs.declared.Run.{Run}
 use Rattle.tool_brush.specs.declared.Columns.{Columns}
 

@@ -4,12 +4,12 @@ use mathlib.Core.List.{List, [], _∷_, map, flatMap}
 use Prim.Native.Nat.{ℕ, _+_, _*_}
 use lib.IntN.{ℤ, pos, natAbs, _+ℤ_, _-ℤ_}
 use lib.ListN.{getD}
-use Rattle.base_lists.specs.Lists.{range, kept}
-use Rattle.base_ints.specs.Ints.{eqZ, fromZero, minZ, maxZ}
+use Rattle.base.specs.Lists.{range, kept}
+use Rattle.base.specs.Ints.{eqZ, fromZero, minZ, maxZ}
 use Rattle.selection.specs.declared.Selection.{Selection}
 use Rattle.selection.specs.Selection.{containsI}
-use Rattle.tool_points.specs.Line.{Point, point}
-use Rattle.tool_points.specs.Brush.{stamped}
+use Rattle.tool_line.specs.Line.{Point, point}
+use Rattle.tool_line.specs.Brush.{stamped}
 use Rattle.edit.specs.Change.{Change}
 use Rattle.change_normal.specs.Normal.{normalizeOf}
 

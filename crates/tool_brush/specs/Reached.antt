@@ -4,12 +4,12 @@ use mathlib.Core.Bool.{true}
 use mathlib.Core.List.{List}
 use Prim.Native.Nat.{_+_, _<_, _≤_}
 use lib.IntN.{ℤ, natAbs}
-use Rattle.base_lists.specs.Lists.{All}
-use Rattle.base_ints.specs.Ints.{minZ, maxZ}
+use Rattle.base.specs.Lists.{All}
+use Rattle.base.specs.Ints.{minZ, maxZ}
 use Rattle.selection.specs.declared.Selection.{Selection}
 use Rattle.selection.specs.Selection.{containsI}
-use Rattle.tool_points.specs.Line.{Point}
-use Rattle.tool_points.specs.Within.{Spanned}
+use Rattle.tool_line.specs.Line.{Point}
+use Rattle.tool_line.specs.Within.{Spanned}
 use Rattle.tool_brush.specs.declared.Run.{Run}
 use Rattle.tool_brush.specs.declared.Reach.{Reach}
 use Rattle.tool_brush.specs.Places.{Close}

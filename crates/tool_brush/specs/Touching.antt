@@ -5,9 +5,9 @@ use Prim.Native.Nat.{ℕ, _+_, _-_, _/_, _≤_}
 use lib.Dec.{ltb}
 use lib.IntN.{ℤ, pos, _+ℤ_, _-ℤ_}
 use Rattle.selection.specs.declared.Selection.{Selection}
-use Rattle.tool_points.specs.declared.Steps.{Steps}
-use Rattle.tool_points.specs.Line.{Point, longer, pointAt}
-use Rattle.tool_points.specs.Steps.{among}
+use Rattle.tool_line.specs.declared.Steps.{Steps}
+use Rattle.tool_line.specs.Line.{Point, longer, pointAt}
+use Rattle.tool_line.specs.Steps.{among}
 use Rattle.tool_brush.specs.Places.{clipped}
 
 -- whether one axis of a brush of n at z has a place from `from` on and below `end`

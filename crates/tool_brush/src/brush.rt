@@ -4,19 +4,19 @@ use crate::paint::clip;
 use crate::paint::paint_box;
 use crate::touch::touched_steps;
 use selection::Selection;
-use tool_points::stand_at;
-use tool_points::step;
+use tool_line::stand_at;
+use tool_line::step;
 ghost use mathlib.Core.Path.{_≡_};
 ghost use mathlib.Core.Bool.{false};
 ghost use mathlib.Core.List.{[], _∷_};
 ghost use Prim.Native.Nat.{_-_, _/_, _%_};
 ghost use lib.IntN.{pos, _+ℤ_, _-ℤ_};
 ghost use lib.ListN.{length, drop};
-ghost use Rattle.base_lists.specs.Lists.{some};
-ghost use Rattle.base_ints.specs.Ints.{far};
+ghost use Rattle.base.specs.Lists.{some};
+ghost use Rattle.base.specs.Ints.{far};
 ghost use Rattle.selection.specs.Region.{Fits};
-ghost use Rattle.tool_points.specs.Line.{point, Near, lineOf};
-ghost use Rattle.tool_points.specs.Brush.{clamped, pathOf};
+ghost use Rattle.tool_line.specs.Line.{point, Near, lineOf};
+ghost use Rattle.tool_line.specs.Brush.{clamped, pathOf};
 ghost use Rattle.tool_brush.specs.Places.{setAll, clipped, stampPlaces, Brush, Close};
 ghost use Rattle.tool_brush.specs.Given.{pointsOf};
 
@@ -69,7 +69,10 @@ fn paint_line(
     v: u64,
 )
     requires { ⌜ Fits w (length (now scratch)) region × Brush n × Near (point ax ay) × Near (point bx by) ⌝ }
-    ensures { λ _. ⌜ now (scratch .exit) ≡ setAll (stampPlaces region w n (drop 1 (lineOf (point ax ay) (point bx by)))) v (now (scratch .entry)) ⌝ }
+    ensures { λ _. ⌜
+        now (scratch .exit)
+        ≡ setAll (stampPlaces region w n (drop 1 (lineOf (point ax ay) (point bx by)))) v (now (scratch .entry))
+        ⌝ }
 {
     let steps = touched_steps(region, n, ax, ay, bx, by);
     let first = steps.first;
@@ -97,7 +100,10 @@ pub fn paint_two(
     v: u64,
 )
     requires { ⌜ Fits w (length (now scratch)) region × Brush n × Near (point ax ay) × Near (point bx by) ⌝ }
-    ensures { λ _. ⌜ now (scratch .exit) ≡ setAll (stampPlaces region w n (pathOf (point ax ay ∷ point bx by ∷ []))) v (now (scratch .entry)) ⌝ }
+    ensures { λ _. ⌜
+        now (scratch .exit)
+        ≡ setAll (stampPlaces region w n (pathOf (point ax ay ∷ point bx by ∷ []))) v (now (scratch .entry))
+        ⌝ }
 {
     paint_stamp(scratch, w, region, n, ax, ay, v);
     paint_line(scratch, w, region, n, ax, ay, bx, by, v);
@@ -112,8 +118,13 @@ pub fn paint_path(
     n: usize,
     v: u64,
 )
-    requires { ⌜ Fits w (length (now scratch)) region × Brush n × (some far (now points) ≡ false) × (length (now points) % 2 ≡ 0) ⌝ }
-    ensures { λ _. ⌜ now (scratch .exit) ≡ setAll (stampPlaces region w n (pathOf (pointsOf (now (points .entry))))) v (now (scratch .entry)) ⌝ }
+    requires { ⌜
+        Fits w (length (now scratch)) region × Brush n × (some far (now points) ≡ false) × (length (now points) % 2 ≡ 0)
+        ⌝ }
+    ensures { λ _. ⌜
+        now (scratch .exit)
+        ≡ setAll (stampPlaces region w n (pathOf (pointsOf (now (points .entry))))) v (now (scratch .entry))
+        ⌝ }
 {
     if points.len() < 2 {
         return;

@@ -3,8 +3,8 @@ use crate::Columns;
 use crate::Run;
 use crate::paint::clip;
 use crate::paint::paint_run;
-use base_ints::max_i32;
-use base_ints::min_i32;
+use base::max_i32;
+use base::min_i32;
 use selection::Selection;
 ghost use mathlib.Core.Path.{_≡_};
 ghost use mathlib.Core.Bool.{_||_};
@@ -12,10 +12,10 @@ ghost use mathlib.Core.List.{flatMap};
 ghost use Prim.Native.Nat.{_<_};
 ghost use lib.IntN.{pos};
 ghost use lib.ListN.{length};
-ghost use Rattle.base_lists.specs.Lists.{range};
-ghost use Rattle.base_ints.specs.Ints.{eqZ};
+ghost use Rattle.base.specs.Lists.{range};
+ghost use Rattle.base.specs.Ints.{eqZ};
 ghost use Rattle.selection.specs.Region.{Fits};
-ghost use Rattle.tool_points.specs.Line.{point};
+ghost use Rattle.tool_line.specs.Line.{point};
 ghost use Rattle.tool_brush.specs.Points.{rectanglePoints};
 ghost use Rattle.tool_brush.specs.Places.{setAll, placesOf, columnsOf, partPlaces, framePlaces, Row, Rows, AllEnd};
 
@@ -81,7 +81,10 @@ fn paint_rows(
     v: u64,
 )
     requires { ⌜ Rows w y (length (now scratch)) × AllEnd x w ⌝ }
-    ensures { λ _. ⌜ now (scratch .exit) ≡ setAll (flatMap (framePlaces w filled top bottom x) (range (y .start) (y .count))) v (now (scratch .entry)) ⌝ }
+    ensures { λ _. ⌜
+        now (scratch .exit)
+        ≡ setAll (flatMap (framePlaces w filled top bottom x) (range (y .start) (y .count))) v (now (scratch .entry))
+        ⌝ }
 {
     let first = y.start;
     let rows = y.count;
@@ -105,7 +108,10 @@ pub fn paint_rectangle(
     v: u64,
 )
     requires { ⌜ Fits w (length (now scratch)) region ⌝ }
-    ensures { λ _. ⌜ now (scratch .exit) ≡ setAll (placesOf region w (rectanglePoints (point ax ay) (point bx by) filled)) v (now (scratch .entry)) ⌝ }
+    ensures { λ _. ⌜
+        now (scratch .exit)
+        ≡ setAll (placesOf region w (rectanglePoints (point ax ay) (point bx by) filled)) v (now (scratch .entry))
+        ⌝ }
 {
     let left = region.x as usize;
     let above = region.y as usize;

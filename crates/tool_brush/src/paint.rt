@@ -1,14 +1,14 @@
 // Places painted in the scratch, in rows of width w.
 use crate::Run;
-use base_ints::from_zero;
-use base_ints::min_usize;
-use base_ints::saturating_sub;
-use base_ints::up_to;
-use tool_points::max_usize;
+use base::from_zero;
+use base::max_usize;
+use base::min_usize;
+use base::saturating_sub;
+use base::up_to;
 ghost use mathlib.Core.Path.{_≡_};
 ghost use Prim.Native.Nat.{_+_, _≤_};
 ghost use lib.ListN.{length};
-ghost use Rattle.base_lists.specs.Lists.{range};
+ghost use Rattle.base.specs.Lists.{range};
 ghost use Rattle.tool_brush.specs.Places.{setAll, clipped, boxPlaces, Rows, Ends};
 
 // What lies of `a..=b` from `from` on and below `end`.

@@ -3,9 +3,9 @@ use crate::Reach;
 use crate::Run;
 use crate::brush::stamp_run;
 use crate::paint::clip;
-use base_ints::max_i32;
-use base_ints::min_i32;
-use base_ints::saturating_sub;
+use base::max_i32;
+use base::min_i32;
+use base::saturating_sub;
 use selection::Selection;
 ghost use mathlib.Core.Path.{_≡_};
 ghost use mathlib.Core.Bool.{Bool, false};
@@ -13,11 +13,11 @@ ghost use mathlib.Core.List.{List, [], _∷_};
 ghost use Prim.Native.Nat.{_≤_};
 ghost use lib.IntN.{ℤ};
 ghost use lib.ListN.{length};
-ghost use Rattle.base_lists.specs.Lists.{All, some};
-ghost use Rattle.base_ints.specs.Ints.{far};
-ghost use Rattle.tool_points.specs.Line.{Point, point};
-ghost use Rattle.tool_points.specs.Within.{Spanned};
-ghost use Rattle.tool_points.specs.Brush.{stamped};
+ghost use Rattle.base.specs.Lists.{All, some};
+ghost use Rattle.base.specs.Ints.{far};
+ghost use Rattle.tool_line.specs.Line.{Point, point};
+ghost use Rattle.tool_line.specs.Within.{Spanned};
+ghost use Rattle.tool_line.specs.Brush.{stamped};
 ghost use Rattle.tool_brush.specs.Points.{rectanglePoints};
 ghost use Rattle.tool_brush.specs.Places.{Brush, Close};
 ghost use Rattle.tool_brush.specs.Given.{pointsOf};
@@ -25,7 +25,9 @@ ghost use Rattle.tool_brush.specs.Reached.{Holds, Spans, wider};
 
 // The rows of a rectangle with corners in the rows ay and by.
 pub fn rectangle_rows(region: Selection, ay: i32, by: i32) -> Run
-    ensures { λ r. ⌜ ((ax bx : ℤ) (filled : Bool) → Holds region (rectanglePoints (point ax ay) (point bx by) filled) r) ⌝ }
+    ensures { λ r. ⌜
+        ((ax bx : ℤ) (filled : Bool) → Holds region (rectanglePoints (point ax ay) (point bx by) filled) r)
+        ⌝ }
 {
     let above = region.y as usize;
     clip(

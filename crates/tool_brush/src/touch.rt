@@ -1,14 +1,14 @@
 // The steps of a line at which a brush touches a region: where it touches nothing, no step is walked.
-use base_ints::min_usize;
+use base::max_usize;
+use base::min_usize;
 use selection::Selection;
-use tool_points::Steps;
-use tool_points::longer;
-use tool_points::max_usize;
-use tool_points::steps_within;
+use tool_line::Steps;
+use tool_line::longer;
+use tool_line::steps_within;
 ghost use mathlib.Core.Path.{_≡_};
 ghost use Prim.Native.Nat.{ℕ, _≤_};
-ghost use Rattle.tool_points.specs.Line.{point, Near};
-ghost use Rattle.tool_points.specs.Steps.{OfLine, placeOn, among};
+ghost use Rattle.tool_line.specs.Line.{point, Near};
+ghost use Rattle.tool_line.specs.Steps.{OfLine, placeOn, among};
 ghost use Rattle.tool_brush.specs.Places.{Brush};
 ghost use Rattle.tool_brush.specs.Touching.{touches, Touched, Inside};
 

@@ -6,11 +6,11 @@ use native.Mathlib.Omega.{arith}
 use borrow.Author.Tests.{lt-ltb, le-ltb, eq-eqb, ne-eqb}
 use lib.IntN.{ℤ}
 use lib.ListN.{length}
-use Rattle.base_limits.specs.Checks.{firstOf, refusedOr}
-use Rattle.base_limits.specs.Answer.{filled}
-use Rattle.base_limits.specs.declared.Counted.the-variants as counted
-use Rattle.base_limits.proofs.First.{no-zero, first-here}
-use Rattle.base_lists.specs.Lists.{over}
+use Rattle.base.specs.Checks.{firstOf, refusedOr}
+use Rattle.base.specs.Answer.{filled}
+use Rattle.base.specs.declared.Counted.the-variants as counted
+use Rattle.base.proofs.First.{no-zero, first-here}
+use Rattle.base.specs.Lists.{over}
 use Rattle.sheet.specs.Sheet.{Sheet}
 use Rattle.sheet.specs.Checks.{sheetChecks, WellFormed, Judged}
 use Rattle.sheet.proofs.Judging.{past-sheet, refused-sheet}
@@ -18,7 +18,7 @@ use Rattle.selection.specs.declared.Selection.{Selection}
 use Rattle.selection.specs.declared.Area.{Area}
 use Rattle.selection.specs.Selection.{positions}
 use Rattle.selection.specs.Region.{regionChecks, regionIn}
-use Rattle.tool_snap.specs.declared.Copied.the-variants as copied
+use Rattle.base.specs.declared.Copied.the-variants as copied
 use Rattle.tool_snap.specs.Clipped.{clipped, fromRows}
 use Rattle.tool_snap.proofs.Answers.{clip-refused, clip-short, clip-done, rows-count}
 use Rattle.tool_clip.specs.Clips.{indexOf, copyOf, rgbaOf, clipChecks, clipRgbaOf}

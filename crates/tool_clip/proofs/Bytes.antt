@@ -10,11 +10,11 @@ use lib.Dec.{ltb}
 use lib.IntN.{ℤ, pos, negsuc}
 use lib.ListN.{length, getD, set, take, drop}
 use lib.Seq.{length-take-le, take-all}
-use Rattle.base_lists.specs.Lists.{over}
-use Rattle.base_lists.proofs.Over.{over-none, over-lent, length-over}
-use Rattle.base_lists.proofs.Collect.{flatMap-append, flatMap-one, length-flatMap}
-use Rattle.base_ints.specs.Ints.{onAxis}
-use Rattle.base_storage.specs.Triples.{rgbAt}
+use Rattle.base.specs.Lists.{over}
+use Rattle.base.proofs.Over.{over-none, over-lent, length-over}
+use Rattle.base.proofs.Collect.{flatMap-append, flatMap-one, length-flatMap}
+use Rattle.base.specs.Ints.{onAxis}
+use Rattle.base.specs.Triples.{rgbAt}
 use Rattle.sheet.proofs.Front.{take-next}
 use Rattle.tool_clip.specs.Clips.{opaque, clear, rgbaOf}
 

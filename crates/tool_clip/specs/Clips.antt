@@ -5,16 +5,16 @@ use mathlib.Core.List.{List, [], _∷_, _++_, flatMap}
 use lib.Dec.{ltb, eqb}
 use lib.IntN.{ℤ, pos, negsuc}
 use lib.ListN.{length, getD}
-use Rattle.base_limits.specs.Limits.{maxSide}
-use Rattle.base_limits.specs.Numbers.{noSpace, badClip}
-use Rattle.base_limits.specs.Checks.{Check, _when_, checked}
-use Rattle.base_limits.specs.Answer.{Filled, filled}
-use Rattle.base_limits.specs.declared.Counted.the-variants as counted
-use Rattle.base_limits.specs.declared.Rgb.{Rgb}
-use Rattle.base_lists.specs.Lists.{over}
+use Rattle.base.specs.Limits.{maxSide}
+use Rattle.base.specs.Numbers.{noSpace, badClip}
+use Rattle.base.specs.Checks.{Check, _when_, checked}
+use Rattle.base.specs.Answer.{Filled, leaving}
+use Rattle.base.specs.Answer.Told.{result, alone}
+use Rattle.base.specs.declared.Rgb.{Rgb}
+use Rattle.base.specs.Lists.{over}
 use Rattle.sheet.specs.Sheet.{Sheet}
 use Rattle.sheet.specs.Checks.{sheetChecks}
-use Rattle.base_storage.specs.Triples.{rgbAt}
+use Rattle.base.specs.Triples.{rgbAt}
 use Rattle.selection.specs.declared.Area.{Area}
 use Rattle.selection.specs.Selection.{positions}
 use Rattle.selection.specs.Region.{regionChecks, regionIn}
@@ -52,5 +52,5 @@ clipChecks w h clip =
 unfoldable pub clipRgbaOf : Sheet → ℕ → ℕ → List ℤ → List ℕ → Filled ℕ
 clipRgbaOf s w h clip out =
     checked (sheetChecks [] s ++ (clipChecks w h clip ++ (noSpace when ltb (length out) (4 * length clip) ∷ [])))
-    (λ n. filled (counted.Refused n) out)
-    (filled (counted.Count (4 * length clip)) (over (flatMap (rgbaOf (s .k) (s .palette)) clip) out))
+    (λ n. leaving (alone n) out)
+    (leaving (result (4 * length clip)) (over (flatMap (rgbaOf (s .k) (s .palette)) clip) out))

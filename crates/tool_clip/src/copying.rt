@@ -1,20 +1,21 @@
 // `copy` and `eyedropper`.
-use base_limits::NO_SPACE;
-use base_limits::OFF_THE_SHEET;
+use base::Copied;
+use base::Got;
+use base::NO_SPACE;
+use base::OFF_THE_SHEET;
 use selection::Area;
 use selection::Chosen;
 use selection::Selection;
 use selection::region;
-use sheet::Got;
 use sheet::check;
 use sheet::get_at;
-use tool_snap::Copied;
 ghost use mathlib.Core.Path.{_≡_};
 ghost use mathlib.Core.List.{map};
 ghost use Prim.Native.Nat.{_+_, _*_, _≤_};
 ghost use lib.ListN.{length};
-ghost use Rattle.base_lists.specs.Lists.{range, over};
+ghost use Rattle.base.specs.Lists.{range, over};
 ghost use Rattle.sheet.specs.Sheet.{sheetOf};
+ghost use Rattle.base.specs.Answer.{gotTold};
 ghost use Rattle.sheet.specs.Document.{getAtOf};
 ghost use Rattle.selection.specs.Selection.{positions};
 ghost use Rattle.selection.specs.Region.{Fits};
@@ -34,7 +35,9 @@ fn copy_row(indices: &[i16], from: usize, n: usize, out: &mut [i16])
 // Copies the indices of a region, row by row. What out has past them keeps.
 fn copy_rows(w: usize, indices: &[i16], s: Selection, out: &mut [i16])
     requires { ⌜ Fits w (length (now indices)) s × (s .w * s .h ≤ length (now out)) ⌝ }
-    ensures { λ _. ⌜ now (out .exit) ≡ over (fromRows w (indexOf (now (indices .entry))) (positions s)) (now (out .entry)) ⌝ }
+    ensures { λ _. ⌜
+        now (out .exit) ≡ over (fromRows w (indexOf (now (indices .entry))) (positions s)) (now (out .entry))
+        ⌝ }
 {
     let x = s.x as usize;
     let y = s.y as usize;
@@ -57,7 +60,10 @@ pub fn copy(
     area: Area,
     out: &mut [i16],
 ) -> Copied
-    ensures { λ r. ⌜ clipped r (now (out .exit)) ≡ copyOf (sheetOf w h k (now (palette .entry)) (now (lab .entry)) (now (indices .entry))) area (now (out .entry)) ⌝ }
+    ensures { λ r. ⌜ (
+        let sheet = sheetOf w h k (now (palette .entry)) (now (lab .entry)) (now (indices .entry)) in
+        clipped r (now (out .exit)) ≡ copyOf sheet area (now (out .entry))
+        ) ⌝ }
 {
     let no = check(w, h, k, palette, lab, indices);
     if no != 0 {
@@ -89,7 +95,10 @@ pub fn eyedropper(
     x: i32,
     y: i32,
 ) -> Got
-    ensures { λ r. ⌜ r ≡ getAtOf (sheetOf w h k (now (palette .entry)) (now (lab .entry)) (now (indices .entry))) x y ⌝ }
+    ensures { λ r. ⌜ (
+        let sheet = sheetOf w h k (now (palette .entry)) (now (lab .entry)) (now (indices .entry)) in
+        gotTold r ≡ getAtOf sheet x y
+        ) ⌝ }
 {
     get_at(w, h, k, palette, lab, indices, x, y)
 }

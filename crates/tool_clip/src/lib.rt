@@ -7,5 +7,4 @@ mod rgba;
 pub use copying::copy;
 pub use copying::eyedropper;
 pub use rgba::clip_rgba;
-pub use tool_snap::Copied;
 pub use tool_snap::snap_rgba;

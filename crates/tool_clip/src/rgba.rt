@@ -1,16 +1,16 @@
 // `clip_rgba`.
-use base_ints::on_axis;
-use base_limits::BAD_CLIP;
-use base_limits::Counted;
-use base_limits::MAX_SIDE;
-use base_limits::NO_SPACE;
+use base::BAD_CLIP;
+use base::Counted;
+use base::MAX_SIDE;
+use base::NO_SPACE;
+use base::on_axis;
 use sheet::check;
 ghost use mathlib.Core.Path.{_≡_};
 ghost use mathlib.Core.List.{[], _∷_, flatMap};
 ghost use Prim.Native.Nat.{_*_, _≤_};
 ghost use lib.ListN.{length};
-ghost use Rattle.base_limits.specs.Answer.{filled};
-ghost use Rattle.base_lists.specs.Lists.{over};
+ghost use Rattle.base.specs.Answer.{filled};
+ghost use Rattle.base.specs.Lists.{over};
 ghost use Rattle.sheet.specs.Sheet.{sheetOf};
 ghost use Rattle.tool_clip.specs.Clips.{rgbaOf, clipRgbaOf};
 
@@ -42,7 +42,9 @@ fn put_rgba(k: usize, palette: &[u8], z: i16, out: &mut [u8])
 // Writes the bytes of a clip's pixels. What out has past them keeps.
 fn put_clip(k: usize, palette: &[u8], clip: &[i16], out: &mut [u8])
     requires { ⌜ (k ≤ 255) × (length (now palette) ≡ 765) × (4 * length (now clip) ≤ length (now out)) ⌝ }
-    ensures { λ _. ⌜ now (out .exit) ≡ over (flatMap (rgbaOf k (now (palette .entry))) (now (clip .entry))) (now (out .entry)) ⌝ }
+    ensures { λ _. ⌜
+        now (out .exit) ≡ over (flatMap (rgbaOf k (now (palette .entry))) (now (clip .entry))) (now (out .entry))
+        ⌝ }
 {
     let mut i: usize = 0;
     while i < clip.len() {
@@ -66,7 +68,10 @@ pub fn clip_rgba(
     clip: &[i16],
     out: &mut [u8],
 ) -> Counted
-    ensures { λ r. ⌜ filled r (now (out .exit)) ≡ clipRgbaOf (sheetOf w h k (now (palette .entry)) (now (lab .entry)) (now (indices .entry))) «clip_w» «clip_h» (now (clip .entry)) (now (out .entry)) ⌝ }
+    ensures { λ r. ⌜ (
+        let sheet = sheetOf w h k (now (palette .entry)) (now (lab .entry)) (now (indices .entry)) in
+        filled r (now (out .exit)) ≡ clipRgbaOf sheet «clip_w» «clip_h» (now (clip .entry)) (now (out .entry))
+        ) ⌝ }
 {
     let no = check(w, h, k, palette, lab, indices);
     if no != 0 {

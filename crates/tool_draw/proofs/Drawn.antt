@@ -6,16 +6,16 @@ use mathlib.Core.List.{List, [], _∷_, flatMap}
 use Prim.Native.Nat.{ℕ, _+_, _*_, _≤_, _<_, _^_}
 use lib.IntN.{ℤ, pos, negsuc, natAbs}
 use lib.ListN.{length, getD}
-use Rattle.base_lists.proofs.Bools.{and-left, and-right}
-use Rattle.base_ints.proofs.Back.{never}
+use Rattle.base.proofs.Bools.{and-left, and-right}
+use Rattle.base.proofs.Back.{never}
 use Rattle.selection_spans.specs.Spans.{inSpan}
 use Rattle.selection.specs.declared.Selection.{Selection}
 use Rattle.selection.specs.Selection.{contains, containsI}
 use Rattle.selection.proofs.Regions.{Within, below-span}
-use Rattle.tool_points.specs.Line.{Point}
+use Rattle.tool_line.specs.Line.{Point}
 use Rattle.edit.specs.Change.{Change, place}
-use Rattle.base_lists.specs.Lists.{All}
-use Rattle.base_lists.proofs.Each.{all-append, all-map, all-flat}
+use Rattle.base.specs.Lists.{All}
+use Rattle.base.proofs.Each.{all-append, all-map, all-flat}
 use Rattle.change_list.specs.Between.{between}
 use Rattle.change_list.proofs.Parts.{InRows}
 use Rattle.change_normal.specs.Laws.{On}

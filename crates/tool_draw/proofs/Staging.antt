@@ -10,12 +10,11 @@ use lib.IntN.{ℤ}
 use lib.ListN.{length}
 use mir.Syntax.{w16}
 use mir.Val.{SFits, ofZ}
-use Rattle.base_limits.specs.Numbers.{noSpace}
-use Rattle.base_limits.specs.Checks.{Check, _when_, orElse, firstOf, refusedOr}
-use Rattle.base_limits.specs.Answer.{filled}
-use Rattle.base_limits.specs.declared.Counted.{Counted}
-use Rattle.base_limits.specs.declared.Counted.the-variants as counted
-use Rattle.base_limits.proofs.First.{first-past, first-here, refused-first, result-first, past, past-both, skip}
+use Rattle.base.specs.Numbers.{noSpace}
+use Rattle.base.specs.Checks.{Check, _when_, orElse, firstOf, refusedOr}
+use Rattle.base.specs.Answer.{Told, leaving, filled}
+use Rattle.base.specs.declared.Counted.the-variants as counted
+use Rattle.base.proofs.First.{first-past, first-here, refused-first, result-first, past, past-both, skip}
 use Rattle.selection.specs.declared.Selection.{Selection}
 use Rattle.selection.specs.declared.Area.{Area}
 use Rattle.selection.specs.declared.Area.the-variants as area
@@ -25,7 +24,7 @@ use Rattle.selection.proofs.Regions.{Within, fits-region}
 use Rattle.sheet.specs.Sheet.{Sheet}
 use Rattle.sheet.specs.Checks.{sheetChecks, WellFormed, Judged}
 use Rattle.sheet.proofs.Judging.{none-applied, past-sheet, refused-sheet}
-use Rattle.tool_points.specs.Line.{Point}
+use Rattle.tool_line.specs.Line.{Point}
 use Rattle.edit.specs.Change.{Change, packed, painted, newOf}
 use Rattle.change_list.specs.Between.{between, laidOut, rowsOf, betweenRows, HasRows}
 use Rattle.change_list.proofs.Parts.{has-rows, painted-rows}
@@ -82,15 +81,15 @@ module _ (s : Sheet) (given : List Check) (a : Area) (room : ℕ) where
             (past-sheet s f (given ++ after) ∙ first-past given after (sym none) ∙ first-past (regionChecks a (s .w) (s .h)) _ on ∙ rw (le-ltb room (s .w * s .h) h))
 
   -- ---- what the answer tells
-  pub record Told (n : ℕ) : Type 0 where
+  pub record Tells (n : ℕ) : Type 0 where
     pub value : n ≡ firstOf (drawChecks s given a room)
     pub some : n ≡ 0 → ⊥
 
-  pub told : (n : ℕ) → Refused n ≡ stageOf s given a room → Told n
+  pub told : (n : ℕ) → Refused n ≡ stageOf s given a room → Tells n
   unfolding stageOf refusedOr
   told n e = go (firstOf (drawChecks s given a room)) refl e
     where
-      go : (m : ℕ) → firstOf (drawChecks s given a room) ≡ m → Refused n ≡ refusedOr m Refused (Canvas (regionIn a (s .w) (s .h))) → Told n
+      go : (m : ℕ) → firstOf (drawChecks s given a room) ≡ m → Refused n ≡ refusedOr m Refused (Canvas (regionIn a (s .w) (s .h))) → Tells n
       go zero q e = absurd (let z : _≡_ {A = ℕ} 0 1 = cc in omega arith)
       go (suc m) q e = let i : n ≡ suc m = cc in record { value = i ∙ sym q; some = λ z. omega arith }
 
@@ -148,11 +147,11 @@ module _ (s : Sheet) (given : List Check) (a : Area) (room : ℕ) where
           has-rows (l .w-small) (l .h-small) (omega arith) size (omega arith)
 
       -- the rows were laid out, painted and compared
-      pub answered : (z : ℤ) (s₁ s₂ : List ℕ) (c : Counted) (out after : List ℕ) → SFits w16 z
+      pub answered : (z : ℤ) (s₁ s₂ : List ℕ) (c : Told ℕ) (out after : List ℕ) → SFits w16 z
           → rowsOf (s .w) (rows .start) (rows .count) (laidOut (length (s .indices)) s₁) ≡ rowsOf (s .w) (rows .start) (rows .count) (s .indices)
           → s₂ ≡ setAll (placesOf region (s .w) ps) (ofZ w16 z) s₁
-          → filled c after ≡ handed (map packed (betweenRows (s .w) (rows .start) (rows .count) (s .indices) (laidOut (length (s .indices)) s₂))) out
-          → filled c after ≡ listed (drawChecks s given a room) (drawn (s .w) (s .indices) (regionIn a (s .w) (s .h)) z ps) out
+          → leaving c after ≡ handed (map packed (betweenRows (s .w) (rows .start) (rows .count) (s .indices) (laidOut (length (s .indices)) s₂))) out
+          → leaving c after ≡ listed (drawChecks s given a room) (drawn (s .w) (s .indices) (regionIn a (s .w) (s .h)) z ps) out
       unfolding listed
       answered z s₁ s₂ c out after f e q d =
           let n = length (s .indices) in

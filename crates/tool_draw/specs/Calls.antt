@@ -5,15 +5,15 @@ use Prim.Native.Nat.{ℕ, _*_, _%_}
 use lib.Dec.{ltb, eqb}
 use lib.IntN.{ℤ, negsuc}
 use lib.ListN.{length}
-use Rattle.base_limits.specs.Numbers.{badSheet, noSpace}
-use Rattle.base_limits.specs.Checks.{Check, _when_, checked}
-use Rattle.base_limits.specs.Answer.{Filled, filled}
-use Rattle.base_limits.specs.declared.Counted.{Counted}
+use Rattle.base.specs.Numbers.{badSheet, noSpace}
+use Rattle.base.specs.Checks.{Check, _when_, checked}
+use Rattle.base.specs.Answer.{Filled, filled}
+use Rattle.base.specs.declared.Counted.{Counted}
 use Rattle.selection.specs.declared.Area.{Area}
 use Rattle.selection.specs.Region.{regionChecks, regionIn}
 use Rattle.sheet.specs.Sheet.{Sheet}
 use Rattle.sheet.specs.Checks.{sheetChecks}
-use Rattle.tool_points.specs.Line.{Point}
+use Rattle.tool_line.specs.Line.{Point}
 use Rattle.change_list.specs.Listed.{listed}
 use Rattle.tool_brush.specs.Points.{pencilOf, rectangleOf}
 use Rattle.tool_brush.specs.Given.{cornerChecks, pointsOf, pointChecks}

@@ -1,14 +1,14 @@
 // The calls: their checks, and the rows that a tool can reach laid out, painted and compared.
 use crate::Stage;
-use base_ints::is_far;
-use base_limits::BAD_SHEET;
-use base_limits::Counted;
-use base_limits::LIST_TOO_LONG;
-use base_limits::MAX_CHANGES;
-use base_limits::NO_SPACE;
-use base_limits::OFF_THE_SHEET;
-use base_limits::TOO_FAR;
-use base_lists::either;
+use base::BAD_SHEET;
+use base::Counted;
+use base::LIST_TOO_LONG;
+use base::MAX_CHANGES;
+use base::NO_SPACE;
+use base::OFF_THE_SHEET;
+use base::TOO_FAR;
+use base::either;
+use base::is_far;
 use change_list::copy_out;
 use change_list::count_of;
 use change_list::counted;
@@ -27,15 +27,16 @@ use tool_brush::paint_rectangle;
 use tool_brush::paint_two;
 use tool_brush::path_rows;
 use tool_brush::rectangle_rows;
+use tool_line::far_point;
 ghost use mathlib.Core.Path.{_≡_};
 ghost use mathlib.Core.List.{List, map};
 ghost use Prim.Native.Nat.{_%_};
 ghost use lib.ListN.{length};
-ghost use Rattle.base_limits.specs.Checks.{Check, firstOf};
-ghost use Rattle.base_lists.specs.Lists.{some};
-ghost use Rattle.base_ints.specs.Ints.{far};
+ghost use Rattle.base.specs.Checks.{Check, firstOf};
+ghost use Rattle.base.specs.Lists.{some};
+ghost use Rattle.base.specs.Ints.{far};
 ghost use Rattle.sheet.specs.Sheet.{sheetOf};
-ghost use Rattle.tool_points.specs.Line.{point, farPoint};
+ghost use Rattle.tool_line.specs.Line.{point};
 ghost use Rattle.edit.specs.Change.{packed};
 ghost use Rattle.change_list.specs.Between.{laidOut, betweenRows, HasRows};
 ghost use Rattle.change_list.specs.Listed.{handed, countOf, InScratch};
@@ -55,7 +56,10 @@ fn stage(
     area: Area,
     room: usize,
 ) -> Stage
-    ensures { λ r. ⌜ ((given : List Check) → no ≡ firstOf given → r ≡ stageOf (sheetOf w h k (now (palette .entry)) (now (lab .entry)) (now (indices .entry))) given area room) ⌝ }
+    ensures { λ r. ⌜
+        ((given : List Check) → no ≡ firstOf given
+        → r ≡ stageOf (sheetOf w h k (now (palette .entry)) (now (lab .entry)) (now (indices .entry))) given area room)
+        ⌝ }
 {
     let first = check(w, h, k, palette, lab, indices);
     if first != 0 {
@@ -77,17 +81,14 @@ fn stage(
 // its front for a buffer of `room` places; 16 where that has fewer.
 fn finish(indices: &[i16], w: usize, rows: Run, scratch: &mut [u64], room: usize) -> Counted
     requires { ⌜ HasRows w (rows .start) (rows .count) (length (now indices)) (length (now scratch)) ⌝ }
-    ensures { λ r. ⌜ InScratch (countOf r) room (now (scratch .exit)) (leaves r) (handed (map packed (betweenRows w (rows .start) (rows .count) (now (indices .entry)) (laidOut (length (now (indices .entry))) (now (scratch .entry)))))) ⌝ }
+    ensures { λ r. ⌜
+        InScratch (countOf r) room (now (scratch .exit)) (leaves r)
+        (handed (map packed (betweenRows w (rows .start) (rows .count) (now (indices .entry))
+        (laidOut (length (now (indices .entry))) (now (scratch .entry))))))
+        ⌝ }
 {
     let n = differences(indices, w, rows.start, rows.count, scratch);
     counted(n, room)
-}
-
-// Number 15 of a point.
-fn far_point(x: i32, y: i32) -> bool
-    ensures { λ r. ⌜ r ≡ farPoint (point x y) ⌝ }
-{
-    is_far(x) || is_far(y)
 }
 
 // Number 15 of two corners, or 0.
@@ -147,7 +148,11 @@ pub fn pencil_in(
     scratch: &mut [u64],
     room: usize,
 ) -> Counted
-    ensures { λ r. ⌜ InScratch (countOf r) room (now (scratch .exit)) (leaves r) (pencilCall (sheetOf w h k (now (palette .entry)) (now (lab .entry)) (now (indices .entry))) area (now (points .entry)) size index (length (now (scratch .entry)))) ⌝ }
+    ensures { λ r. ⌜ (
+        let sheet = sheetOf w h k (now (palette .entry)) (now (lab .entry)) (now (indices .entry)) in
+        InScratch (countOf r) room (now (scratch .exit)) (leaves r)
+        (pencilCall sheet area (now (points .entry)) size index (length (now (scratch .entry))))
+        ) ⌝ }
     ensures { λ _. ⌜ length (now (scratch .exit)) ≡ length (now (scratch .entry)) ⌝ }
 {
     if points.len() % 2 != 0 {
@@ -182,7 +187,11 @@ pub fn pencil(
     scratch: &mut [u64],
     out: &mut [u64],
 ) -> Counted
-    ensures { λ r. ⌜ leaves r (now (out .exit)) ≡ pencilCall (sheetOf w h k (now (palette .entry)) (now (lab .entry)) (now (indices .entry))) area (now (points .entry)) size index (length (now (scratch .entry))) (now (out .entry)) ⌝ }
+    ensures { λ r. ⌜ (
+        let sheet = sheetOf w h k (now (palette .entry)) (now (lab .entry)) (now (indices .entry)) in
+        leaves r (now (out .exit))
+        ≡ pencilCall sheet area (now (points .entry)) size index (length (now (scratch .entry))) (now (out .entry))
+        ) ⌝ }
     ensures { λ _. ⌜ length (now (scratch .exit)) ≡ length (now (scratch .entry)) ⌝ }
 {
     let r = pencil_in(
@@ -217,7 +226,11 @@ pub fn eraser_in(
     scratch: &mut [u64],
     room: usize,
 ) -> Counted
-    ensures { λ r. ⌜ InScratch (countOf r) room (now (scratch .exit)) (leaves r) (eraserCall (sheetOf w h k (now (palette .entry)) (now (lab .entry)) (now (indices .entry))) area (now (points .entry)) size (length (now (scratch .entry)))) ⌝ }
+    ensures { λ r. ⌜ (
+        let sheet = sheetOf w h k (now (palette .entry)) (now (lab .entry)) (now (indices .entry)) in
+        InScratch (countOf r) room (now (scratch .exit)) (leaves r)
+        (eraserCall sheet area (now (points .entry)) size (length (now (scratch .entry))))
+        ) ⌝ }
     ensures { λ _. ⌜ length (now (scratch .exit)) ≡ length (now (scratch .entry)) ⌝ }
 {
     pencil_in(
@@ -250,7 +263,11 @@ pub fn eraser(
     scratch: &mut [u64],
     out: &mut [u64],
 ) -> Counted
-    ensures { λ r. ⌜ leaves r (now (out .exit)) ≡ eraserCall (sheetOf w h k (now (palette .entry)) (now (lab .entry)) (now (indices .entry))) area (now (points .entry)) size (length (now (scratch .entry))) (now (out .entry)) ⌝ }
+    ensures { λ r. ⌜ (
+        let sheet = sheetOf w h k (now (palette .entry)) (now (lab .entry)) (now (indices .entry)) in
+        leaves r (now (out .exit))
+        ≡ eraserCall sheet area (now (points .entry)) size (length (now (scratch .entry))) (now (out .entry))
+        ) ⌝ }
     ensures { λ _. ⌜ length (now (scratch .exit)) ≡ length (now (scratch .entry)) ⌝ }
 {
     let r = eraser_in(
@@ -289,7 +306,11 @@ pub fn line_in(
     scratch: &mut [u64],
     room: usize,
 ) -> Counted
-    ensures { λ r. ⌜ InScratch (countOf r) room (now (scratch .exit)) (leaves r) (lineCall (sheetOf w h k (now (palette .entry)) (now (lab .entry)) (now (indices .entry))) area (point ax ay) (point bx by) size index (length (now (scratch .entry)))) ⌝ }
+    ensures { λ r. ⌜ (
+        let sheet = sheetOf w h k (now (palette .entry)) (now (lab .entry)) (now (indices .entry)) in
+        InScratch (countOf r) room (now (scratch .exit)) (leaves r)
+        (lineCall sheet area (point ax ay) (point bx by) size index (length (now (scratch .entry))))
+        ) ⌝ }
     ensures { λ _. ⌜ length (now (scratch .exit)) ≡ length (now (scratch .entry)) ⌝ }
 {
     let no = corners_no(ax, ay, bx, by);
@@ -324,7 +345,11 @@ pub fn line(
     scratch: &mut [u64],
     out: &mut [u64],
 ) -> Counted
-    ensures { λ r. ⌜ leaves r (now (out .exit)) ≡ lineCall (sheetOf w h k (now (palette .entry)) (now (lab .entry)) (now (indices .entry))) area (point ax ay) (point bx by) size index (length (now (scratch .entry))) (now (out .entry)) ⌝ }
+    ensures { λ r. ⌜ (
+        let sheet = sheetOf w h k (now (palette .entry)) (now (lab .entry)) (now (indices .entry)) in
+        leaves r (now (out .exit))
+        ≡ lineCall sheet area (point ax ay) (point bx by) size index (length (now (scratch .entry))) (now (out .entry))
+        ) ⌝ }
     ensures { λ _. ⌜ length (now (scratch .exit)) ≡ length (now (scratch .entry)) ⌝ }
 {
     let r = line_in(
@@ -367,7 +392,11 @@ pub fn rectangle_in(
     scratch: &mut [u64],
     room: usize,
 ) -> Counted
-    ensures { λ r. ⌜ InScratch (countOf r) room (now (scratch .exit)) (leaves r) (rectangleCall (sheetOf w h k (now (palette .entry)) (now (lab .entry)) (now (indices .entry))) area (point ax ay) (point bx by) filled index (length (now (scratch .entry)))) ⌝ }
+    ensures { λ r. ⌜ (
+        let sheet = sheetOf w h k (now (palette .entry)) (now (lab .entry)) (now (indices .entry)) in
+        InScratch (countOf r) room (now (scratch .exit)) (leaves r)
+        (rectangleCall sheet area (point ax ay) (point bx by) filled index (length (now (scratch .entry))))
+        ) ⌝ }
     ensures { λ _. ⌜ length (now (scratch .exit)) ≡ length (now (scratch .entry)) ⌝ }
 {
     let no = corners_no(ax, ay, bx, by);
@@ -401,7 +430,12 @@ pub fn rectangle(
     scratch: &mut [u64],
     out: &mut [u64],
 ) -> Counted
-    ensures { λ r. ⌜ leaves r (now (out .exit)) ≡ rectangleCall (sheetOf w h k (now (palette .entry)) (now (lab .entry)) (now (indices .entry))) area (point ax ay) (point bx by) filled index (length (now (scratch .entry))) (now (out .entry)) ⌝ }
+    ensures { λ r. ⌜ (
+        let sheet = sheetOf w h k (now (palette .entry)) (now (lab .entry)) (now (indices .entry)) in
+        leaves r (now (out .exit))
+        ≡ rectangleCall sheet area (point ax ay) (point bx by) filled index (length (now (scratch .entry)))
+        (now (out .entry))
+        ) ⌝ }
     ensures { λ _. ⌜ length (now (scratch .exit)) ≡ length (now (scratch .entry)) ⌝ }
 {
     let r = rectangle_in(

@@ -10,8 +10,8 @@ use lib.Dec.{eqb}
 use lib.ListN.{length, take, drop, getD, set, replicate, length-set, length-replicate, getD-replicate}
 use lib.Seq.{drop-set-lt, getD-set-same, getD-set-other, take-suc-set, ext-getD}
 use borrow.Author.Tests.{eq-eqb, ne-eqb}
-use Rattle.base_lists.specs.Lists.{range, kept}
-use Rattle.base_lists.proofs.Behind.{same-at, further}
+use Rattle.base.specs.Lists.{range, kept}
+use Rattle.base.proofs.Behind.{same-at, further}
 use Rattle.tool_flood.specs.Cells.{placed, emitted}
 
 -- ---- clearing

@@ -7,7 +7,7 @@ use native.Mathlib.Omega.{arith}
 use lib.Dec.{eqb}
 use lib.IntN.{ℤ, pos}
 use lib.ListN.{length, getD}
-use Rattle.base_lists.specs.Lists.{range, kept}
+use Rattle.base.specs.Lists.{range, kept}
 use Rattle.selection.specs.declared.Selection.{Selection}
 use Rattle.edit.specs.Change.{packed}
 use Rattle.tool_flood.specs.Flood.{changeAt, flooded, floodOf}

@@ -9,9 +9,9 @@ use lib.Dec.{ltb}
 use borrow.Author.Tests.{eqb-true}
 use lib.IntN.{ℤ, pos}
 use lib.ListN.{length, getD}
-use Rattle.base_lists.specs.Lists.{range, kept, All}
-use Rattle.base_lists.proofs.Bools.{and-left, and-right}
-use Rattle.base_ints.proofs.Back.{same-index}
+use Rattle.base.specs.Lists.{range, kept, All}
+use Rattle.base.proofs.Bools.{and-left, and-right}
+use Rattle.base.proofs.Back.{same-index}
 use Rattle.selection.specs.declared.Selection.{Selection}
 use Rattle.selection.specs.Selection.{contains}
 use Rattle.edit.specs.Change.{Change, place}

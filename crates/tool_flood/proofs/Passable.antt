@@ -7,8 +7,8 @@ use lib.Dec.{ltb}
 use lib.IntN.{ℤ, pos}
 use lib.ListN.{length, getD}
 use borrow.Author.Tests.{ltb-true, lt-ltb, le-ltb}
-use Rattle.base_lists.proofs.Bools.{and-left, and-right}
-use Rattle.base_ints.specs.Ints.{eqZ}
+use Rattle.base.proofs.Bools.{and-left, and-right}
+use Rattle.base.specs.Ints.{eqZ}
 use Rattle.selection.specs.declared.Selection.{Selection}
 use Rattle.selection.specs.Selection.{contains}
 use Rattle.tool_flood.specs.Flood.{passable}

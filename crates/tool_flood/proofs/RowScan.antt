@@ -11,10 +11,10 @@ use lib.Dec.{eqb}
 use lib.IntN.{ℤ, pos}
 use lib.ListN.{length, getD}
 use borrow.Author.Tests.{eq-eqb, ne-eqb}
-use Rattle.base_lists.specs.Lists.{range, some, kept, All}
-use Rattle.base_lists.proofs.Each.{all-of}
-use Rattle.base_lists.proofs.Kept.{kept-map, kept-same, kept-all}
-use Rattle.base_ints.specs.Ints.{eqZ}
+use Rattle.base.specs.Lists.{range, some, kept, All}
+use Rattle.base.proofs.Each.{all-of}
+use Rattle.base.proofs.Kept.{kept-map, kept-same, kept-all}
+use Rattle.base.specs.Ints.{eqZ}
 use Rattle.selection.specs.declared.Selection.{Selection}
 use Rattle.edit.specs.Change.{Change}
 use Rattle.change_normal.specs.Normal.{keyOf, joined, enter, entered, changing, normalizeOf}

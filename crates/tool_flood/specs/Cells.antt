@@ -8,7 +8,7 @@ use lib.IntN.{ℤ}
 use lib.ListN.{length, getD, set}
 use mir.Syntax.{w16}
 use mir.Val.{ofZ}
-use Rattle.base_lists.specs.Lists.{range, kept}
+use Rattle.base.specs.Lists.{range, kept}
 use Rattle.selection.specs.declared.Selection.{Selection}
 use Rattle.tool_flood.specs.Flood.{flooded}
 

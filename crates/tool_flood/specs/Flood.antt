@@ -6,8 +6,8 @@ use mathlib.Core.List.{List, map}
 use lib.Dec.{ltb, eqb}
 use lib.IntN.{ℤ, pos}
 use lib.ListN.{length, getD}
-use Rattle.base_lists.specs.Lists.{range, kept}
-use Rattle.base_ints.specs.Ints.{eqZ}
+use Rattle.base.specs.Lists.{range, kept}
+use Rattle.base.specs.Ints.{eqZ}
 use Rattle.selection.specs.declared.Selection.{Selection}
 use Rattle.selection.specs.Selection.{contains}
 use Rattle.edit.specs.Change.{Change}
@@ -34,7 +34,8 @@ unfoldable pub reached : (ℕ → ℕ → ℕ) → (ℕ → Bool) → ℕ → �
 reached near passes start zero p = eqb p start
 reached near passes start (suc k) p =
     reached near passes start k p
-    || (passes p && (reached near passes start k (near p 0) || (reached near passes start k (near p 1) || (reached near passes start k (near p 2) || reached near passes start k (near p 3)))))
+    || (passes p && (reached near passes start k (near p 0) || (reached near passes start k (near p 1)
+    || (reached near passes start k (near p 2) || reached near passes start k (near p 3)))))
 
 -- in as many steps as there are places
 unfoldable pub flooded : ℕ → List ℤ → Selection → ℕ → ℕ → Bool

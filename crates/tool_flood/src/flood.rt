@@ -38,8 +38,13 @@ pub fn flood_in(
     index: i16,
     scratch: &mut [u64],
 ) -> usize
-    requires { ⌜ (0 < w) × (w ≤ 1024) × (length (now indices) ≤ 1024 * w) × (start < length (now indices)) × (length (now indices) ≤ length (now scratch)) ⌝ }
-    ensures { λ r. ⌜ Front (map packed (floodOf w (now (indices .entry)) region start index)) (now (scratch .exit)) r ⌝ }
+    requires { ⌜
+        (0 < w) × (w ≤ 1024) × (length (now indices) ≤ 1024 * w) × (start < length (now indices))
+        × (length (now indices) ≤ length (now scratch))
+        ⌝ }
+    ensures { λ r. ⌜
+        Front (map packed (floodOf w (now (indices .entry)) region start index)) (now (scratch .exit)) r
+        ⌝ }
 {
     let n = indices.len();
     flood_all(w, indices, region, start, index, &mut scratch[..n])

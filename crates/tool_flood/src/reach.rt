@@ -1,5 +1,5 @@
 // The marks: start, and from it each place that is reached.
-use base_ints::same;
+use base::same;
 use selection::Selection;
 ghost use mathlib.Core.Path.{_≡_};
 ghost use Prim.Native.Nat.{_/_, _%_, _≤_, _<_};
@@ -49,7 +49,9 @@ fn passes(w: usize, indices: &[i16], region: Selection, start: usize, p: usize) 
 
 // Marks q, and puts it at the queue's end.
 fn push(s: &mut [u64], tail: usize, q: usize)
-    requires { ⌜ (q < length (now s)) × (tail < length (now s)) × (length (now s) ≤ 1048576) × (getD (now s) q 0 % 2 ≡ 1 → ⊥) ⌝ }
+    requires { ⌜
+        (q < length (now s)) × (tail < length (now s)) × (length (now s) ≤ 1048576) × (getD (now s) q 0 % 2 ≡ 1 → ⊥)
+        ⌝ }
     ensures { λ _. ⌜ now (s .exit) ≡ queued (marked (now (s .entry)) q) tail q ⌝ }
 {
     s[q] = s[q] + 1;
@@ -67,7 +69,9 @@ fn step(
     q: usize,
 ) -> usize
     requires { ⌜ Ground w (now indices) start (now s) × (odds (now s) ≡ tail) ⌝ }
-    ensures { λ r. ⌜ Stepped (passable w (now (indices .entry)) region start q) (now (s .entry)) tail q (now (s .exit)) r ⌝ }
+    ensures { λ r. ⌜
+        Stepped (passable w (now (indices .entry)) region start q) (now (s .entry)) tail q (now (s .exit)) r
+        ⌝ }
 {
     if s.len() <= q {
         return tail;

@@ -1,53 +1,43 @@
 -- The point that a fill starts from. Assumes nothing.
-use mathlib.Core.Path.{_≡_, refl, sym, _∙_}
-use mathlib.Core.Bool.{Bool, true, false, cond}
+use mathlib.Core.Path.{_≡_, sym, ap, _∙_}
+use mathlib.Core.Bool.{true, false}
 use Prim.Native.Nat.{ℕ, _+_, _*_, _≤_, _<_}
 use native.Mathlib.Omega.{arith}
 use native.Mathlib.Nat.{mul-le-mul, le-refl, mul-comm, add-mul, one-mul}
 use borrow.Author.Tests.{leb-true}
 use lib.Dec.{leb}
 use lib.IntN.{ℤ, pos, negsuc}
-use Rattle.base_limits.specs.Checks.{firstOf, refusedOr}
-use Rattle.base_lists.proofs.Bools.{and-left, and-right}
-use Rattle.base_ints.specs.Ints.{far, fromZero}
-use Rattle.base_ints.proofs.Back.{never}
+use Rattle.base.specs.Checks.{firstOf, refusedOr}
+use Rattle.base.specs.Answer.Told.{result}
+use Rattle.base.proofs.Told.{alone-other, same-result}
+use Rattle.base.proofs.Bools.{and-left, and-right}
+use Rattle.base.specs.Ints.{far, fromZero}
+use Rattle.base.proofs.Back.{never}
 use Rattle.selection_spans.specs.Spans.{inSpan}
 use Rattle.selection.specs.declared.Selection.{Selection}
 use Rattle.selection.specs.declared.Held.{Held}
 use Rattle.selection.specs.declared.Held.the-variants as held
 use Rattle.selection.specs.Selection.{inside, contains, containsI}
-use Rattle.selection.specs.Calls.{farAway, containsIOf}
+use Rattle.selection.specs.Calls.{heldTold, farAway, containsIOf}
 use Rattle.selection.proofs.Regions.{below-span}
 
-abbrev heldBy : Bool → Held
-heldBy b = cond b held.Inside held.Outside
-
-held-is : (s : Selection) (x y : ℤ) → far x ≡ false → far y ≡ false → containsIOf s x y ≡ heldBy (containsI s x y)
+held-is : (s : Selection) (x y : ℤ) → far x ≡ false → far y ≡ false → containsIOf s x y ≡ result (containsI s x y)
 unfolding containsIOf farAway firstOf refusedOr
 held-is s x y p q = rw (p, q)
 
--- what each answer of it tells
+-- what each answer of it tells; it refuses nothing here
 module _ (s : Selection) (x y : ℤ) (p : far x ≡ false) (q : far y ≡ false) where
-  pub by-inside : {r : Held} → r ≡ containsIOf s x y → r ≡ held.Inside → true ≡ containsI s x y
-  by-inside e f = go (containsI s x y) (sym f ∙ e ∙ held-is s x y p q)
-    where
-      go : (b : Bool) → held.Inside ≡ heldBy b → true ≡ b
-      go true e = refl
-      go false e = cc
+  told : {r v : Held} → heldTold r ≡ containsIOf s x y → r ≡ v → heldTold v ≡ result (containsI s x y)
+  told e f = sym (ap heldTold f) ∙ e ∙ held-is s x y p q
 
-  pub by-outside : {r : Held} → r ≡ containsIOf s x y → r ≡ held.Outside → false ≡ containsI s x y
-  by-outside e f = go (containsI s x y) (sym f ∙ e ∙ held-is s x y p q)
-    where
-      go : (b : Bool) → held.Outside ≡ heldBy b → false ≡ b
-      go true e = cc
-      go false e = refl
+  pub by-inside : {r : Held} → heldTold r ≡ containsIOf s x y → r ≡ held.Inside → true ≡ containsI s x y
+  by-inside e f = same-result (told e f)
 
-  pub by-refused : {r : Held} {n : ℕ} → r ≡ containsIOf s x y → r ≡ held.Refused n → false ≡ containsI s x y
-  by-refused {n = n} e f = go (containsI s x y) (sym f ∙ e ∙ held-is s x y p q)
-    where
-      go : (b : Bool) → held.Refused n ≡ heldBy b → false ≡ b
-      go true e = cc
-      go false e = refl
+  pub by-outside : {r : Held} → heldTold r ≡ containsIOf s x y → r ≡ held.Outside → false ≡ containsI s x y
+  by-outside e f = same-result (told e f)
+
+  pub by-refused : {r : Held} {n : ℕ} → heldTold r ≡ containsIOf s x y → r ≡ held.Refused n → false ≡ containsI s x y
+  by-refused e f = absurd (alone-other (told e f))
 
 pub record OnSheet (w h : ℕ) (x y : ℤ) : Type 0 where
   pub column : fromZero x < w

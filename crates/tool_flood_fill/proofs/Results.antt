@@ -9,14 +9,13 @@ use borrow.Author.Tests.{lt-ltb, le-ltb}
 use lib.Dec.{ltb}
 use lib.IntN.{ℤ, pos}
 use lib.ListN.{length, getD, take, length-map}
-use Rattle.base_limits.specs.Numbers.{noSpace}
-use Rattle.base_limits.specs.Checks.{Check, _when_, firstOf, refusedOr}
-use Rattle.base_limits.specs.Answer.{filled}
-use Rattle.base_limits.specs.declared.Counted.{Counted}
-use Rattle.base_limits.specs.declared.Counted.the-variants as counted
-use Rattle.base_limits.proofs.First.{first-past, first-here, refused-first}
-use Rattle.base_lists.specs.Lists.{over}
-use Rattle.base_ints.specs.Ints.{eqZ}
+use Rattle.base.specs.Numbers.{noSpace}
+use Rattle.base.specs.Checks.{Check, _when_, firstOf, refusedOr}
+use Rattle.base.specs.Answer.{filled, Told, leaving}
+use Rattle.base.specs.declared.Counted.the-variants as counted
+use Rattle.base.proofs.First.{first-past, first-here, refused-first}
+use Rattle.base.specs.Lists.{over}
+use Rattle.base.specs.Ints.{eqZ}
 use Rattle.selection.specs.declared.Selection.{Selection}
 use Rattle.selection.specs.declared.Area.{Area}
 use Rattle.selection.specs.Selection.{containsI}
@@ -75,7 +74,7 @@ module _ (s : Sheet) (given : Area) (x y index : ℤ) (room : ℕ) (out : List �
         rw (first-past (fillChecks s given x y room) last-check (sym e), le-ltb (length out) (length result) (omega (arith, length-result)), length-result, q, f .front)
 
     -- by what was counted
-    pub answer-counted : {a : Counted} {after : List ℕ} → filled a after ≡ handed (take n scratch) out → filled a after ≡ floodFillOf s given x y index room out
+    pub answer-counted : {a : Told ℕ} {after : List ℕ} → leaving a after ≡ handed (take n scratch) out → leaving a after ≡ floodFillOf s given x y index room out
     answer-counted d = d ∙ elim (decLt (length out) n) [
       | yes h ↦ sym (handed-full scratch out n (front-within f) h) ∙ answer-short h
       | no h ↦ sym (handed-done scratch out n (front-within f) (omega arith) refl) ∙ answer-filled (omega arith) _ refl

@@ -6,9 +6,9 @@ use Prim.Native.Nat.{ℕ, _*_, _≤_, _<_}
 use native.Mathlib.Omega.{arith}
 use borrow.Author.Tests.{lt-ltb, le-ltb}
 use lib.IntN.{ℤ}
-use Rattle.base_limits.specs.Checks.{firstOf}
-use Rattle.base_limits.proofs.First.{first-here}
-use Rattle.base_ints.specs.Ints.{far}
+use Rattle.base.specs.Checks.{firstOf}
+use Rattle.base.proofs.First.{first-here}
+use Rattle.base.specs.Ints.{far}
 use Rattle.selection.specs.declared.Area.{Area}
 use Rattle.sheet.specs.Sheet.{Sheet}
 use Rattle.sheet.specs.Checks.{sheetChecks, WellFormed, Judged}

@@ -6,12 +6,12 @@ use Prim.Native.Nat.{ℕ, _+_, _*_, _≤_}
 use lib.Dec.{ltb}
 use lib.IntN.{ℤ, pos}
 use lib.ListN.{length, getD}
-use Rattle.base_limits.specs.Numbers.{offTheSheet, tooFar, noSpace}
-use Rattle.base_limits.specs.Checks.{Check, _when_, firstOf, checked}
-use Rattle.base_limits.specs.Answer.{Filled, filled}
-use Rattle.base_limits.specs.declared.Counted.the-variants as counted
-use Rattle.base_lists.specs.Lists.{over}
-use Rattle.base_ints.specs.Ints.{eqZ, far, fromZero}
+use Rattle.base.specs.Numbers.{offTheSheet, tooFar, noSpace}
+use Rattle.base.specs.Checks.{Check, _when_, firstOf, checked}
+use Rattle.base.specs.Answer.{Filled, leaving}
+use Rattle.base.specs.Answer.Told.{result, alone}
+use Rattle.base.specs.Lists.{over}
+use Rattle.base.specs.Ints.{eqZ, far, fromZero}
 use Rattle.selection.specs.declared.Selection.{Selection}
 use Rattle.selection.specs.declared.Area.{Area}
 use Rattle.selection.specs.Selection.{inside, containsI}
@@ -47,8 +47,8 @@ unfoldable pub floodFillOf : Sheet → Area → ℤ → ℤ → ℤ → ℕ → 
 floodFillOf s given x y index room out =
     let cs = fillOf (s .w) (s .indices) (regionIn given (s .w) (s .h)) x y index in
     checked (fillChecks s given x y room ++ (noSpace when ltb (length out) (length cs) ∷ []))
-    (λ n. filled (counted.Refused n) out)
-    (filled (counted.Count (length cs)) (over (map packed cs) out))
+    (λ n. leaving (alone n) out)
+    (leaving (result (length cs)) (over (map packed cs) out))
 
 -- what a caller knows where none of the checks before the result applies
 pub record Fine (s : Sheet) (given : Area) (x y : ℤ) (room : ℕ) : Type 0 where

@@ -1,11 +1,11 @@
 // The flood fill as a call: `flood_fill` of tools.rs.
-use base_ints::from_zero;
-use base_ints::is_far;
-use base_ints::same;
-use base_limits::Counted;
-use base_limits::NO_SPACE;
-use base_limits::OFF_THE_SHEET;
-use base_limits::TOO_FAR;
+use base::Counted;
+use base::NO_SPACE;
+use base::OFF_THE_SHEET;
+use base::TOO_FAR;
+use base::from_zero;
+use base::is_far;
+use base::same;
 use change_list::copy_out;
 use change_list::count_of;
 use change_list::counted;
@@ -21,8 +21,8 @@ ghost use mathlib.Core.Bool.{false};
 ghost use mathlib.Core.List.{map};
 ghost use Prim.Native.Nat.{_≤_};
 ghost use lib.ListN.{length};
-ghost use Rattle.base_limits.specs.Answer.{filled};
-ghost use Rattle.base_ints.specs.Ints.{far};
+ghost use Rattle.base.specs.Answer.{filled};
+ghost use Rattle.base.specs.Ints.{far};
 ghost use Rattle.selection.specs.Selection.{containsI};
 ghost use Rattle.sheet.specs.Sheet.{sheetOf};
 ghost use Rattle.edit.specs.Change.{packed};
@@ -48,7 +48,11 @@ pub fn flood_fill_in(
     scratch: &mut [u64],
     room: usize,
 ) -> Counted
-    ensures { λ r. ⌜ InScratch (countOf r) room (now (scratch .exit)) (filled r) (floodFillOf (sheetOf w h k (now (palette .entry)) (now (lab .entry)) (now (indices .entry))) area x y index (length (now (scratch .entry)))) ⌝ }
+    ensures { λ r. ⌜ (
+        let sheet = sheetOf w h k (now (palette .entry)) (now (lab .entry)) (now (indices .entry)) in
+        InScratch (countOf r) room (now (scratch .exit)) (filled r)
+        (floodFillOf sheet area x y index (length (now (scratch .entry))))
+        ) ⌝ }
     ensures { λ _. ⌜ length (now (scratch .exit)) ≡ length (now (scratch .entry)) ⌝ }
 {
     let no = fill_no(w, h, k, palette, lab, indices, area, x, y, scratch.len());
@@ -76,7 +80,10 @@ pub fn flood_fill(
     scratch: &mut [u64],
     out: &mut [u64],
 ) -> Counted
-    ensures { λ r. ⌜ filled r (now (out .exit)) ≡ floodFillOf (sheetOf w h k (now (palette .entry)) (now (lab .entry)) (now (indices .entry))) area x y index (length (now (scratch .entry))) (now (out .entry)) ⌝ }
+    ensures { λ r. ⌜ (
+        let sheet = sheetOf w h k (now (palette .entry)) (now (lab .entry)) (now (indices .entry)) in
+        filled r (now (out .exit)) ≡ floodFillOf sheet area x y index (length (now (scratch .entry))) (now (out .entry))
+        ) ⌝ }
     ensures { λ _. ⌜ length (now (scratch .exit)) ≡ length (now (scratch .entry)) ⌝ }
 {
     let r = flood_fill_in(
@@ -110,7 +117,10 @@ fn fill_no(
     y: i32,
     room: usize,
 ) -> u8
-    ensures { λ r. ⌜ Fillable (sheetOf w h k (now (palette .entry)) (now (lab .entry)) (now (indices .entry))) area x y room r ⌝ }
+    ensures { λ r. ⌜ (
+        let sheet = sheetOf w h k (now (palette .entry)) (now (lab .entry)) (now (indices .entry)) in
+        Fillable sheet area x y room r
+        ) ⌝ }
 {
     let no = check(w, h, k, palette, lab, indices);
     if no != 0 {

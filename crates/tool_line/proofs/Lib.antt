@@ -1,2 +1,12 @@
+pub mod Offsets
+pub mod Toward
+pub mod Walks
+pub mod Points
+pub mod Order
+pub mod Reaching
+pub mod Ends
+pub mod Within
+pub mod Alike
+pub mod Examples
 pub mod Writing
-mod Examples
+mod ToolLineExamples

@@ -5,13 +5,13 @@ use Prim.Native.Nat.{ℕ, _+_, _*_, _<_, _≤_}
 use native.Mathlib.Omega.{arith}
 use lib.IntN.{ℤ}
 use lib.ListN.{length, set, length-set}
-use Rattle.base_lists.specs.Lists.{range, over}
-use Rattle.base_lists.proofs.Over.{over-none}
-use Rattle.tool_points.specs.declared.Walk.{Walk}
-use Rattle.tool_points.specs.Line.{Point, longer, lineOf, flat}
-use Rattle.tool_points.specs.Walk.{standing, StandsAt, Walking}
-use Rattle.tool_points.proofs.Walks.{steps-longer, walking}
-use Rattle.tool_points.proofs.Points.{firsts, stands-point, points-step}
+use Rattle.base.specs.Lists.{range, over}
+use Rattle.base.proofs.Over.{over-none}
+use Rattle.tool_line.specs.declared.Walk.{Walk}
+use Rattle.tool_line.specs.Line.{Point, longer, lineOf, flat}
+use Rattle.tool_line.specs.Walk.{standing, StandsAt, Walking}
+use Rattle.tool_line.proofs.Walks.{steps-longer, walking}
+use Rattle.tool_line.proofs.Points.{firsts, stands-point, points-step}
 use Rattle.tool_line.specs.Bresenham.{Room}
 
 -- out with the point that w stands at as its i-th

@@ -4,12 +4,12 @@ use Prim.Native.Nat.{_*_, _+_, _≤_, _/_}
 use lib.Dec.{ltb}
 use lib.IntN.{ℤ}
 use lib.ListN.{length}
-use Rattle.base_limits.specs.Numbers.{tooFar, noSpace}
-use Rattle.base_limits.specs.Checks.{Check, _when_, checked}
-use Rattle.base_limits.specs.Answer.{Filled, filled}
-use Rattle.base_limits.specs.declared.Counted.the-variants as counted
-use Rattle.base_lists.specs.Lists.{over}
-use Rattle.tool_points.specs.Line.{Point, Near, farPoint, longer, lineOf, flat}
+use Rattle.base.specs.Numbers.{tooFar, noSpace}
+use Rattle.base.specs.Checks.{Check, _when_, checked}
+use Rattle.base.specs.Answer.{Filled, leaving}
+use Rattle.base.specs.Answer.Told.{result, alone}
+use Rattle.base.specs.Lists.{over}
+use Rattle.tool_line.specs.Line.{Point, Near, farPoint, longer, lineOf, flat}
 
 -- "too far", then "no space: result count exceeds its buffer", which has room for a point in two numbers
 unfoldable pub lineChecks : Point → Point → List ℤ → List Check
@@ -22,8 +22,8 @@ lineChecks a b out =
 unfoldable pub bresenhamOf : Point → Point → List ℤ → Filled ℤ
 bresenhamOf a b out =
     checked (lineChecks a b out)
-    (λ n. filled (counted.Refused n) out)
-    (filled (counted.Count (length (lineOf a b))) (over (flat (lineOf a b)) out))
+    (λ n. leaving (alone n) out)
+    (leaving (result (length (lineOf a b))) (over (flat (lineOf a b)) out))
 
 -- what the writing of a line asks: points that are not too far, and room
 pub record Room (a b : Point) (out : List ℤ) : Type 0 where

@@ -1,68 +1,38 @@
+// The points of a line, one after the other and without a division: `bresenham` of tools.rs.
+//
+// A line goes as many steps as its longer side is long. Each axis is walked by itself: at every step its
+// side is added to what the closed form's division left, and where that makes a whole place, it moves.
 // The points of a line as a call: `bresenham` of tools.rs.
-use base_ints::is_far;
-use base_limits::Counted;
-use base_limits::NO_SPACE;
-use base_limits::TOO_FAR;
-use tool_points::Walk;
-use tool_points::begin;
-use tool_points::step;
-ghost use mathlib.Core.Path.{_≡_};
-ghost use Prim.Native.Nat.{_+_, _*_, _<_};
-ghost use lib.ListN.{length, set};
-ghost use Rattle.base_limits.specs.Answer.{filled};
-ghost use Rattle.base_lists.specs.Lists.{over};
-ghost use Rattle.tool_points.specs.Line.{point, farPoint, lineOf, flat};
-ghost use Rattle.tool_line.specs.Bresenham.{bresenhamOf, Room};
+mod along;
+mod line;
+mod reach;
 
-// The points of the line from a to b, both included, as x then y. What lies past them keeps its bits. A
-// coordinate past the limit is 15; where out has no room for them all, the answer is 16.
-pub fn bresenham(ax: i32, ay: i32, bx: i32, by: i32, out: &mut [i32]) -> Counted
-    ensures { λ r. ⌜ filled r (now (out .exit)) ≡ bresenhamOf (point ax ay) (point bx by) (now (out .entry)) ⌝ }
-{
-    if far_point(ax, ay) {
-        return Counted::Refused(TOO_FAR);
-    }
-    if far_point(bx, by) {
-        return Counted::Refused(TOO_FAR);
-    }
-    let w = begin(ax, ay, bx, by);
-    let count = w.steps + 1;
-    if out.len() / 2 < count {
-        return Counted::Refused(NO_SPACE);
-    }
-    write_line(ax, ay, bx, by, out);
-    Counted::Count(count)
+pub use along::begin;
+pub use along::longer;
+pub use along::step;
+pub use line::bresenham;
+pub use line::far_point;
+pub use reach::stand_at;
+pub use reach::steps_within;
+
+// One axis of a walk: where it is, one place toward the end, the line's side here, and the rest of the
+// division by twice the longer side.
+pub struct Axis {
+    pub at: i32,
+    pub step: i32,
+    pub side: usize,
+    pub rest: usize,
 }
 
-// Writes the points of a line to the front of out, which has room for them.
-fn write_line(ax: i32, ay: i32, bx: i32, by: i32, out: &mut [i32])
-    requires { ⌜ Room (point ax ay) (point bx by) (now out) ⌝ }
-    ensures { λ _. ⌜ now (out .exit) ≡ over (flat (lineOf (point ax ay) (point bx by))) (now (out .entry)) ⌝ }
-{
-    let mut w = begin(ax, ay, bx, by);
-    let steps = w.steps;
-    for j in 0..steps {
-        put_point(w, j, out);
-        w = step(w);
-    }
-    put_point(w, steps, out);
+// A point of a line, with what it takes to go on; it is `steps` steps from the first point to the last.
+pub struct Walk {
+    pub x: Axis,
+    pub y: Axis,
+    pub steps: usize,
 }
 
-// Writes the point that a walk stands at as the i-th point of out.
-fn put_point(w: Walk, i: usize, out: &mut [i32])
-    requires { ⌜ 2 * i + 1 < length (now out) ⌝ }
-    ensures { λ _. ⌜ now (out .exit) ≡ set (set (now (out .entry)) (2 * i) (w .x .at)) (2 * i + 1) (w .y .at) ⌝ }
-{
-    let x = w.x.at;
-    let y = w.y.at;
-    let at = 2 * i;
-    out[at] = x;
-    out[at + 1] = y;
-}
-
-// Number 15 of a point.
-fn far_point(x: i32, y: i32) -> bool
-    ensures { λ r. ⌜ r ≡ farPoint (point x y) ⌝ }
-{
-    is_far(x) || is_far(y)
+// Steps of a line: those from `first` on and below `end`.
+pub struct Steps {
+    pub first: usize,
+    pub end: usize,
 }

@@ -6,9 +6,9 @@ use native.Mathlib.Omega.{arith}
 use mathlib.Core.Bool.{false}
 use lib.IntN.{ℤ, negsuc}
 use lib.ListN.{length}
-use Rattle.base_ints.specs.Ints.{far}
-use Rattle.base_lists.specs.Lists.{range, All}
-use Rattle.base_lists.proofs.Each.{all-append}
+use Rattle.base.specs.Ints.{far}
+use Rattle.base.specs.Lists.{range, All}
+use Rattle.base.proofs.Each.{all-append}
 use Rattle.selection_spans.specs.declared.Span.{Span}
 use Rattle.selection_spans.specs.Positions.{Position, position}
 use Rattle.selection.specs.declared.Selection.{Selection}

@@ -3,26 +3,25 @@ use Prim.Native.Nat.{ℕ, _+_, _*_, _≤_}
 use mathlib.Core.Path.{_≡_}
 use mathlib.Core.Bool.{Bool, cond, _&&_}
 use mathlib.Core.List.{List, [], _∷_, _++_, map}
+use mathlib.Core.Option.{Option, some}
 use lib.Dec.{ltb}
 use lib.IntN.{ℤ, pos, negsuc}
 use lib.ListN.{length}
-use Rattle.base_limits.specs.Numbers.{noSpace}
-use Rattle.base_limits.specs.Checks.{Check, _when_}
-use Rattle.base_ints.specs.Ints.{eqZ}
+use Rattle.base.specs.Numbers.{noSpace}
+use Rattle.base.specs.Checks.{Check, _when_}
+use Rattle.base.specs.Ints.{eqZ}
 use Rattle.sheet.specs.Sheet.{Sheet}
 use Rattle.sheet.specs.Checks.{sheetChecks}
 use Rattle.selection_spans.specs.declared.Span.{Span}
 use Rattle.selection_spans.specs.Positions.{Position}
 use Rattle.selection.specs.declared.Selection.{Selection}
-use Rattle.selection.specs.declared.Chosen.{Chosen}
-use Rattle.selection.specs.declared.Chosen.the-variants as chosen
 use Rattle.selection.specs.Selection.{positions, translated}
 use Rattle.selection.specs.Calls.{shiftChecks}
 use Rattle.edit.specs.Change.{Change}
 use Rattle.change_normal.specs.Normal.{normalizeOf}
 use Rattle.tool_block.specs.declared.Landing.{Landing}
 use Rattle.tool_block.specs.Blocks.{Includes, Lands, indexIn, landed}
-use Rattle.tool_paste.specs.Pasting.{Left, leaves}
+use Rattle.tool_move.specs.Pasting.{Left, leaves}
 
 -- "transparency where they were", of each position of the selection
 unfoldable pub cleared : ℕ → List ℤ → List Position → List Change
@@ -40,8 +39,8 @@ unmoved dx dy = eqZ dx (pos 0) && eqZ dy (pos 0)
 unfoldable pub movedList : ℕ → ℕ → List ℤ → Selection → ℤ → ℤ → List Change
 movedList w h l s dx dy = cond (unmoved dx dy) [] (normalizeOf (moveChanges w h l s dx dy))
 
-unfoldable pub movedSelection : Selection → ℤ → ℤ → ℕ → ℕ → Chosen
-movedSelection s dx dy w h = cond (unmoved dx dy) (chosen.Part s) (translated s dx dy w h)
+unfoldable pub movedSelection : Selection → ℤ → ℤ → ℕ → ℕ → Option Selection
+movedSelection s dx dy w h = cond (unmoved dx dy) (some s) (translated s dx dy w h)
 
 -- ---- the call
 -- 1, 2, 3; 15 of the shift, 5 of the selection; then "scratch under w × h places"

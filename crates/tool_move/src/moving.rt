@@ -1,38 +1,39 @@
 // `move_selection`.
-use base_ints::min_usize;
-use base_limits::NO_SPACE;
+use crate::clip::shifted_count;
+use crate::clip::shifted_of;
+use base::NO_SPACE;
+use base::max_usize;
+use base::min_usize;
 use change_list::copy_out;
 use change_list::counted;
 use change_list::differences;
 use change_list::lay_rows;
 use selection::Chosen;
 use selection::Selection;
+use selection::Shifted;
 use selection_spans::Span;
 use sheet::check;
 use tool_block::clear_rows;
 use tool_block::land;
 use tool_block::landed_rows;
 use tool_block::landing_on;
-use tool_paste::Shifted;
-use tool_paste::shifted_count;
-use tool_paste::shifted_of;
-use tool_points::max_usize;
 ghost use mathlib.Core.Path.{_≡_};
 ghost use mathlib.Core.Bool.{false};
 ghost use mathlib.Core.List.{map};
 ghost use Prim.Native.Nat.{_+_, _≤_};
 ghost use lib.IntN.{pos, _+ℤ_};
 ghost use lib.ListN.{length};
-ghost use Rattle.base_ints.specs.Ints.{far, fromZero};
-ghost use Rattle.base_limits.specs.Checks.{firstOf};
+ghost use Rattle.base.specs.Ints.{far, fromZero};
+ghost use Rattle.base.specs.Checks.{firstOf};
+ghost use Rattle.base.specs.Answer.Told.{result};
 ghost use Rattle.sheet.specs.Sheet.{sheetOf};
-ghost use Rattle.selection.specs.Calls.{shiftChecks};
+ghost use Rattle.selection.specs.Calls.{chosenTold, shiftChecks};
 ghost use Rattle.edit.specs.Change.{packed};
 ghost use Rattle.change_list.specs.Fronts.{Front};
 ghost use Rattle.change_list.specs.Listed.{InScratch};
 ghost use Rattle.change_normal.specs.Normal.{normalizeOf};
 ghost use Rattle.tool_block.specs.Blocks.{landing};
-ghost use Rattle.tool_paste.specs.Pasting.{left, shiftedCount};
+ghost use Rattle.tool_move.specs.Pasting.{left, shiftedCount};
 ghost use Rattle.tool_move.specs.Moves.{Movable, MoveRows, unmoved, moveChanges, movedList, movedSelection, moveChecks, moveCall};
 
 // Shift 0.
@@ -66,7 +67,10 @@ fn move_no(
     dy: i32,
     room: usize,
 ) -> u8
-    ensures { λ r. ⌜ r ≡ firstOf (moveChecks (sheetOf w h k (now (palette .entry)) (now (lab .entry)) (now (indices .entry))) s dx dy room) ⌝ }
+    ensures { λ r. ⌜ (
+        let sheet = sheetOf w h k (now (palette .entry)) (now (lab .entry)) (now (indices .entry)) in
+        r ≡ firstOf (moveChecks sheet s dx dy room)
+        ) ⌝ }
 {
     let no = check(w, h, k, palette, lab, indices);
     if no != 0 {
@@ -110,7 +114,9 @@ fn list_move(
     scratch: &mut [u64],
 ) -> usize
     requires { ⌜ Movable w h (now indices) s dx dy (length (now scratch)) ⌝ }
-    ensures { λ r. ⌜ Front (map packed (normalizeOf (moveChanges w h (now (indices .entry)) s dx dy))) (now (scratch .exit)) r ⌝ }
+    ensures { λ r. ⌜
+        Front (map packed (normalizeOf (moveChanges w h (now (indices .entry)) s dx dy))) (now (scratch .exit)) r
+        ⌝ }
 {
     let rows = move_rows(s, dy, h);
     lay_rows(indices, w, rows.start, rows.count, scratch);
@@ -148,7 +154,7 @@ fn list_moved(
 // The selection after a move: the old one where the shift is 0.
 fn moved_selection(s: Selection, dx: i32, dy: i32, w: usize, h: usize) -> Chosen
     requires { ⌜ firstOf (shiftChecks s dx dy w h) ≡ 0 ⌝ }
-    ensures { λ r. ⌜ r ≡ movedSelection s dx dy w h ⌝ }
+    ensures { λ r. ⌜ chosenTold r ≡ result (movedSelection s dx dy w h) ⌝ }
 {
     if is_unmoved(dx, dy) {
         return Chosen::Part(s);
@@ -172,7 +178,11 @@ pub fn move_selection_in(
     scratch: &mut [u64],
     room: usize,
 ) -> Shifted
-    ensures { λ r. ⌜ InScratch (shiftedCount r) room (now (scratch .exit)) (left r) (moveCall (sheetOf w h k (now (palette .entry)) (now (lab .entry)) (now (indices .entry))) s dx dy (length (now (scratch .entry)))) ⌝ }
+    ensures { λ r. ⌜ (
+        let sheet = sheetOf w h k (now (palette .entry)) (now (lab .entry)) (now (indices .entry)) in
+        InScratch (shiftedCount r) room (now (scratch .exit)) (left r)
+        (moveCall sheet s dx dy (length (now (scratch .entry))))
+        ) ⌝ }
     ensures { λ _. ⌜ length (now (scratch .exit)) ≡ length (now (scratch .entry)) ⌝ }
 {
     let no = move_no(w, h, k, palette, lab, indices, s, dx, dy, scratch.len());
@@ -197,7 +207,10 @@ pub fn move_selection(
     scratch: &mut [u64],
     out: &mut [u64],
 ) -> Shifted
-    ensures { λ r. ⌜ left r (now (out .exit)) ≡ moveCall (sheetOf w h k (now (palette .entry)) (now (lab .entry)) (now (indices .entry))) s dx dy (length (now (scratch .entry))) (now (out .entry)) ⌝ }
+    ensures { λ r. ⌜ (
+        let sheet = sheetOf w h k (now (palette .entry)) (now (lab .entry)) (now (indices .entry)) in
+        left r (now (out .exit)) ≡ moveCall sheet s dx dy (length (now (scratch .entry))) (now (out .entry))
+        ) ⌝ }
     ensures { λ _. ⌜ length (now (scratch .exit)) ≡ length (now (scratch .entry)) ⌝ }
 {
     let r = move_selection_in(

@@ -1,23 +1,25 @@
 -- What the calls answer, by what their tests find. Assumes nothing.
 use mathlib.Core.Path.{_≡_, refl, sym, ap, _∙_}
-use mathlib.Core.Bool.{Bool, true, false, cond}
+use mathlib.Core.Bool.{true, false}
 use mathlib.Core.List.{List, [], map}
 use Prim.Native.Nat.{ℕ, _+_, _*_, _<_, _≤_}
 use native.Mathlib.Omega.{arith}
 use borrow.Author.Tests.{lt-ltb, le-ltb}
 use lib.IntN.{ℤ, pos, negsuc}
 use lib.ListN.{length, getD, length-map}
-use Rattle.base_limits.specs.Checks.{Check, firstOf, refusedOr}
-use Rattle.base_limits.specs.Answer.{filled}
-use Rattle.base_limits.specs.declared.Counted.the-variants as counted
-use Rattle.base_limits.proofs.First.{no-zero, first-past, first-here, refused-first}
-use Rattle.base_lists.specs.Lists.{over, kept}
-use Rattle.base_lists.proofs.Bools.{and-left, and-right}
-use Rattle.base_lists.proofs.Over.{over-none}
-use Rattle.base_ints.specs.Ints.{eqZ, far, fromZero}
-use Rattle.base_ints.proofs.Back.{never}
-use Rattle.sheet.specs.declared.Got.{Got}
-use Rattle.sheet.specs.declared.Got.the-variants as got
+use Rattle.base.specs.Checks.{Check, firstOf, refusedOr}
+use Rattle.base.specs.Answer.{filled}
+use Rattle.base.specs.Answer.Told.{result}
+use Rattle.base.proofs.Told.{alone-other, same-result}
+use Rattle.base.specs.declared.Counted.the-variants as counted
+use Rattle.base.proofs.First.{no-zero, first-past, first-here, refused-first}
+use Rattle.base.specs.Lists.{over, kept}
+use Rattle.base.proofs.Bools.{and-left, and-right}
+use Rattle.base.proofs.Over.{over-none}
+use Rattle.base.specs.Ints.{eqZ, far, fromZero}
+use Rattle.base.proofs.Back.{never}
+use mathlib.Core.Option.{Option}
+use mathlib.Core.Option as option
 use Rattle.sheet.specs.Sheet.{Sheet}
 use Rattle.sheet.specs.Checks.{sheetChecks, WellFormed, Judged}
 use Rattle.sheet.specs.Document.{indexAt}
@@ -25,9 +27,10 @@ use Rattle.sheet.proofs.Judging.{past-sheet}
 use Rattle.selection_spans.specs.Spans.{inSpan}
 use Rattle.selection.specs.declared.Selection.{Selection}
 use Rattle.selection.specs.declared.Area.{Area}
+use Rattle.selection.specs.declared.Held.{Held}
 use Rattle.selection.specs.declared.Held.the-variants as held
 use Rattle.selection.specs.Selection.{contains, containsI, positions}
-use Rattle.selection.specs.Calls.{farAway, containsIOf}
+use Rattle.selection.specs.Calls.{heldTold, farAway, containsIOf}
 use Rattle.selection.specs.Region.{regionChecks, regionIn}
 use Rattle.selection.proofs.Regions.{Within, below-span}
 use Rattle.edit.specs.Change.{Change, packed}
@@ -96,7 +99,7 @@ module _ (s : Sheet) (area : Area) (from to : ℤ) (out : List ℕ) where
 pub record Pointed (w h : ℕ) (l : List ℤ) (x y : ℤ) : Type 0 where
   pub column : fromZero x < w
   pub row : fromZero y < h
-  pub index : indexAt w h l x y ≡ got.Index (getD l (fromZero y * w + fromZero x) (pos 0))
+  pub index : indexAt w h l x y ≡ option.some (getD l (fromZero y * w + fromZero x) (pos 0))
 
 module _ (s : Selection) (w h : ℕ) (l : List ℤ) (f : Within s w h) where
   pub pointed : (x y : ℤ) → containsI s x y ≡ true → Pointed w h l x y
@@ -109,23 +112,17 @@ module _ (s : Selection) (w h : ℕ) (l : List ℤ) (f : Within s w h) where
   pointed (negsuc m) y e = never e
 
 module _ (s : Selection) (x y : ℤ) (a : far x ≡ false) (b : far y ≡ false) where
-  held-is : containsIOf s x y ≡ cond (containsI s x y) held.Inside held.Outside
+  held-is : containsIOf s x y ≡ result (containsI s x y)
   unfolding containsIOf farAway firstOf refusedOr
   held-is = rw (a, b)
 
-  pub held-inside : containsIOf s x y ≡ held.Inside → containsI s x y ≡ true
-  held-inside e = go (containsI s x y) (sym held-is ∙ e)
-    where
-      go : (b : Bool) → cond b held.Inside held.Outside ≡ held.Inside → b ≡ true
-      go true e = refl
-      go false e = let z : _≡_ {A = ℕ} 0 1 = cc in absurd (no-zero (omega arith) (sym z))
+  pub held-inside : {r : Held} → heldTold r ≡ containsIOf s x y → r ≡ held.Inside → containsI s x y ≡ true
+  held-inside e q = sym (same-result (sym (ap heldTold q) ∙ e ∙ held-is))
 
-  pub held-outside : (containsIOf s x y ≡ held.Inside → ⊥) → containsI s x y ≡ false
-  held-outside h = go (containsI s x y) refl
-    where
-      go : (b : Bool) → containsI s x y ≡ b → b ≡ false
-      go true e = absurd (h (held-is ∙ rw e))
-      go false e = refl
+  pub held-outside : (r : Held) → heldTold r ≡ containsIOf s x y → (r ≡ held.Inside → ⊥) → containsI s x y ≡ false
+  held-outside held.Inside e h = absurd (h refl)
+  held-outside held.Outside e h = sym (same-result (e ∙ held-is))
+  held-outside (held.Refused n) e h = absurd (alone-other (e ∙ held-is))
 
 -- ---- `fill_global`
 module _ (s : Sheet) (area : Area) (x y index : ℤ) (out : List ℕ) where
@@ -152,14 +149,13 @@ module _ (s : Sheet) (area : Area) (x y index : ℤ) (out : List ℕ) where
         unfolding fillGlobalOf firstOf
         past changes g = rw (← q, g) (listed-past changes out _ (rw (past-sheet s f _, a, b) e))
 
-        none : (g : Got) → indexAt (s .w) (s .h) (s .indices) x y ≡ g → containsI region x y ≡ false → global s region x y index ≡ []
+        nowhere : (g : Option ℤ) → indexAt (s .w) (s .h) (s .indices) x y ≡ g → containsI region x y ≡ false → global s region x y index ≡ []
         unfolding global fromPixel
-        none (got.Index from) p o = rw (p, o)
-        none got.Outside p o = rw p
-        none (got.Refused n) p o = rw p
+        nowhere (option.some from) p o = rw (p, o)
+        nowhere option.none p o = rw p
 
         pub global-outside : containsI region x y ≡ false → filled (counted.Count 0) out ≡ fillGlobalOf s area x y index out
-        global-outside o = listed-none out ∙ past [] (none (indexAt (s .w) (s .h) (s .indices) x y) refl o)
+        global-outside o = listed-none out ∙ past [] (nowhere (indexAt (s .w) (s .h) (s .indices) x y) refl o)
 
         from-here : containsI region x y ≡ true → Pointed (s .w) (s .h) (s .indices) x y
             → global s region x y index ≡ replaced (s .w) (s .indices) region (getD (s .indices) (fromZero y * s .w + fromZero x) (pos 0)) index

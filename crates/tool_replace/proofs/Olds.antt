@@ -5,17 +5,17 @@ use mathlib.Core.Bool.{Bool, true, false, cond}
 use mathlib.Core.List.{List, [], _∷_, map}
 use lib.IntN.{ℤ, pos}
 use lib.ListN.{getD}
-use Rattle.base_ints.specs.Ints.{eqZ}
-use Rattle.base_ints.proofs.Back.{same-index}
+use Rattle.base.specs.Ints.{eqZ}
+use Rattle.base.proofs.Back.{same-index}
 use Rattle.sheet.specs.Sheet.{Sheet}
-use Rattle.sheet.specs.declared.Got.{Got}
-use Rattle.sheet.specs.declared.Got.the-variants as got
+use mathlib.Core.Option.{Option}
+use mathlib.Core.Option as option
 use Rattle.sheet.specs.Document.{indexAt}
 use Rattle.selection_spans.specs.Positions.{Position}
 use Rattle.selection.specs.declared.Selection.{Selection}
 use Rattle.selection.specs.Selection.{positions, containsI}
 use Rattle.edit.specs.Change.{Change, place}
-use Rattle.base_lists.specs.Lists.{All, kept}
+use Rattle.base.specs.Lists.{All, kept}
 use Rattle.change_normal.specs.Laws.{SheetOlds}
 use Rattle.tool_replace.specs.Fills.{hasIndex, replacing, replaced, fromPixel, global}
 
@@ -53,8 +53,7 @@ pub global-olds : (s : Sheet) (region : Selection) (x y index : ℤ) → SheetOl
 unfolding global fromPixel
 global-olds s region x y index = go (indexAt (s .w) (s .h) (s .indices) x y) (containsI region x y)
   where
-    go : (g : Got) (b : Bool) → SheetOlds (s .w) (s .indices) (fromPixel g b (λ from. replaced (s .w) (s .indices) region from index))
-    go (got.Index from) true = replaced-olds (s .w) (s .indices) region from index
-    go (got.Index from) false = none (s .w) (s .indices)
-    go got.Outside b = none (s .w) (s .indices)
-    go (got.Refused n) b = none (s .w) (s .indices)
+    go : (g : Option ℤ) (b : Bool) → SheetOlds (s .w) (s .indices) (fromPixel g b (λ from. replaced (s .w) (s .indices) region from index))
+    go (option.some from) true = replaced-olds (s .w) (s .indices) region from index
+    go (option.some from) false = none (s .w) (s .indices)
+    go option.none b = none (s .w) (s .indices)

@@ -9,11 +9,11 @@ use borrow.Rule.Slice.PartMut.{putMid}
 use lib.IntN.{ℤ, pos}
 use lib.ListN.{length, getD, take, drop, length-append, length-map, length-take, length-drop}
 use lib.Seq.{drop-cons}
-use Rattle.base_lists.specs.Lists.{range, over, kept}
-use Rattle.base_lists.proofs.Kept.{kept-append}
-use Rattle.base_lists.proofs.Over.{over-none, over-lent, length-over}
-use Rattle.base_lists.proofs.Collect.{range-next, range-append, flatMap-append, flatMap-one}
-use Rattle.base_ints.specs.Ints.{eqZ}
+use Rattle.base.specs.Lists.{range, over, kept}
+use Rattle.base.proofs.Kept.{kept-append}
+use Rattle.base.proofs.Over.{over-none, over-lent, length-over}
+use Rattle.base.proofs.Collect.{range-next, range-append, flatMap-append, flatMap-one}
+use Rattle.base.specs.Ints.{eqZ}
 use Rattle.selection_spans.specs.Positions.{Position, position, row, rows}
 use Rattle.edit.specs.Change.{packed}
 use Rattle.edit_pixels.specs.Listing.{placesFrom}

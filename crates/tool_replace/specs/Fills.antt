@@ -5,14 +5,13 @@ use mathlib.Core.List.{List, [], _∷_, _++_, map}
 use lib.Dec.{ltb}
 use lib.IntN.{ℤ, pos}
 use lib.ListN.{length, getD}
-use Rattle.base_limits.specs.Numbers.{tooFar, noSpace}
-use Rattle.base_limits.specs.Checks.{Check, _when_, checked}
-use Rattle.base_limits.specs.Answer.{Filled, filled}
-use Rattle.base_limits.specs.declared.Counted.the-variants as counted
-use Rattle.base_lists.specs.Lists.{over, kept}
-use Rattle.base_ints.specs.Ints.{eqZ, far}
-use Rattle.sheet.specs.declared.Got.{Got}
-use Rattle.sheet.specs.declared.Got.the-variants as got
+use Rattle.base.specs.Numbers.{tooFar, noSpace}
+use Rattle.base.specs.Checks.{Check, _when_, checked}
+use Rattle.base.specs.Answer.{Filled, leaving}
+use Rattle.base.specs.Answer.Told.{result, alone}
+use Rattle.base.specs.Lists.{over, kept}
+use Rattle.base.specs.Ints.{eqZ, far}
+use mathlib.Core.Option.{Option, none, some}
 use Rattle.sheet.specs.Sheet.{Sheet}
 use Rattle.sheet.specs.Checks.{sheetChecks}
 use Rattle.sheet.specs.Document.{indexAt}
@@ -36,10 +35,9 @@ unfoldable pub replaced : ℕ → List ℤ → Selection → ℤ → ℤ → Lis
 replaced w indices region from to = cond (eqZ from to) [] (map (replacing from to) (kept (hasIndex w indices from) (positions region)))
 
 -- ---- `fill_global`: "every pixel of the index at `at`, inside the selection, becomes `index`": that of `get_at`, where the region contains the position
-unfoldable pub fromPixel : Got → Bool → (ℤ → List Change) → List Change
-fromPixel (got.Index from) held changes = cond held (changes from) []
-fromPixel got.Outside held changes = []
-fromPixel (got.Refused n) held changes = []
+unfoldable pub fromPixel : Option ℤ → Bool → (ℤ → List Change) → List Change
+fromPixel (some from) held changes = cond held (changes from) []
+fromPixel none held changes = []
 
 unfoldable pub global : Sheet → Selection → ℤ → ℤ → ℤ → List Change
 global s region x y index =
@@ -50,8 +48,8 @@ global s region x y index =
 unfoldable pub listed : List Check → List Change → List ℕ → Filled ℕ
 listed checks changes out =
     checked (checks ++ (noSpace when ltb (length out) (length changes) ∷ []))
-    (λ n. filled (counted.Refused n) out)
-    (filled (counted.Count (length changes)) (over (map packed changes) out))
+    (λ n. leaving (alone n) out)
+    (leaving (result (length changes)) (over (map packed changes) out))
 
 -- 1, 2, 3, 5, 16
 unfoldable pub replaceColorOf : Sheet → Area → ℤ → ℤ → List ℕ → Filled ℕ

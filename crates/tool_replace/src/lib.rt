@@ -2,13 +2,13 @@
 // makes the list of its changes, in rows, and changes no sheet.
 //
 // The changes are counted before the first is written, so that a buffer that is too short keeps its bits.
-use base_ints::from_zero;
-use base_ints::is_far;
-use base_ints::same;
-use base_limits::Counted;
-use base_limits::NO_SPACE;
-use base_limits::OFF_THE_SHEET;
-use base_limits::TOO_FAR;
+use base::Counted;
+use base::NO_SPACE;
+use base::OFF_THE_SHEET;
+use base::TOO_FAR;
+use base::from_zero;
+use base::is_far;
+use base::same;
 use edit_pixels::change_of;
 use edit_pixels::count_on;
 use edit_pixels::list_row;
@@ -22,8 +22,8 @@ ghost use mathlib.Core.Path.{_≡_};
 ghost use mathlib.Core.List.{[], map};
 ghost use Prim.Native.Nat.{_≤_};
 ghost use lib.ListN.{length};
-ghost use Rattle.base_limits.specs.Answer.{filled};
-ghost use Rattle.base_lists.specs.Lists.{over, kept};
+ghost use Rattle.base.specs.Answer.{filled};
+ghost use Rattle.base.specs.Lists.{over, kept};
 ghost use Rattle.sheet.specs.Sheet.{sheetOf};
 ghost use Rattle.selection.specs.Selection.{positions};
 ghost use Rattle.selection.specs.Region.{Fits};
@@ -51,8 +51,15 @@ fn count_rows(w: usize, indices: &[i16], s: Selection, from: i16) -> usize
 // Lists the changes of a region's pixels that have the index, row by row. What the list has past them
 // keeps.
 fn list_rows(w: usize, indices: &[i16], s: Selection, from: i16, to: i16, out: &mut [u64])
-    requires { ⌜ Fits w (length (now indices)) s × (length (kept (hasIndex w (now indices) from) (positions s)) ≤ length (now out)) ⌝ }
-    ensures { λ _. ⌜ now (out .exit) ≡ over (map packed (map (replacing from to) (kept (hasIndex w (now (indices .entry)) from) (positions s)))) (now (out .entry)) ⌝ }
+    requires { ⌜
+        Fits w (length (now indices)) s
+        × (length (kept (hasIndex w (now indices) from) (positions s)) ≤ length (now out))
+        ⌝ }
+    ensures { λ _. ⌜
+        now (out .exit)
+        ≡ over (map packed (map (replacing from to) (kept (hasIndex w (now (indices .entry)) from) (positions s))))
+        (now (out .entry))
+        ⌝ }
 {
     let x = s.x as usize;
     let y = s.y as usize;
@@ -77,7 +84,9 @@ fn replace_in(
     out: &mut [u64],
 ) -> Counted
     requires { ⌜ Fits w (length (now indices)) s ⌝ }
-    ensures { λ r. ⌜ filled r (now (out .exit)) ≡ listed [] (replaced w (now (indices .entry)) s from to) (now (out .entry)) ⌝ }
+    ensures { λ r. ⌜
+        filled r (now (out .exit)) ≡ listed [] (replaced w (now (indices .entry)) s from to) (now (out .entry))
+        ⌝ }
 {
     if same(from, to) {
         return Counted::Count(0);
@@ -103,7 +112,10 @@ pub fn replace_color(
     to: i16,
     out: &mut [u64],
 ) -> Counted
-    ensures { λ r. ⌜ filled r (now (out .exit)) ≡ replaceColorOf (sheetOf w h k (now (palette .entry)) (now (lab .entry)) (now (indices .entry))) area from to (now (out .entry)) ⌝ }
+    ensures { λ r. ⌜ (
+        let sheet = sheetOf w h k (now (palette .entry)) (now (lab .entry)) (now (indices .entry)) in
+        filled r (now (out .exit)) ≡ replaceColorOf sheet area from to (now (out .entry))
+        ) ⌝ }
 {
     let no = check(w, h, k, palette, lab, indices);
     if no != 0 {
@@ -130,7 +142,10 @@ pub fn fill_global(
     index: i16,
     out: &mut [u64],
 ) -> Counted
-    ensures { λ r. ⌜ filled r (now (out .exit)) ≡ fillGlobalOf (sheetOf w h k (now (palette .entry)) (now (lab .entry)) (now (indices .entry))) area x y index (now (out .entry)) ⌝ }
+    ensures { λ r. ⌜ (
+        let sheet = sheetOf w h k (now (palette .entry)) (now (lab .entry)) (now (indices .entry)) in
+        filled r (now (out .exit)) ≡ fillGlobalOf sheet area x y index (now (out .entry))
+        ) ⌝ }
 {
     let no = check(w, h, k, palette, lab, indices);
     if no != 0 {

@@ -3,8 +3,8 @@ use Prim.Native.Nat.{ℕ, zero, suc, _+_, _*_, _/_, _^_, _<_, _≤_}
 use mathlib.Core.List.{map, flatMap}
 use native.Mathlib.Omega.{arith}
 use native.Mathlib.Nat.{div-lt-iff-lt-mul, mul-comm}
-use Rattle.base_lists.specs.Lists.{range, All}
-use Rattle.base_lists.proofs.Each.{all-mapped, all-flat, all-in-range}
+use Rattle.base.specs.Lists.{range, All}
+use Rattle.base.proofs.Each.{all-mapped, all-flat, all-in-range}
 use Rattle.selection_spans.specs.Positions.{Position, position, row, rows}
 use Rattle.tool_shortest.proofs.Rising.{Rising, rising-append}
 

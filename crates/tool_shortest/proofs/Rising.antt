@@ -3,9 +3,9 @@ use Prim.Native.Nat.{ℕ, _<_}
 use mathlib.Core.Path.{_≡_}
 use mathlib.Core.Bool.{Bool, true, false, cond}
 use mathlib.Core.List.{List, [], _∷_, _++_, map}
-use Rattle.base_lists.specs.Lists.{kept, All}
-use Rattle.base_lists.proofs.Each.{all-map, all-append, all-mapped}
-use Rattle.base_lists.proofs.Kept.{all-kept}
+use Rattle.base.specs.Lists.{kept, All}
+use Rattle.base.proofs.Each.{all-map, all-append, all-mapped}
+use Rattle.base.proofs.Kept.{all-kept}
 use Rattle.edit.specs.Change.{Change}
 use Rattle.change_normal.specs.Normal.{keyOf}
 use Rattle.change_normal.specs.Laws.{Ordered}

@@ -9,11 +9,11 @@ use lib.IntN.{ℤ, pos, negsuc}
 use lib.ListN.{length, getD}
 use mir.Syntax.{w16}
 use mir.Val.{SFits}
-use Rattle.base_ints.proofs.Back.{never}
-use Rattle.base_lists.specs.Lists.{some, kept, All}
-use Rattle.base_lists.proofs.Each.{all-append, at-all}
-use Rattle.base_lists.proofs.Kept.{all-kept}
-use Rattle.base_lists.proofs.Nowhere.{first-not, rest-not}
+use Rattle.base.proofs.Back.{never}
+use Rattle.base.specs.Lists.{some, kept, All}
+use Rattle.base.proofs.Each.{all-append, at-all}
+use Rattle.base.proofs.Kept.{all-kept}
+use Rattle.base.proofs.Nowhere.{first-not, rest-not}
 use Rattle.sheet.specs.Sheet.{Sheet, Picture, view, stray}
 use Rattle.sheet.specs.Checks.{WellFormed}
 use Rattle.edit.specs.Change.{Change, place, packed, unpacked, painted, newOf}

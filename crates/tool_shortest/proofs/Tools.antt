@@ -10,20 +10,20 @@ use borrow.Author.Tests.{eqb-true, leb-true, not-false}
 use lib.Dec.{leb, ltb, eqb}
 use lib.IntN.{ℤ, pos, negsuc, natAbs, _+ℤ_}
 use lib.ListN.{length, getD, take}
-use Rattle.base_limits.specs.Numbers.{tooFar}
-use Rattle.base_limits.specs.Checks.{Check, _when_, firstOf}
-use Rattle.base_limits.proofs.First.{PastBoth, past-both, Past, past}
-use Rattle.base_lists.specs.Lists.{range, some, kept, All}
-use Rattle.base_lists.proofs.Bools.{and-left, and-right}
-use Rattle.base_lists.proofs.Each.{all-of, all-map, all-append, all-mapped, all-flat, all-in-range}
-use Rattle.base_lists.proofs.Kept.{all-kept}
-use Rattle.base_ints.specs.Ints.{eqZ, far}
+use Rattle.base.specs.Numbers.{tooFar}
+use Rattle.base.specs.Checks.{Check, _when_, firstOf}
+use Rattle.base.proofs.First.{PastBoth, past-both, Past, past}
+use Rattle.base.specs.Lists.{range, some, kept, All}
+use Rattle.base.proofs.Bools.{and-left, and-right}
+use Rattle.base.proofs.Each.{all-of, all-map, all-append, all-mapped, all-flat, all-in-range}
+use Rattle.base.proofs.Kept.{all-kept}
+use Rattle.base.specs.Ints.{eqZ, far}
 use Rattle.selection_spans.specs.Positions.{Position, position}
 use Rattle.sheet.specs.Sheet.{Sheet, stray}
 use Rattle.sheet.specs.Checks.{sheetChecks, WellFormed}
 use Rattle.sheet.specs.Document.{indexAt}
-use Rattle.sheet.specs.declared.Got.{Got}
-use Rattle.sheet.specs.declared.Got.the-variants as got
+use mathlib.Core.Option.{Option}
+use mathlib.Core.Option as option
 use Rattle.sheet.proofs.Judging.{none-applied}
 use Rattle.selection.specs.declared.Selection.{Selection}
 use Rattle.selection.specs.declared.Area.{Area}
@@ -32,7 +32,7 @@ use Rattle.selection.specs.Selection.{inside, all, positions, containsI}
 use Rattle.selection.specs.Calls.{shiftChecks}
 use Rattle.selection.specs.Region.{offSheet, regionChecks, regionIn}
 use Rattle.selection.proofs.Regions.{Within}
-use Rattle.tool_points.specs.Line.{Point}
+use Rattle.tool_line.specs.Line.{Point}
 use Rattle.edit.specs.Change.{Change, place, unpacked}
 use Rattle.change_normal.specs.Normal.{keyOf, changing, normalizeOf}
 use Rattle.change_normal.specs.Laws.{On, SheetOlds, Ordered}
@@ -51,7 +51,7 @@ use Rattle.tool_flood_fill.specs.Fill.{startOf, fillOf, fillChecks, floodFillOf
 use Rattle.sheet.proofs.Places as places
 use Rattle.tool_block.specs.Blocks.{indexIn, ontoGot, onto, landed}
 use Rattle.tool_block.proofs.Placing.{Good, good-landed}
-use Rattle.tool_paste.specs.Pasting.{pasteChanges, clipChecks, pasteChecks, pasteCall}
+use Rattle.tool_move.specs.Pasting.{pasteChanges, clipChecks, pasteChecks, pasteCall}
 use Rattle.tool_move.specs.Moves.{cleared, moveChanges, unmoved, movedList, moveChecks, moveCall}
 use Rattle.tool_move.proofs.Placing.{good-move}
 use Rattle.change_stroke.specs.Stroke.{extended, extendCall}
@@ -204,11 +204,10 @@ module _ (s : Sheet) where
   unfolding global fromPixel
   globally f region i x y index k = go (indexAt (s .w) (s .h) (s .indices) x y) (containsI region x y)
     where
-      go : (g : Got) (b : Bool) → Returned s (fromPixel g b (λ from. replaced (s .w) (s .indices) region from index))
-      go (got.Index from) true = replace f region i from index k
-      go (got.Index from) false = nothing
-      go got.Outside b = nothing
-      go (got.Refused n) b = nothing
+      go : (g : Option ℤ) (b : Bool) → Returned s (fromPixel g b (λ from. replaced (s .w) (s .indices) region from index))
+      go (option.some from) true = replace f region i from index k
+      go (option.some from) false = nothing
+      go option.none b = nothing
 
   fill-global : (area : Area) (x y index : ℤ) (out : List ℕ) → Known s index → Returns s (fillGlobalOf s area x y index out)
   unfolding fillGlobalOf fills.listed
@@ -293,10 +292,9 @@ module _ (s : Sheet) where
   unfolding onto ontoGot All
   one-lands tx ty z k = go (indexAt (s .w) (s .h) (s .indices) tx ty)
     where
-      go : (g : Got) → All news (ontoGot tx ty z g)
-      go (got.Index old) = (k, tt)
-      go got.Outside = tt
-      go (got.Refused n) = tt
+      go : (g : Option ℤ) → All news (ontoGot tx ty z g)
+      go (option.some old) = (k, tt)
+      go option.none = tt
 
   landed-news : (sw : ℕ) (source : List ℤ) (dx dy : ℤ) (ps : List Position) → All (λ p. stray (s .k) (indexIn sw source p) ≡ false) ps
       → All news (landed (s .w) (s .h) (s .indices) sw source dx dy ps)

@@ -6,16 +6,16 @@ use native.Mathlib.Omega.{arith}
 use borrow.Author.Tests.{lt-ltb, le-ltb}
 use lib.IntN.{ℤ}
 use lib.ListN.{length}
-use Rattle.base_limits.specs.Checks.{Check, firstOf, refusedOr}
-use Rattle.base_limits.proofs.First.{no-zero, first-past, first-here, refused-first}
-use Rattle.base_lists.specs.Lists.{over}
+use Rattle.base.specs.Checks.{Check, firstOf, refusedOr}
+use Rattle.base.proofs.First.{no-zero, first-past, first-here, refused-first}
+use Rattle.base.specs.Lists.{over}
 use Rattle.sheet.specs.Sheet.{Sheet}
 use Rattle.sheet.specs.Checks.{sheetChecks, WellFormed, Judged}
 use Rattle.sheet.proofs.Judging.{past-sheet}
 use Rattle.selection.specs.declared.Selection.{Selection}
 use Rattle.selection.specs.Selection.{all, positions}
 use Rattle.selection.proofs.Rows.{length-positions}
-use Rattle.tool_snap.specs.declared.Copied.the-variants as copied
+use Rattle.base.specs.declared.Copied.the-variants as copied
 use Rattle.tool_snap.specs.Clipped.{clipped, clipOf, fromRows}
 use Rattle.tool_snap.specs.Snap.{snapAt, imageChecks, snapRgbaOf}
 use Rattle.tool_snap.proofs.Rows.{from-length}

@@ -7,9 +7,9 @@ use native.Mathlib.Omega.{arith}
 use borrow.Rule.Slice.PartMut.{putMid}
 use lib.IntN.{ℤ}
 use lib.ListN.{length, set, take, drop, length-map, length-set}
-use Rattle.base_lists.specs.Lists.{range, over}
-use Rattle.base_lists.proofs.Over.{over-none, over-set, over-lent, length-over}
-use Rattle.base_lists.proofs.Collect.{length-range, range-next, flatMap-append, flatMap-one}
+use Rattle.base.specs.Lists.{range, over}
+use Rattle.base.proofs.Over.{over-none, over-set, over-lent, length-over}
+use Rattle.base.proofs.Collect.{length-range, range-next, flatMap-append, flatMap-one}
 use Rattle.selection_spans.specs.Positions.{Position, position, row, rows}
 use Rattle.selection_spans.proofs.Rows.{length-rows}
 use Rattle.tool_snap.specs.Clipped.{fromRows}

@@ -6,7 +6,7 @@ use native.Mathlib.Omega.{arith}
 use lib.Arith.{digits-div, digits-mod}
 use lib.Ieee.{Float}
 use lib.ListN.{getD, set, replicate}
-use Rattle.base_limits.specs.declared.Rgb.{Rgb}
+use Rattle.base.specs.declared.Rgb.{Rgb}
 use Rattle.color_lab.specs.Convert.{labOf}
 use Rattle.color_nearest.proofs.Parts.{nearest-within}
 use Rattle.tool_snap.specs.Snap.{entryOf}

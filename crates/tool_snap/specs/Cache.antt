@@ -4,7 +4,7 @@ use mathlib.Core.List.{List}
 use Prim.Native.Nat.{ℕ, _+_, _/_, _%_, _^_, _<_}
 use lib.Ieee.{Float}
 use lib.ListN.{getD}
-use Rattle.base_limits.specs.declared.Rgb.{Rgb}
+use Rattle.base.specs.declared.Rgb.{Rgb}
 use Rattle.tool_snap.specs.Snap.{entryOf}
 
 -- a colour of three bytes as one number

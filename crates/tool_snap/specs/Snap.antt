@@ -6,10 +6,10 @@ use lib.Dec.{ltb, eqb}
 use lib.Ieee.{Float}
 use lib.IntN.{ℤ, pos, negsuc}
 use lib.ListN.{length, getD}
-use Rattle.base_limits.specs.Limits.{maxSide}
-use Rattle.base_limits.specs.Numbers.{badClip, shortPixels}
-use Rattle.base_limits.specs.Checks.{Check, _when_}
-use Rattle.base_limits.specs.declared.Rgb.{Rgb}
+use Rattle.base.specs.Limits.{maxSide}
+use Rattle.base.specs.Numbers.{badClip, shortPixels}
+use Rattle.base.specs.Checks.{Check, _when_}
+use Rattle.base.specs.declared.Rgb.{Rgb}
 use Rattle.color_lab.specs.Convert.{labOf}
 use Rattle.color_nearest.specs.Nearest.{nearestOf}
 use Rattle.sheet.specs.Sheet.{Sheet}

@@ -4,9 +4,3 @@
 mod snap;
 
 pub use snap::snap_rgba;
-
-// What a call that makes a clip answers: the clip's size.
-pub enum Copied {
-    Clip { w: usize, h: usize },
-    Refused(u8),
-}

@@ -3,13 +3,13 @@
 // A nearest entry costs far more than a pixel, and an image has few colours beside its pixels. So the
 // entries found are kept in a cache, a slot by a hash of the colour; what a slot holds is proved to be what
 // would be computed. The curve's table is made once.
-use crate::Copied;
-use base_ints::min_usize;
-use base_limits::BAD_CLIP;
-use base_limits::MAX_SIDE;
-use base_limits::NO_SPACE;
-use base_limits::Rgb;
-use base_limits::SHORT_PIXELS;
+use base::BAD_CLIP;
+use base::Copied;
+use base::MAX_SIDE;
+use base::NO_SPACE;
+use base::Rgb;
+use base::SHORT_PIXELS;
+use base::min_usize;
 use color_lab::lab_in;
 use color_nearest::nearest_in;
 use sheet::check;
@@ -17,7 +17,7 @@ ghost use mathlib.Core.Path.{_≡_};
 ghost use mathlib.Core.List.{map};
 ghost use Prim.Native.Nat.{_+_, _*_, _≤_};
 ghost use lib.ListN.{length};
-ghost use Rattle.base_lists.specs.Lists.{range, over};
+ghost use Rattle.base.specs.Lists.{range, over};
 ghost use Rattle.color_lab.specs.Curve.{linearTable};
 ghost use Rattle.sheet.specs.Sheet.{sheetOf};
 ghost use Rattle.selection.specs.Selection.{all, positions};
@@ -86,8 +86,14 @@ fn snap_row(
     n: usize,
     out: &mut [i16],
 )
-    requires { ⌜ (now t ≡ linearTable) × (k ≤ 255) × (3 * k ≤ length (now lab)) × allOk (now lab) k (now cache) × (4 * (from + n) ≤ length (now rgba)) × (n ≤ length (now out)) ⌝ }
-    ensures { λ _. ⌜ (now (out .exit) ≡ over (map (snapAt (now (lab .entry)) k (now (rgba .entry))) (range from n)) (now (out .entry))) × allOk (now (lab .entry)) k (now (cache .exit)) ⌝ }
+    requires { ⌜
+        (now t ≡ linearTable) × (k ≤ 255) × (3 * k ≤ length (now lab)) × allOk (now lab) k (now cache)
+        × (4 * (from + n) ≤ length (now rgba)) × (n ≤ length (now out))
+        ⌝ }
+    ensures { λ _. ⌜
+        (now (out .exit) ≡ over (map (snapAt (now (lab .entry)) k (now (rgba .entry))) (range from n)) (now (out .entry)))
+        × allOk (now (lab .entry)) k (now (cache .exit))
+        ⌝ }
 {
     for i in 0..n {
         let at = 4 * (from + i);
@@ -110,8 +116,15 @@ fn snap_rows(
     h: usize,
     out: &mut [i16],
 )
-    requires { ⌜ (k ≤ 255) × (3 * k ≤ length (now lab)) × (w ≤ «image_w») × (4 * (h * «image_w») ≤ length (now rgba)) × (w * h ≤ length (now out)) ⌝ }
-    ensures { λ _. ⌜ now (out .exit) ≡ over (fromRows «image_w» (snapAt (now (lab .entry)) k (now (rgba .entry))) (positions (all w h))) (now (out .entry)) ⌝ }
+    requires { ⌜
+        (k ≤ 255) × (3 * k ≤ length (now lab)) × (w ≤ «image_w») × (4 * (h * «image_w») ≤ length (now rgba))
+        × (w * h ≤ length (now out))
+        ⌝ }
+    ensures { λ _. ⌜
+        now (out .exit)
+        ≡ over (fromRows «image_w» (snapAt (now (lab .entry)) k (now (rgba .entry))) (positions (all w h)))
+        (now (out .entry))
+        ⌝ }
 {
     let t = color_lab::table();
     let mut cache: [u64; 1024] = [0; 1024];
@@ -136,7 +149,10 @@ pub fn snap_rgba(
     image_h: usize,
     out: &mut [i16],
 ) -> Copied
-    ensures { λ r. ⌜ clipped r (now (out .exit)) ≡ snapRgbaOf (sheetOf w h k (now (palette .entry)) (now (lab .entry)) (now (indices .entry))) (now (rgba .entry)) «image_w» «image_h» (now (out .entry)) ⌝ }
+    ensures { λ r. ⌜ (
+        let sheet = sheetOf w h k (now (palette .entry)) (now (lab .entry)) (now (indices .entry)) in
+        clipped r (now (out .exit)) ≡ snapRgbaOf sheet (now (rgba .entry)) «image_w» «image_h» (now (out .entry))
+        ) ⌝ }
 {
     let no = check(w, h, k, palette, lab, indices);
     if no != 0 {

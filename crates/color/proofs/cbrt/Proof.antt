@@ -4,11 +4,12 @@ use mathlib.Core.Bool.{true, false}
 use Prim.Native.Nat.{_^_}
 use lib.Dec.{T}
 use lib.Ieee.{Float, binary64, le, ofBits, toBits, round}
-use Rattle.base_limits.specs.Checks.{firstOf, refusedOr}
+use Rattle.base.specs.Checks.{firstOf, refusedOr}
 use Rattle.color_doubles.specs.Arithmetic.{decimal}
 use Rattle.color_doubles.specs.NearestDouble.{unitsOf, NoneNearer}
 use Rattle.color_root.specs.CubeRoot.{inRootRange}
-use Rattle.color.specs.declared.Root.the-variants.{Value, Refused}
+use Rattle.base.specs.declared.Root.the-variants.{Refused}
+use Rattle.base.specs.Answer.Told.{result}
 use Rattle.color.specs.Calls.{rootChecks, cbrtOf, CubeRoot}
 use Rattle.color.proofs.cbrt.Statement.{statement}
 use Rattle.color.proofs.cbrt.Tie as tie
@@ -38,7 +39,7 @@ returns c =
     let found = c .root .ensures in
     let t = c .before .before .before .args .t in
     record {
-      value = rw (in-range t (c .before .before .if1 .taken) (c .before .if2 .taken)) (ap Value (found .value));
+      value = rw (in-range t (c .before .before .if1 .taken) (c .before .if2 .taken)) (ap result (found .value));
       nearest = λ _. subst (λ (r : Float). NoneNearer 3 (unitsOf (toBits binary64 t)) (2 ^ 1074) (toBits binary64 r)) (found .value) (found .nearest);
     }
 

@@ -10,26 +10,25 @@ use lib.Dec.{ltb, eqb}
 use lib.ListN.{length, take}
 use lib.Seq.{length-take-le}
 use lib.Ieee.{Float}
-use Rattle.base_limits.specs.Checks.{firstOf, refusedOr}
-use Rattle.base_limits.specs.declared.Lab.{Lab}
-use Rattle.base_lists.specs.Lists.{some}
+use Rattle.base.specs.Checks.{firstOf, refusedOr}
+use Rattle.base.specs.declared.Lab.{Lab}
+use Rattle.base.specs.Lists.{some}
 use Rattle.color_doubles.specs.Finite.{unfit, unfitTriple}
 use Rattle.color_nearest.specs.Nearest.{FirstNearest}
 use Rattle.color_nearest.specs.declared.Near.{Near}
 use Rattle.color_nearest.proofs.FirstNearest.{first-nearest}
-use Rattle.color.specs.declared.Found.the-variants.{Entry, Refused}
+use Rattle.base.specs.declared.Found.the-variants.{Entry, Refused}
+use Rattle.base.specs.Answer.Told.{result, alone}
+use Rattle.base.proofs.Told.{alone-other, same-result}
 use Rattle.color.specs.Calls.{nearestChecks, nearestIndexOf, NearestEntry}
 use Rattle.color.proofs.nearest_index.Statement.{statement}
 use Rattle.color.proofs.nearest_index.Tie as tie
 
-refused : (target : Lab) (lab : List Float) (k n : ℕ) → Refused n ≡ nearestIndexOf target lab k → NearestEntry target lab k (Refused n)
-refused target lab k n e = record { value = e; first = λ i h. absurd (never i h) }
-  where
-    never : (i : ℕ) → Refused n ≡ Entry i → ⊥
-    never i h = let z : _≡_ {A = ℕ} 0 1 = cc in omega arith
+refused : (target : Lab) (lab : List Float) (k n : ℕ) → alone n ≡ nearestIndexOf target lab k → NearestEntry target lab k (Refused n)
+refused target lab k n e = record { value = e; first = λ i h. absurd (alone-other h) }
 
-entry : (target : Lab) (lab : List Float) (k i : ℕ) → Entry i ≡ nearestIndexOf target lab k → FirstNearest target lab k i → NearestEntry target lab k (Entry i)
-entry target lab k i e f = record { value = e; first = λ j h. let same : i ≡ j = cc in subst (FirstNearest target lab k) same f }
+entry : (target : Lab) (lab : List Float) (k i : ℕ) → result i ≡ nearestIndexOf target lab k → FirstNearest target lab k i → NearestEntry target lab k (Entry i)
+entry target lab k i e f = record { value = e; first = λ j h. subst (FirstNearest target lab k) (same-result h) f }
 
 returns : tie.Need-returns
 unfolding nearestIndexOf nearestChecks firstOf refusedOr
@@ -90,7 +89,7 @@ returns-6 c =
     let h = past-storage (c .before .before .before) in
     let e = ap (λ (s : Near). s .entry) (c .before .before .before .before .before .before .search-in .ensures .near) in
     entry _ _ _ _
-    (rw (h .few, h .sized, h .fit, past-triple (c .before), ne-eqb _ _ (c .if5 .left)) (ap Entry e))
+    (rw (h .few, h .sized, h .fit, past-triple (c .before), ne-eqb _ _ (c .if5 .left)) (ap result e))
     (subst (FirstNearest _ _ _) (sym e) (first-nearest _ _ _ (past-triple (c .before)) (h .fit) (omega arith) (omega arith)))
 
 pub nearest-index-spec : {M : Type 1} → statement M

@@ -1,6 +1,6 @@
 -- `put_indices`: the digits of the first i indices stand. Assumes nothing.
 use Rattle.panel_hex.proofs.Indices.{bytes-at}
-use Rattle.base_ints.proofs.Back.{back}
+use Rattle.base.proofs.Back.{back}
 use mir.Syntax.{w16}
 use Rattle.panel_hex.proofs.Digits.{Hexing, hexing-none, hexing-next, hexing-all}
 use Rattle.panel_hex.specs.Hex.{byteOf}

@@ -2,7 +2,9 @@
 use mathlib.Core.Path.{ap}
 use native.Mathlib.Omega.{arith}
 use borrow.Author.Tests.{eq-eqb, ne-eqb}
-use Rattle.selection.specs.declared.Chosen.the-variants.{Part}
+use mathlib.Core.Option.{some}
+use Rattle.base.specs.Answer.Told.{result}
+use Rattle.selection.specs.declared.Selection.{Selection}
 use Rattle.selection.proofs.clip.Statement.{statement}
 use Rattle.selection.proofs.clip.Tie as tie
 
@@ -16,7 +18,7 @@ rectangle-requires : tie.Need-rectangle-requires
 rectangle-requires c κs = (c .before .before .before .before .pre .0 (omega arith), c .before .before .before .before .pre .1 (omega arith))
 
 returns-3 : tie.Need-returns-3
-returns-3 c = rw (ne-eqb _ _ (c .before .before .before .if1 .left), ne-eqb _ _ (c .before .if2 .left)) (ap Part (c .rectangle .ensures))
+returns-3 c = rw (ne-eqb _ _ (c .before .before .before .if1 .left), ne-eqb _ _ (c .before .if2 .left)) (ap (λ (s : Selection). result (some s)) (c .rectangle .ensures))
 
 pub clip-spec : {M : Type 1} → statement M
 clip-spec = tie.close (tie.spec returns returns-2 rectangle-requires returns-3)

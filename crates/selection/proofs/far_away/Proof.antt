@@ -1,7 +1,7 @@
 -- `far_away`: either of the two. Assumes nothing.
 use borrow.Author.Needs.{needs}
-use Rattle.base_ints.specs.Ints.{far}
-use Rattle.base_ints.proofs.Back.{by-value}
+use Rattle.base.specs.Ints.{far}
+use Rattle.base.proofs.Back.{by-value}
 use Rattle.selection.specs.Calls.{farAway}
 use Rattle.selection.proofs.far_away.Statement.{statement}
 use Rattle.selection.proofs.far_away.Tie as tie

@@ -2,7 +2,7 @@
 use mathlib.Core.Path.{_≡_, sym, _∙_}
 use mathlib.Core.Bool.{false}
 use borrow.Author.Needs.{needs}
-use Rattle.base_limits.specs.Checks.{firstOf, refusedOr}
+use Rattle.base.specs.Checks.{firstOf, refusedOr}
 use Rattle.selection.specs.Calls.{tooLarge, regionOf}
 use Rattle.selection.proofs.region.Statement.{statement}
 use Rattle.selection.proofs.region.Tie as tie

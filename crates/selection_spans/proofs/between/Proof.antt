@@ -2,8 +2,8 @@
 use mathlib.Core.Path.{_≡_}
 use borrow.Author.Needs.{needs}
 use mir.Syntax.{w32}
-use Rattle.base_ints.specs.Ints.{minZ, maxZ, fromZero, upTo}
-use Rattle.base_ints.proofs.Back.{by-values, by-result}
+use Rattle.base.specs.Ints.{minZ, maxZ, fromZero, upTo}
+use Rattle.base.proofs.Back.{by-values, by-result}
 use Rattle.selection_spans.proofs.Spans.{half-open}
 use Rattle.selection_spans.proofs.between.Statement.{statement}
 use Rattle.selection_spans.proofs.between.Tie as tie

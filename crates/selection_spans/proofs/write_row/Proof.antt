@@ -7,8 +7,8 @@ use borrow.Author.Needs.{needs}
 use lib.ListN.{length, length-set}
 use mir.Syntax.{w32}
 use mir.Facts.{toZ-pos}
-use Rattle.base_lists.specs.Lists.{range, over}
-use Rattle.base_lists.proofs.Over.{over-none}
+use Rattle.base.specs.Lists.{range, over}
+use Rattle.base.proofs.Over.{over-none}
 use Rattle.selection_spans.specs.Positions.{row, flat}
 use Rattle.selection_spans.proofs.Rows.{row-step}
 use Rattle.selection_spans.proofs.write_row.Statement.{statement}

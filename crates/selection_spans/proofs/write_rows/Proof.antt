@@ -5,8 +5,8 @@ use Prim.Native.Nat.{_≤_, _-_, _+_, _*_}
 use native.Mathlib.Omega.{arith}
 use borrow.Author.Needs.{needs}
 use lib.ListN.{length, length-take, length-drop}
-use Rattle.base_lists.specs.Lists.{range, over}
-use Rattle.base_lists.proofs.Over.{over-none}
+use Rattle.base.specs.Lists.{range, over}
+use Rattle.base.proofs.Over.{over-none}
 use Rattle.selection_spans.specs.Positions.{flat, rows}
 use Rattle.selection_spans.proofs.Rows.{rows-step, room}
 use Rattle.selection_spans.proofs.write_rows.Statement.{statement}

@@ -50,15 +50,15 @@ use denote.Triple.Call.{calls-at}
 use denote.Triple.Clauses.{ensured, lasts}
 use denote.Triple.Table.{entered, cited}
 use denote.Triple.Walked.{says, needs, Stays, stay-none-slice, stay-slice, stay-none, walkOf, Walks, ends-at, walked, goes-none-slice, goes-slice, goes-none, walk-meets}
-use Rattle.edit.specs.declared.Edit.{Edit}
-use Rattle.edit.proofs.Edit as Edit-T
-use Rattle.edit.proofs.Edit.Laws as Edit-T′
+use Rattle.base.specs.declared.Edit.{Edit}
+use Rattle.base.proofs.Edit as Edit-T
+use Rattle.base.proofs.Edit.Laws as Edit-T′
 use Rattle.edit_pixels.specs.Inside.{bare}
-use Rattle.struct_edit.specs.Walk.{told, none, checkOne, markOne, checkUpto, markUpto, Checkable}
+use Rattle.struct_edit.specs.Walk.{flatOf, none, checkOne, markOne, checkUpto, markUpto, Checkable}
 use Rattle.struct_edit.proofs.Checking.{checkable-at}
-use Rattle.struct_change.specs.declared.Change.{Change}
-use Rattle.struct_change.proofs.Change as T
-use Rattle.struct_change.proofs.Change.Laws as T′
+use Rattle.base.specs.declared.Change.{Change}
+use Rattle.base.proofs.Change as T
+use Rattle.base.proofs.Change.Laws as T′
 use Rattle.struct_change.proofs.While.{tests}
 use Rattle.struct_change.proofs.Lending.{LentAgain, lend-mut, back-mut}
 use Rattle.struct_edit.proofs.check_one as one
@@ -144,7 +144,7 @@ module _ {M : Type 1} (𝓤 : URA M) (H : Heap 𝓤) (A : Atoms 𝓤) (W : Given
   asks i below l = λ z. checkable-at no replay (bare w h k indices) edit list i z l fit
 
   abbrev Said : ℕ → Change → ℕ → List ℕ → Type 0
-  Said i v r z = (r ≡ checkOne (code i) replay (bare w h k indices) edit (told v)) × (z ≡ markOne r edit w (told v) (after i))
+  Said i v r z = (r ≡ checkOne (code i) replay (bare w h k indices) edit (flatOf v)) × (z ≡ markOne r edit w (flatOf v) (after i))
 
   module _ (𝓣 : Tables 𝓤 H) (known : Triple 𝓤 (𝓣 .C #struct-edit·check-one) (One 𝓤 H A mem run)) (p : Share) (l₀ l₁ l₂ l₃ l₄ l₅ l₆ l₇ l₈ l₉ l₁₀ l₁₁ l₁₂ l₁₃ l₁₄ l₁₅ l₁₆ l₁₇ : ℕ) where
     abbrev C : Calls 𝓤 H
@@ -229,7 +229,7 @@ module _ {M : Type 1} (𝓤 : URA M) (H : Heap 𝓤) (A : Atoms 𝓤) (W : Given
         v = getD list (i .0) none
 
         stepped : {r : ℕ} {z : List ℕ} → Said (i .0) v r z → (r ≡ code (suc (i .0))) × (z ≡ after (suc (i .0)))
-        stepped e = (e .0, e .1 ∙ ap (λ (m : ℕ). markOne m edit w (told v) (after (i .0))) (e .0))
+        stepped e = (e .0, e .1 ∙ ap (λ (m : ℕ). markOne m edit w (flatOf v) (after (i .0))) (e .0))
 
         next : T (ltb (i .0) (length list)) → {r : ℕ} {z : List ℕ} → (r ≡ code (suc (i .0))) × (z ≡ after (suc (i .0))) → length z ≡ length marks → r < 2 ^ 8 → Upto
         next less e l b = (i .0 + 1, (add-one-le (within less), (rw (add-one (i .0), ← e .1) l, rw (add-one (i .0), ← e .0) b)))

@@ -4,7 +4,7 @@ use Prim.Native.Nat.{_+_, _*_, _<_, _≤_}
 use native.Mathlib.Omega.{arith}
 use lib.ListN.{length}
 use Rattle.edit.specs.Change.{place}
-use Rattle.struct_edit.specs.Walk.{told}
+use Rattle.struct_edit.specs.Walk.{flatOf}
 use borrow.Author.Needs.{needs}
 use Rattle.struct_edit.proofs.put_one.Statement.{statement}
 use Rattle.struct_edit.proofs.put_one.Tie as tie
@@ -19,7 +19,7 @@ enum-told : tie.Need-enum-told
 enum-told c = search needs
 
 -- what is asked of a pixel, and of a change of a remap
-pixel : (c : tie.After-enum-told) → let a = c .before .before .before .before .before .args in (a .offset + (14 + 8 * a .i) ≤ length (a .journal .now)) × (place (a .w) (told (a .c)) < length (a .indices .now))
+pixel : (c : tie.After-enum-told) → let a = c .before .before .before .before .before .args in (a .offset + (14 + 8 * a .i) ≤ length (a .journal .now)) × (place (a .w) (flatOf (a .c)) < length (a .indices .now))
 pixel c = pixel-fits _ _ _ _ _ _ (c .enum-told .given .1) (c .before .before .before .before .before .pre (c .before .before .before .if1 .left))
 
 move : (c : tie.After-enum-told4) → let a = c .before .before .before .before .before .args in a .offset + (41 + 8 * a .i) ≤ length (a .journal .now)

@@ -1,6 +1,6 @@
+-- Written by tools/walks; do not edit.
 -- `struct_mirror::mirror_tiles` meets its contract: a walk of its MIR, by hand. A list that is touched is judged and packed into flat; `mirror_packed` leaves its result in the scratch, and that is unpacked into out; a list that is not is copied into out.
--- All that the proof knows of what it calls is that it meets its contract.
--- Assumes nothing.
+-- All that the proof knows of the functions that it calls is that they meet their contracts. Assumes nothing.
 use mathlib.Core.Path.{_≡_, refl, sym, ap, subst, _∙_}
 use mathlib.Core.Bool.{Bool, true}
 use Prim.Native.Nat.{ℕ, _<_, _≤_, _^_}
@@ -19,7 +19,7 @@ use prog.Routine.{Routine}
 use prog.Wp.{Heap, Calls, Loops, WpFn, Tables}
 use ghost.Atoms.{Atoms}
 use contract.Monad.{Fun, fact}
-use contract.Running.{givenOf, tables, tablesOf}
+use contract.Running.{givenOf as given-of, tables, tablesOf}
 use types.Kit.{Given, ‵, raw, some, later, _⊛_, ⋆, _$_, _∵_, !, qed, by, move, keep, drop, use0, use1, use2, use3, split, join, group, pick, rewrite, fsplit, fjoin, feqL, suffices, frame, await, done}
 use types.Run.{look, store, init, forget, stop, hop, fld, from, load, addr, of-opd, and-then, no-more, assigns, land, returns, enter, alloc1, alloc0, params1, pass1, pass0, free1, free0}
 use types.Part.{agg, whole, sub, look-in}
@@ -27,6 +27,7 @@ use types.Tokens.{lft-new, lft-end}
 use sound.WpLaws.{FmC, fmOf, WpFn-mono}
 use denote.RattleType.{owns}
 use denote.Laws.{Is, shows}
+use denote.Memory.{mem}
 use denote.Plain.{uint-vals, uint-tells, uint-makes, uint-lawful, bool-vals, bool-tells, bool-makes, bool-lawful}
 use denote.Builtin.{u8, u64, usize, i16, f64, bool, unit}
 use denote.Ref.{RefT}
@@ -40,22 +41,22 @@ use denote.Triple.Statement.{Contract, Triple}
 use denote.Triple.Call.{calls-at}
 use denote.Triple.Clauses.{ensured, lasts}
 use denote.Triple.Table.{entered, cited}
-use denote.Triple.Walked.{says, Stays, gave-slice, stay-slice, stay-none-slice, stay-none, walkOf, goes-gave-slice, goes-slice, goes-none-slice, goes-none, Walks, ends-at, walked, walk-meets}
+use denote.Triple.Walked.{says, Stays, stay-slice, gave-slice, stay-none-slice, stay-none, walkOf, goes-slice, goes-gave-slice, goes-none-slice, goes-none, Walks, ends-at, walked, walk-meets}
 use denote.Exit.{yes}
-use Rattle.base_limits.specs.Answer.{filled}
-use Rattle.base_limits.specs.declared.Counted.{Counted}
-use Rattle.base_limits.proofs.Counted as Counted-T
-use Rattle.base_limits.proofs.Counted.Laws as Counted-T′
-use Rattle.base_lists.specs.Lists.{over, some as some-of}
+use Rattle.struct_change.proofs.Lending.{LentAgain, LentShared, lend-mut, back-mut, lend-shr, back-shr}
+use Rattle.base.specs.declared.Change.{Change}
+use Rattle.base.proofs.Change as Change-T
 use Rattle.selection.specs.declared.Area.{Area}
 use Rattle.selection.proofs.Area as Area-T
 use Rattle.selection.proofs.Area.Laws as Area-T′
-use Rattle.sheet.specs.Sheet.{sheetOf}
-use Rattle.edit.specs.Change.{outside, unpacked}
-use Rattle.struct_change.specs.declared.Change.{Change}
+use Rattle.base.specs.declared.Counted.{Counted}
+use Rattle.base.proofs.Counted as Counted-T
+use Rattle.base.proofs.Counted.Laws as Counted-T′
+use Rattle.base.specs.Answer.{filled}
 use Rattle.struct_change.specs.Struct.{packedOf, least}
-use Rattle.struct_change.proofs.Change as Change-T
-use Rattle.struct_change.proofs.Lending.{LentAgain, LentShared, lend-mut, back-mut, lend-shr, back-shr}
+use Rattle.sheet.specs.Sheet.{sheetOf}
+use Rattle.base.specs.Lists.{over, some as some-of}
+use Rattle.edit.specs.Change.{outside, unpacked}
 use Rattle.tile_mirror_checks.specs.Calls.{touching, straying}
 use Rattle.struct_mirror.specs.Lent.{readOf, mirrorLent, madeOf, keptOf, Laid}
 use Rattle.struct_mirror.proofs.Laying.{read-fits, pack-fits, read-front, read-off, read-judged, unpack-fits, copy-fits, laid-all}
@@ -305,15 +306,21 @@ module _ {M : Type 1} (𝓤 : URA M) (H : Heap 𝓤) (A : Atoms 𝓤) (W : Given
       nothing ! $ move ! (14 ∷ 0 ∷ []) $ join ! $ move ! (12 ∷ 0 ∷ []) $ join ! $ move ! (10 ∷ 0 ∷ []) $ join ! $ move ! (8 ∷ 0 ∷ []) $ join ! $ move ! (6 ∷ 0 ∷ []) $ join ! $ move ! (4 ∷ 0 ∷ []) $ join ! $ move ! (2 ∷ 0 ∷ []) $ join ! $ frame ! $ nothing ! $ move ! (7 ∷ 0 ∷ []) $ fjoin ! $ move ! (6 ∷ 0 ∷ []) $ fjoin ! $ move ! (5 ∷ 0 ∷ []) $ fjoin ! $ move ! (4 ∷ 0 ∷ []) $ fjoin ! $ owned ! usize (Is usize) (uint-makes 𝓤 H A W w64) t _ (refl, t-fits) $ fjoin ! $ owned ! bool (Is bool) (bool-makes 𝓤 H A W) on _ refl $ fjoin ! $ owned ! Area-T.the-row (Is Area-T.the-row) (EL.makes Area-T.the-type Area-T′.the-plain 𝓤 H A) area _ area-is $ fjoin ! $ move ! (3 ∷ 0 ∷ []) $ fjoin ! $ move ! (2 ∷ 0 ∷ []) $ fjoin ! $ move ! (1 ∷ 0 ∷ []) $ fjoin ! $ owned ! usize (Is usize) (uint-makes 𝓤 H A W w64) k _ (refl, k-fits) $ fjoin ! $ owned ! usize (Is usize) (uint-makes 𝓤 H A W w64) h _ (refl, h-fits) $ fjoin ! $ owned ! usize (Is usize) (uint-makes 𝓤 H A W w64) w _ (refl, w-fits) $ fjoin ! $ frame ! $ owned ! Counted-T.the-row (Is Counted-T.the-row) (EL.makes Counted-T.the-type Counted-T′.the-plain 𝓤 H A) r _ is $ done !
 
   -- what the core says of flat and the scratch means of the list
-  means : (touched : Bool) (read : ℕ) (off : Bool) (m : ℕ) (r : Counted) (zs ws : List ℕ) → touched ≡ touching on (length list) t w h → read ≡ readOf touched (length list)
-      → off ≡ some-of (outside w h) (map unpacked (take read (map packedOf list))) → m ≡ least read (length flat) → length zs ≡ length flat → zs ≡ over (take m (map packedOf list)) flat
-      → ((l : List ℕ) → length l ≡ length list → off ≡ straying (touching on (length list) t w h) w h l → (touching on (length list) t w h ≡ true → length list ≤ length zs → take (length list) zs ≡ l)
+  means : (touched : Bool) (read : ℕ) (off : Bool) (m : ℕ) (r : Counted) (zs ws : List ℕ)
+      → touched ≡ touching on (length list) t w h → read ≡ readOf touched (length list)
+      → off ≡ some-of (outside w h) (map unpacked (take read (map packedOf list)))
+      → m ≡ least read (length flat) → length zs ≡ length flat → zs ≡ over (take m (map packedOf list)) flat
+      → ((l : List ℕ) → length l ≡ length list → off ≡ straying (touching on (length list) t w h) w h l
+      → (touching on (length list) t w h ≡ true → length list ≤ length zs → take (length list) zs ≡ l)
       → Laid (madeOf (touching on (length list) t w h) r) (keptOf (touching on (length list) t w h) r) (length out) ws l (filled r) (mirrorLent (sheetOf w h k palette lab indices) area on t l (length zs) (length scratch)))
-      → Laid (madeOf (touching on (length list) t w h) r) (keptOf (touching on (length list) t w h) r) (length out) ws (map packedOf list) (filled r) (mirrorLent (sheetOf w h k palette lab indices) area on t (map packedOf list) (length flat) (length scratch))
+      → Laid (madeOf (touching on (length list) t w h) r) (keptOf (touching on (length list) t w h) r) (length out) ws (map packedOf list) (filled r)
+      (mirrorLent (sheetOf w h k palette lab indices) area on t (map packedOf list) (length flat) (length scratch))
   means touched read off m r zs ws is reads j q l d said =
       let e = length-map list packedOf in
-      subst (λ (i : ℕ). Laid (madeOf (touching on (length list) t w h) r) (keptOf (touching on (length list) t w h) r) (length out) ws (map packedOf list) (filled r) (mirrorLent (sheetOf w h k palette lab indices) area on t (map packedOf list) i (length scratch))) l
-      (said (map packedOf list) e (read-off w h t on (length list) touched read is reads (map packedOf list) e off j) (read-front w h t on (length list) touched read is reads (map packedOf list) e flat zs m q l d))
+      subst (λ (i : ℕ). Laid (madeOf (touching on (length list) t w h) r) (keptOf (touching on (length list) t w h) r) (length out) ws (map packedOf list) (filled r)
+      (mirrorLent (sheetOf w h k palette lab indices) area on t (map packedOf list) i (length scratch))) l
+      (said (map packedOf list) e (read-off w h t on (length list) touched read is reads (map packedOf list) e off j)
+      (read-front w h t on (length list) touched read is reads (map packedOf list) e flat zs m q l d))
 
   module _ (C : Calls 𝓤 H) (Λ : Loops 𝓤 H) (fm : FmC 𝓤 H (W .laws) C) (known-Touching : Triple 𝓤 (C #tile_mirror_checks·is-touching) (Touching 𝓤 H A at-mem run)) (known-Reading : Triple 𝓤 (C #struct_mirror·packed·read-of) (Reading 𝓤 H A at-mem run)) (known-Scanning : Triple 𝓤 (C #struct_change·any-outside) (Scanning 𝓤 H A at-mem run)) (known-Lesser : Triple 𝓤 (C #struct_change·lesser) (Lesser 𝓤 H A at-mem run)) (known-Packing : Triple 𝓤 (C #struct_change·pack) (Packing 𝓤 H A at-mem run)) (known-Core : Triple 𝓤 (C #struct_mirror·packed·mirror-packed) (Core 𝓤 H A at-mem run)) (known-Made : Triple 𝓤 (C #struct_mirror·packed·made-of) (Made 𝓤 H A at-mem run)) (known-Unpacking : Triple 𝓤 (C #struct_change·unpack) (Unpacking 𝓤 H A at-mem run)) (known-Kept : Triple 𝓤 (C #struct_mirror·packed·kept-of) (Kept 𝓤 H A at-mem run)) (known-Copying : Triple 𝓤 (C #struct_change·copy-front) (Copying 𝓤 H A at-mem run)) where
     walk : ent 𝓤 (onEntry 𝓤 H A f.signature (κ₀, (κ₁, (κ₂, (κ₃, (κ₄, (κ₅, (κ₆, tt))))))) (q₀, (q₁, (q₂, (q₃, (q₄, (q₅, (q₆, tt))))))) a vals) (WpFn 𝓤 H C Λ code.function (vint w64 w ∷ vint w64 h ∷ vint w64 k ∷ sliceVal (palette-b, palette-o) (length palette) ∷ sliceVal (lab-b, lab-o) (length lab) ∷ sliceVal (indices-b, indices-o) (length indices) ∷ EL.val Area-T.the-type Area-T′.the-laws area ∷ vbool on ∷ vint w64 t ∷ sliceVal (list-b, list-o) (length list) ∷ sliceVal (flat-b, flat-o) (length flat) ∷ sliceVal (scratch-b, scratch-o) (length scratch) ∷ sliceVal (out-b, out-o) (length out) ∷ []) Post)
@@ -491,7 +498,7 @@ unfolding code.routine tablesOf
 mirror-tiles-spec 𝓤 H 𝓜 𝓖 𝓡 =
     entered 𝓤 H (tripleOf 𝓤 H (𝓖 .A) f.signature (f.spec 𝓤 H (𝓖 .A) (𝓜 .mem) (𝓡 .run)))
     (tables 𝓤 H 𝓜 𝓡 code.env .C) (tables 𝓤 H 𝓜 𝓡 code.env .Λ) #struct_mirror·mirror-tiles code.function (code.unfolded 𝓤 H 𝓜 𝓡)
-    (mirror-tiles-meets 𝓤 H (𝓖 .A) (givenOf 𝓤 H 𝓜 𝓖) (𝓜 .mem) (𝓡 .run) (tablesOf 𝓤 H 𝓜 (tables 𝓤 H 𝓜 𝓡 code.env))
+    (mirror-tiles-meets 𝓤 H (𝓖 .A) (given-of 𝓤 H 𝓜 𝓖) (𝓜 .mem) (𝓡 .run) (tablesOf 𝓤 H 𝓜 (tables 𝓤 H 𝓜 𝓡 code.env))
     (cited 𝓤 H (Touching 𝓤 H (𝓖 .A) (𝓜 .mem) (𝓡 .run)) 𝓜 𝓡 code.env #tile_mirror_checks·is-touching Touching-def.routine code.calls-tile-mirror-checks·is-touching (Touching-thm.met 𝓤 H 𝓜 𝓖 𝓡))
     (cited 𝓤 H (Reading 𝓤 H (𝓖 .A) (𝓜 .mem) (𝓡 .run)) 𝓜 𝓡 code.env #struct_mirror·packed·read-of Reading-def.routine code.calls-struct-mirror·packed·read-of (Reading-thm.met 𝓤 H 𝓜 𝓖 𝓡))
     (cited 𝓤 H (Scanning 𝓤 H (𝓖 .A) (𝓜 .mem) (𝓡 .run)) 𝓜 𝓡 code.env #struct_change·any-outside Scanning-def.routine code.calls-struct-change·any-outside (Scanning-thm.met 𝓤 H 𝓜 𝓖 𝓡))

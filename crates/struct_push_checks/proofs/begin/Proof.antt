@@ -5,7 +5,7 @@ use mathlib.Core.List.{List, [], map}
 use Prim.Native.Nat.{ℕ}
 use native.Mathlib.Omega.{arith}
 use lib.ListN.{length, length-map}
-use Rattle.base_limits.specs.Checks.{firstOf}
+use Rattle.base.specs.Checks.{firstOf}
 use Rattle.sheet.specs.Sheet.{sheetOf}
 use Rattle.edit.specs.Change.{unpacked}
 use Rattle.edit.specs.Apply.{noPixels}

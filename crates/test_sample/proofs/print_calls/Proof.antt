@@ -13,6 +13,9 @@ abbrev μ-loop : tie.MeasureT-loop
 loop-holds : tie.Need-loop-holds Inv-loop μ-loop
 loop-holds c = search needs
 
+number-requires : tie.Need-number-requires Inv-loop μ-loop
+number-requires c κs = search needs
+
 print-call-requires : tie.Need-print-call-requires Inv-loop μ-loop
 print-call-requires c κs = search needs
 
@@ -38,6 +41,7 @@ print-calls-spec =
     Inv-loop
     μ-loop
     loop-holds
+    number-requires
     print-call-requires
     wrapping-add-u64-requires
     add-c

@@ -7,10 +7,10 @@ use Rattle.test_sample.proofs.print_steps.Statement.{statement}
 use Rattle.test_sample.proofs.print_steps.Tie as tie
 
 abbrev Inv-loop : tie.InvT-loop
-Inv-loop seed w h palette₀ lab₀ indices₀ journal₀ state₀ i₀ palette lab indices journal state i = (i ≤ 60) × (length palette ≡ length palette₀) × (length lab ≡ length lab₀) × (length indices ≡ length indices₀) × (length journal ≡ length journal₀)
+Inv-loop seed w h palette₀ lab₀ indices₀ journal₀ m₀ i₀ palette lab indices journal m i = (i ≤ 60) × (length palette ≡ length palette₀) × (length lab ≡ length lab₀) × (length indices ≡ length indices₀) × (length journal ≡ length journal₀)
 
 abbrev μ-loop : tie.MeasureT-loop
-μ-loop seed w h palette₀ lab₀ indices₀ journal₀ state₀ i₀ palette lab indices journal state i = 60 - i
+μ-loop seed w h palette₀ lab₀ indices₀ journal₀ m₀ i₀ palette lab indices journal m i = 60 - i
 
 loop-holds : tie.Need-loop-holds Inv-loop μ-loop
 loop-holds c = search needs
@@ -18,23 +18,8 @@ loop-holds c = search needs
 wrapping-add-u64-requires : tie.Need-wrapping-add-u64-requires Inv-loop μ-loop
 wrapping-add-u64-requires c κs = search needs
 
-deck-requires : tie.Need-deck-requires Inv-loop μ-loop
-deck-requires c κs = search needs
-
-array-read-call-of : tie.Need-array-read-call-of Inv-loop μ-loop
-array-read-call-of c = search needs
-
-call-of-requires : tie.Need-call-of-requires Inv-loop μ-loop
-call-of-requires c κs = search needs
-
-deal-requires : tie.Need-deal-requires Inv-loop μ-loop
-deal-requires c κs = search needs
-
-step-requires : tie.Need-step-requires Inv-loop μ-loop
-step-requires c κs = search needs
-
-print-line-requires : tie.Need-print-line-requires Inv-loop μ-loop
-print-line-requires c κs = search needs
+print-next-requires : tie.Need-print-next-requires Inv-loop μ-loop
+print-next-requires c κs = search needs
 
 add-i : tie.Need-add-i Inv-loop μ-loop
 add-i c = search needs
@@ -68,12 +53,7 @@ print-steps-spec =
     μ-loop
     loop-holds
     wrapping-add-u64-requires
-    deck-requires
-    array-read-call-of
-    call-of-requires
-    deal-requires
-    step-requires
-    print-line-requires
+    print-next-requires
     add-i
     loop-less
     loop-again

@@ -3,8 +3,8 @@ use Prim.Native.Nat.{_-_, _≤_}
 use mathlib.Core.Path.{sym, _∙_}
 use lib.ListN.{length}
 use Rattle.edit.specs.Change.{outside, unpacked}
-use Rattle.base_lists.proofs.Scan.{Flagged, flag-step, flag-end}
-use Rattle.base_lists.proofs.Nowhere.{some-map}
+use Rattle.base.proofs.Scan.{Flagged, flag-step, flag-end}
+use Rattle.base.proofs.Nowhere.{some-map}
 use borrow.Author.Needs.{needs}
 use Rattle.tile_mirror_checks.proofs.any_outside.Statement.{statement}
 use Rattle.tile_mirror_checks.proofs.any_outside.Tie as tie

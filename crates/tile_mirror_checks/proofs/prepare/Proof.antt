@@ -1,7 +1,6 @@
 -- `prepare`: the checks in their order. Assumes nothing.
 use types.Run.{miss}
 use mathlib.Core.List.{[], _∷_}
-use mathlib.Core.Path.{sym, _∙_}
 use native.Mathlib.Omega.{arith}
 use Rattle.sheet.specs.Checks.{WellFormed}
 use Rattle.sheet.specs.Sheet.{sheetOf}
@@ -20,7 +19,7 @@ past c = c .before .check .ensures .fine (c .if1 .left)
 
 -- the region
 found : (c : tie.After-s) → let a = c .before .before .before .before .before .before .before .before .args in Found (a .area) (a .w) (a .h) (c .s .given .0 .0)
-found c = let l = past (c .before .before .before .before) .limits in region-found _ _ (l .w-small) (l .h-small) _ _ (sym (c .before .before .region .ensures) ∙ c .s .given .1)
+found c = let l = past (c .before .before .before .before) .limits in region-found _ _ (l .w-small) (l .h-small) _ _ (c .before .before .region .ensures) (c .s .given .1)
 
 returns : tie.Need-returns
 returns c = stage-sheet _ _ _ _ _ _ (c .before .check .ensures) (c .if1 .taken)
@@ -35,7 +34,7 @@ enum-known-s : tie.Need-enum-known-s
 enum-known-s c = search needs
 
 returns-3 : tie.Need-returns-3
-returns-3 c = let f = past (c .before .before .before) in stage-off _ _ _ _ _ f (c .before .before .if2 .left) (region-none _ _ (f .limits .w-small) (f .limits .h-small) _ (λ s q. miss (1 ∷ 2 ∷ []) 0 tt (rw (c .before .region .ensures ∙ q) at (c .match .keys2))))
+returns-3 c = let f = past (c .before .before .before) in stage-off _ _ _ _ _ f (c .before .before .if2 .left) (region-none _ _ (f .limits .w-small) (f .limits .h-small) _ (c .before .region .result) (c .before .region .ensures) (λ s q. miss (1 ∷ 2 ∷ []) 0 tt (rw q at (c .match .keys2))))
 
 returns-4 : tie.Need-returns-4
 returns-4 c = stage-stray _ _ _ _ _ (past (c .before .before .before .before .before .before)) (c .before .before .before .before .before .if2 .left) (found (c .before .before) .unrefused) (c .if3 .taken)

@@ -1,7 +1,7 @@
 -- `landing_on`: its sums, without a sign. Assumes nothing.
 use mathlib.Core.Path.{_≡_}
 use native.Mathlib.Omega.{arith}
-use Rattle.base_ints.proofs.Back.{by-value}
+use Rattle.base.proofs.Back.{by-value}
 use Rattle.tool_block.specs.Blocks.{landing}
 use Rattle.tool_block.proofs.Landings.{offsetOf, offset-small}
 use borrow.Author.Needs.{needs}

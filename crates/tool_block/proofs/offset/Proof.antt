@@ -1,7 +1,7 @@
 -- `offset`: the sum fits. Assumes nothing.
 use mir.Facts.{toZ-ofZ}
-use Rattle.base_ints.specs.Ints.{fromZero}
-use Rattle.base_ints.proofs.Back.{by-value}
+use Rattle.base.specs.Ints.{fromZero}
+use Rattle.base.proofs.Back.{by-value}
 use Rattle.tool_block.proofs.Landings.{offset-fits}
 use borrow.Author.Needs.{needs}
 use Rattle.tool_block.proofs.offset.Statement.{statement}

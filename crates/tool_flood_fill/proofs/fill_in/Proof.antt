@@ -9,8 +9,8 @@ use lib.ListN.{length, getD}
 use mir.Syntax.{w16}
 use mir.Facts.{toZ-ofZ}
 use borrow.Author.Tests.{not-true, not-false}
-use Rattle.base_ints.specs.Ints.{eqZ, fromZero}
-use Rattle.base_ints.proofs.Back.{back, by-value, by-values}
+use Rattle.base.specs.Ints.{eqZ, fromZero}
+use Rattle.base.proofs.Back.{back, by-value, by-values}
 use Rattle.selection.specs.Selection.{containsI}
 use Rattle.tool_flood_fill.specs.Fill.{startOf}
 use Rattle.tool_flood_fill.proofs.Points.{OnSheet, on-sheet, start-on, rows-few}

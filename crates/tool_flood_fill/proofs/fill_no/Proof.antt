@@ -1,8 +1,8 @@
 -- `fill_no`: the checks in their order. Assumes nothing.
 use mathlib.Core.Path.{_≡_, sym, _∙_}
 use Rattle.selection.specs.Region.{offSheet}
-use Rattle.base_ints.specs.Ints.{far}
-use Rattle.base_ints.proofs.Back.{by-value}
+use Rattle.base.specs.Ints.{far}
+use Rattle.base.proofs.Back.{by-value}
 use Rattle.sheet.specs.Sheet.{sheetOf}
 use Rattle.sheet.specs.Checks.{WellFormed}
 use Rattle.tool_flood_fill.proofs.Tests.{fill-judged, far-across, far-down, off-it, no-room, fillable}

@@ -7,7 +7,7 @@ use Rattle.sheet.specs.Sheet.{Sheet, sheetOf}
 use Rattle.edit.specs.Change.{packed}
 use Rattle.change_list.specs.Fronts.{Front}
 use Rattle.change_list.proofs.Fronts.{front-within}
-use Rattle.base_limits.specs.Checks.{firstOf}
+use Rattle.base.specs.Checks.{firstOf}
 use Rattle.selection.specs.Region.{regionIn}
 use Rattle.tool_flood_fill.specs.Fill.{fillOf, fillChecks, Fillable, Fine}
 use Rattle.tool_flood_fill.proofs.Tests.{ready}

@@ -9,13 +9,13 @@ use lib.ListN.{length}
 use mir.Syntax.{w16}
 use mir.Facts.{toZ-ofZ}
 use types.Run.{miss}
-use Rattle.base_ints.specs.Ints.{far, fromZero}
-use Rattle.base_ints.proofs.Back.{back}
+use Rattle.base.specs.Ints.{far, fromZero}
+use Rattle.base.proofs.Back.{back}
 use Rattle.sheet.specs.Sheet.{sheetOf}
 use Rattle.sheet.specs.Checks.{WellFormed}
 use Rattle.sheet.proofs.Places.{place}
 use Rattle.selection.specs.Selection.{containsI}
-use Rattle.selection.specs.Calls.{containsIOf}
+use Rattle.selection.specs.Calls.{heldTold, containsIOf}
 use Rattle.selection.proofs.Regions.{Found, region-found, region-none, fits-region}
 use Rattle.tool_replace.proofs.Answers.{Pointed, pointed, held-inside, held-outside, global-sheet, global-far-x, global-far-y, global-off, global-outside, global-inside}
 use Rattle.tool_replace.proofs.fill_global.Statement.{statement}
@@ -43,13 +43,13 @@ near-y c = far-y (c .before) ∙ c .if3 .left
 
 -- the region, and whether the position is in it
 found : (c : tie.After-s) → let a = c .before .before .before .before .before .before .before .before .before .before .before .before .args in Found (a .area) (a .w) (a .h) (c .s .given .0 .0)
-found c = let l = past (c .before .before .before .before .before .before .before) .limits in region-found _ _ (l .w-small) (l .h-small) _ _ (sym (c .before .before .region .ensures) ∙ c .s .given .1)
+found c = let l = past (c .before .before .before .before .before .before .before) .limits in region-found _ _ (l .w-small) (l .h-small) _ _ (c .before .before .region .ensures) (c .s .given .1)
 
-held : (c : tie.After-contains-i) → let a = c .before .before .before .before .before .before .before .before .before .before .before .before .before .before .args in c .contains-i .result ≡ containsIOf (c .before .before .s .given .0 .0) (a .x) (a .y)
+held : (c : tie.After-contains-i) → let a = c .before .before .before .before .before .before .before .before .before .before .before .before .before .before .args in heldTold (c .contains-i .result) ≡ containsIOf (c .before .before .s .given .0 .0) (a .x) (a .y)
 held c = rw (toZ-ofZ (c .before .before .before .before .before .before .before .before .before .before .before .before .before .before .fits .x), toZ-ofZ (c .before .before .before .before .before .before .before .before .before .before .before .before .before .before .fits .y)) at (c .contains-i .ensures)
 
 inside : (c : tie.After-enum-told) → let a = c .before .before .before .before .before .before .before .before .before .before .before .before .before .before .before .before .args in containsI (c .before .before .before .before .s .given .0 .0) (a .x) (a .y) ≡ true
-inside c = held-inside _ _ _ (near-x (c .before .before .before .before .before .before .before .before .before)) (near-y (c .before .before .before .before .before .before .before)) (sym (held (c .before .before)) ∙ c .enum-told .given .1)
+inside c = held-inside _ _ _ (near-x (c .before .before .before .before .before .before .before .before .before)) (near-y (c .before .before .before .before .before .before .before)) (held (c .before .before)) (c .enum-told .given .1)
 
 on : (c : tie.After-enum-told) → let a = c .before .before .before .before .before .before .before .before .before .before .before .before .before .before .before .before .args in Pointed (a .w) (a .h) (a .indices .now) (a .x) (a .y)
 on c = pointed _ _ _ _ (found (c .before .before .before .before) .fits) _ _ (inside c)
@@ -95,7 +95,7 @@ returns-4 : tie.Need-returns-4
 returns-4 c =
     let f = past (c .before .before .before .before .before .before) in
     global-off _ _ _ _ _ _ f (near-x (c .before .before .before .before)) (near-y (c .before .before))
-    (region-none _ _ (f .limits .w-small) (f .limits .h-small) _ (λ s e. miss (1 ∷ 2 ∷ []) 0 tt (rw (c .before .region .ensures ∙ e) at (c .match .keys2))))
+    (region-none _ _ (f .limits .w-small) (f .limits .h-small) _ (c .before .region .result) (c .before .region .ensures) (λ s e. miss (1 ∷ 2 ∷ []) 0 tt (rw e at (c .match .keys2))))
 
 contains-i-requires : tie.Need-contains-i-requires
 contains-i-requires c κs = search needs
@@ -109,7 +109,7 @@ returns-5 c =
     let x = near-x (c .before .before .before .before .before .before .before .before) in
     let y = near-y (c .before .before .before .before .before .before) in
     global-outside _ _ _ _ _ _ (past (c .before .before .before .before .before .before .before .before .before .before)) x y (f .unrefused) _ (f .value)
-    (held-outside _ _ _ x y (λ e. miss (1 ∷ 2 ∷ []) 0 tt (rw (held (c .before) ∙ e) at (c .match2 .keys2))))
+    (held-outside _ _ _ x y (c .before .contains-i .result) (held (c .before)) (λ e. miss (1 ∷ 2 ∷ []) 0 tt (rw e at (c .match2 .keys2))))
 
 from-zero-requires : tie.Need-from-zero-requires
 from-zero-requires c κs = search needs

@@ -1,5 +1,5 @@
 -- `replace_color`: 1 to 3, 5, then the changes. Assumes nothing.
-use mathlib.Core.Path.{sym, _∙_}
+use mathlib.Core.Path.{_∙_}
 use mathlib.Core.List.{[], _∷_}
 use borrow.Author.Needs.{needs}
 use mir.Facts.{toZ-ofZ}
@@ -20,7 +20,7 @@ past c = c .before .check .ensures .fine (c .if1 .left)
 
 -- the region
 found : (c : tie.After-s) → let a = c .before .before .before .before .before .before .before .before .args in Found (a .area) (a .w) (a .h) (c .s .given .0 .0)
-found c = let l = past (c .before .before .before) .limits in region-found _ _ (l .w-small) (l .h-small) _ _ (sym (c .before .before .region .ensures) ∙ c .s .given .1)
+found c = let l = past (c .before .before .before) .limits in region-found _ _ (l .w-small) (l .h-small) _ _ (c .before .before .region .ensures) (c .s .given .1)
 
 returns : tie.Need-returns
 returns c = replace-sheet _ _ _ _ _ _ (c .before .check .ensures) (c .if1 .taken)
@@ -35,7 +35,7 @@ returns-2 : tie.Need-returns-2
 returns-2 c =
     let f = past (c .before .before) in
     replace-off _ _ _ _ _ f
-    (region-none _ _ (f .limits .w-small) (f .limits .h-small) _ (λ s e. miss (1 ∷ 2 ∷ []) 0 tt (rw (c .before .region .ensures ∙ e) at (c .match .keys2))))
+    (region-none _ _ (f .limits .w-small) (f .limits .h-small) _ (c .before .region .result) (c .before .region .ensures) (λ s e. miss (1 ∷ 2 ∷ []) 0 tt (rw e at (c .match .keys2))))
 
 replace-in-requires : tie.Need-replace-in-requires
 replace-in-requires c κs = let l = past (c .before .before .before .before .before) .limits in fits-region _ _ _ (l .w-small) (l .h-small) _ (l .indices-length) (found (c .before .before) .fits)

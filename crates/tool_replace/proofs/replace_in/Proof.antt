@@ -3,10 +3,10 @@ use mathlib.Core.Path.{_≡_, sym, _∙_}
 use borrow.Author.Needs.{needs}
 use lib.ListN.{length}
 use mir.Facts.{toZ-ofZ}
-use Rattle.base_ints.specs.Ints.{eqZ}
+use Rattle.base.specs.Ints.{eqZ}
 use Rattle.selection.specs.Selection.{positions}
 use Rattle.tool_replace.specs.Fills.{hasIndex}
-use Rattle.base_lists.specs.Lists.{kept}
+use Rattle.base.specs.Lists.{kept}
 use Rattle.tool_replace.proofs.Answers.{replaced-same, replaced-short, replaced-done}
 use Rattle.tool_replace.proofs.replace_in.Statement.{statement}
 use Rattle.tool_replace.proofs.replace_in.Tie as tie

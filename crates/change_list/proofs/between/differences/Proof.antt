@@ -1,4 +1,4 @@
--- `sheet_diff`: what stands there and the rows below give the whole. Assumes nothing.
+-- `differences`: what stands there and the rows below give the whole. Assumes nothing.
 use Prim.Native.Nat.{_-_, _+_, _*_, _≤_}
 use native.Mathlib.Omega.{arith}
 use native.Mathlib.Nat.{mul-le-mul}

@@ -3,7 +3,7 @@ use Prim.Native.Nat.{_≤_, _-_}
 use borrow.Author.Needs.{needs}
 use lib.ListN.{length}
 use lib.Ieee.{nan}
-use Rattle.base_lists.proofs.Scan.{Flagged, flag-step, flag-end}
+use Rattle.base.proofs.Scan.{Flagged, flag-step, flag-end}
 use Rattle.color_doubles.specs.Finite.{unfit}
 use Rattle.color_doubles.proofs.finite.any_unfit.Statement.{statement}
 use Rattle.color_doubles.proofs.finite.any_unfit.Tie as tie

@@ -5,7 +5,7 @@ use borrow.Author.Tests.{le-leb, lt-leb, lt-ltb, le-ltb}
 use borrow.Author.Needs.{needs}
 use lib.ListN.{length, take}
 use lib.Seq.{length-take-le}
-use Rattle.base_limits.specs.Checks.{firstOf}
+use Rattle.base.specs.Checks.{firstOf}
 use Rattle.edit.specs.Checks.{ownChecks}
 use Rattle.edit_checks.proofs.Bare.{removal-left}
 use Rattle.edit_checks.proofs.own.remove_no.Statement.{statement}

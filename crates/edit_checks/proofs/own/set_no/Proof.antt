@@ -1,7 +1,7 @@
 -- `set_no`: the checks in order. Assumes nothing.
 use borrow.Author.Tests.{le-leb, lt-leb}
 use borrow.Author.Needs.{needs}
-use Rattle.base_limits.specs.Checks.{firstOf}
+use Rattle.base.specs.Checks.{firstOf}
 use Rattle.edit.specs.Checks.{ownChecks}
 use Rattle.edit_checks.proofs.own.set_no.Statement.{statement}
 use Rattle.edit_checks.proofs.own.set_no.Tie as tie

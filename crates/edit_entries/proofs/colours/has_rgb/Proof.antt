@@ -1,6 +1,6 @@
 -- `has_rgb`: the tests are the definition's. Assumes nothing.
 use borrow.Author.Needs.{needs}
-use Rattle.base_storage.specs.Triples.{rgbAt}
+use Rattle.base.specs.Triples.{rgbAt}
 use Rattle.edit.specs.Checks.{sameRgb}
 use Rattle.edit_entries.proofs.colours.has_rgb.Statement.{statement}
 use Rattle.edit_entries.proofs.colours.has_rgb.Tie as tie

@@ -1,6 +1,6 @@
 -- `entry_no`: the checks in order. Assumes nothing.
 use borrow.Author.Tests.{le-leb, lt-leb, lt-ltb, le-ltb}
-use Rattle.base_limits.specs.Checks.{firstOf}
+use Rattle.base.specs.Checks.{firstOf}
 use Rattle.edit_head.specs.Apart.{headChecks}
 use borrow.Author.Needs.{needs}
 use Rattle.edit_head.proofs.apart.entry_no.Statement.{statement}

@@ -1,7 +1,7 @@
 -- `head_no`: by kinds. Assumes nothing.
 use mathlib.Core.Bool.{false}
 use mathlib.Core.List.{[]}
-use Rattle.base_limits.specs.Checks.{firstOf}
+use Rattle.base.specs.Checks.{firstOf}
 use Rattle.edit.specs.Checks.{ownChecks}
 use Rattle.edit_head.specs.Apart.{headChecks}
 use borrow.Author.Needs.{needs}

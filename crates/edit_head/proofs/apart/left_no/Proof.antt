@@ -4,7 +4,7 @@ use Prim.Native.Nat.{_≤_}
 use native.Mathlib.Omega.{arith}
 use lib.ListN.{length}
 use lib.Seq.{length-take-le}
-use Rattle.base_limits.specs.Checks.{firstOf}
+use Rattle.base.specs.Checks.{firstOf}
 use Rattle.edit_head.specs.Apart.{leftChecks, Markable, MarksFor}
 use borrow.Author.Needs.{needs}
 use Rattle.edit_head.proofs.apart.left_no.Statement.{statement}

@@ -2,7 +2,7 @@
 use mathlib.Core.Path.{_∙_}
 use borrow.Author.Needs.{needs}
 use mir.Syntax.{w16}
-use Rattle.base_ints.proofs.Back.{back}
+use Rattle.base.proofs.Back.{back}
 use Rattle.edit.specs.Change.{unpacked}
 use Rattle.edit_pixels.proofs.change.old_of.Statement.{statement}
 use Rattle.edit_pixels.proofs.change.old_of.Tie as tie

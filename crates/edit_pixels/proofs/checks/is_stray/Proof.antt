@@ -1,6 +1,6 @@
 -- `is_stray`: by the sign. Assumes nothing.
 use mir.Facts.{toZ-ofZ}
-use Rattle.base_ints.proofs.Back.{as-usize}
+use Rattle.base.proofs.Back.{as-usize}
 use Rattle.edit_pixels.proofs.Targets.{stray-negative, stray-natural}
 use Rattle.edit_pixels.proofs.checks.is_stray.Statement.{statement}
 use Rattle.edit_pixels.proofs.checks.is_stray.Tie as tie

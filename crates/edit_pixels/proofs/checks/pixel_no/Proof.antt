@@ -9,10 +9,10 @@ use borrow.Author.Needs.{needs}
 use lib.ListN.{length, getD}
 use lib.IntN.{pos}
 use mir.Syntax.{w16}
-use Rattle.base_limits.specs.Numbers.{stale}
-use Rattle.base_limits.specs.Checks.{_when_, firstOf}
-use Rattle.base_ints.specs.Ints.{eqZ}
-use Rattle.base_ints.proofs.Back.{back, by-result}
+use Rattle.base.specs.Numbers.{stale}
+use Rattle.base.specs.Checks.{_when_, firstOf}
+use Rattle.base.specs.Ints.{eqZ}
+use Rattle.base.proofs.Back.{back, by-result}
 use Rattle.sheet.specs.Sheet.{stray}
 use Rattle.edit.specs.Change.{unpacked, place, outside}
 use Rattle.edit.specs.Checks.{pixelChecks}

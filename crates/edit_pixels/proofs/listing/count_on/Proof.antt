@@ -8,8 +8,8 @@ use mir.Syntax.{w16}
 use mir.Val.{toZ, ofZ}
 use mir.Facts.{toZ-ofZ}
 use lib.ListN.{length, getD}
-use Rattle.base_ints.specs.Ints.{eqZ}
-use Rattle.base_ints.proofs.Back.{by-value}
+use Rattle.base.specs.Ints.{eqZ}
+use Rattle.base.proofs.Back.{by-value}
 use Rattle.edit_pixels.proofs.Places.{Counting, counting-none, counting-hit, counting-miss, counting-all}
 use Rattle.edit_pixels.proofs.listing.count_on.Statement.{statement}
 use Rattle.edit_pixels.proofs.listing.count_on.Tie as tie

@@ -9,8 +9,8 @@ use mir.Syntax.{w16}
 use mir.Val.{toZ, ofZ}
 use mir.Facts.{toZ-ofZ}
 use lib.ListN.{length, getD}
-use Rattle.base_ints.specs.Ints.{eqZ}
-use Rattle.base_ints.proofs.Back.{by-value}
+use Rattle.base.specs.Ints.{eqZ}
+use Rattle.base.proofs.Back.{by-value}
 use Rattle.edit_pixels.specs.Listing.{placesFrom}
 use Rattle.edit_pixels.proofs.Places.{Listing, listing-none, listing-room, listing-hit, listing-miss, listing-all, counting-all}
 use Rattle.edit_pixels.proofs.listing.list_row.Statement.{statement}

@@ -1,7 +1,7 @@
 -- `paint_new`: one store. Assumes nothing.
 use borrow.Author.Needs.{needs}
 use mir.Syntax.{w16}
-use Rattle.base_ints.proofs.Back.{back}
+use Rattle.base.proofs.Back.{back}
 use Rattle.edit_pixels.proofs.paint.paint_new.Statement.{statement}
 use Rattle.edit_pixels.proofs.paint.paint_new.Tie as tie
 

@@ -1,7 +1,7 @@
 -- `paint_old`: one store. Assumes nothing.
 use borrow.Author.Needs.{needs}
 use mir.Syntax.{w16}
-use Rattle.base_ints.proofs.Back.{back}
+use Rattle.base.proofs.Back.{back}
 use Rattle.edit_pixels.proofs.paint.paint_old.Statement.{statement}
 use Rattle.edit_pixels.proofs.paint.paint_old.Tie as tie
 

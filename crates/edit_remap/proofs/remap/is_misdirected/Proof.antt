@@ -3,7 +3,7 @@ use borrow.Author.Needs.{needs}
 use lib.IntN.{pos}
 use lib.ListN.{getD}
 use mir.Syntax.{w16}
-use Rattle.base_ints.proofs.Back.{back}
+use Rattle.base.proofs.Back.{back}
 use Rattle.edit.specs.Checks.{misdirected}
 use Rattle.edit_remap.proofs.remap.is_misdirected.Statement.{statement}
 use Rattle.edit_remap.proofs.remap.is_misdirected.Tie as tie

@@ -4,7 +4,7 @@ use mathlib.Core.Bool.{false}
 use Prim.Native.Nat.{_<_}
 use borrow.Author.Needs.{needs}
 use lib.ListN.{length}
-use Rattle.base_limits.specs.Checks.{firstOf}
+use Rattle.base.specs.Checks.{firstOf}
 use Rattle.edit.specs.Change.{unpacked, place, outside}
 use Rattle.edit.specs.Checks.{remapChecks}
 use Rattle.edit_pixels.proofs.Inside.{inside}

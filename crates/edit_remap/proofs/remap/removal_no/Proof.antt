@@ -2,8 +2,8 @@
 use mathlib.Core.Path.{_≡_, sym, _∙_}
 use mathlib.Core.List.{map, flatMap}
 use borrow.Author.Needs.{needs}
-use Rattle.base_limits.specs.Checks.{firstOf}
-use Rattle.base_limits.proofs.First.{first-here}
+use Rattle.base.specs.Checks.{firstOf}
+use Rattle.base.proofs.First.{first-here}
 use Rattle.edit.specs.Change.{unpacked}
 use Rattle.edit.specs.Checks.{remapChecks, leftFrom}
 use Rattle.edit_pixels.specs.Inside.{bare}

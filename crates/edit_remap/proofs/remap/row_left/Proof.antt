@@ -2,8 +2,8 @@
 use Prim.Native.Nat.{_≤_, _-_}
 use borrow.Author.Needs.{needs}
 use lib.ListN.{length}
-use Rattle.base_lists.specs.Lists.{range}
-use Rattle.base_lists.proofs.Scan.{Flagged}
+use Rattle.base.specs.Lists.{range}
+use Rattle.base.proofs.Scan.{Flagged}
 use Rattle.edit_pixels.specs.Inside.{leftAt}
 use Rattle.edit_remap.proofs.Left.{left-read, row-step, row-end}
 use Rattle.edit_remap.proofs.remap.row_left.Statement.{statement}

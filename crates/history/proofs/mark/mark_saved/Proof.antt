@@ -1,6 +1,6 @@
 -- `mark_saved`: 1 and 4, then the standing position is saved. Assumes nothing.
 use mathlib.Core.Path.{sym, _∙_}
-use Rattle.base_limits.proofs.First.{refused-first, result-first}
+use Rattle.base.proofs.First.{refused-first, result-first}
 use Rattle.history_ledger.specs.Journal.{markOf}
 use Rattle.history_ledger.specs.Calls.{refused}
 use borrow.Author.Needs.{needs}

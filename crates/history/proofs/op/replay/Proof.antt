@@ -2,9 +2,9 @@
 use mathlib.Core.Path.{_≡_, sym, ap, _∙_}
 use mathlib.Core.List.{map}
 use lib.ListN.{length}
-use Rattle.base_limits.specs.Checks.{firstOf}
-use Rattle.base_limits.specs.declared.Answer.the-variants.{Done}
-use Rattle.base_limits.proofs.First.{refused-first, result-first}
+use Rattle.base.specs.Checks.{firstOf}
+use Rattle.base.specs.declared.Answer.the-variants.{Done}
+use Rattle.base.proofs.First.{refused-first, result-first}
 use Rattle.sheet.specs.Sheet.{sheetOf}
 use Rattle.edit.specs.Change.{unpacked}
 use Rattle.edit.specs.Checks.{permittedOf}

@@ -4,8 +4,8 @@ use mathlib.Core.List.{map}
 use Prim.Native.Nat.{_≤_}
 use native.Mathlib.Omega.{arith}
 use lib.ListN.{length, length-map}
-use Rattle.base_limits.specs.Limits.{maxChanges}
-use Rattle.base_limits.specs.Checks.{firstOf}
+use Rattle.base.specs.Limits.{maxChanges}
+use Rattle.base.specs.Checks.{firstOf}
 use Rattle.sheet.specs.Sheet.{sheetOf}
 use Rattle.sheet.specs.Checks.{permittedChecks, WellFormed}
 use Rattle.edit.specs.Change.{unpacked}

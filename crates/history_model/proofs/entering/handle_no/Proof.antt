@@ -1,6 +1,6 @@
 -- `handle_no`: 1, then 4. Assumes nothing.
 use borrow.Author.Tests.{lt-ltb, le-ltb}
-use Rattle.base_limits.specs.Checks.{firstOf}
+use Rattle.base.specs.Checks.{firstOf}
 use borrow.Author.Needs.{needs}
 use Rattle.history_model.proofs.entering.handle_no.Statement.{statement}
 use Rattle.history_model.proofs.entering.handle_no.Tie as tie

@@ -1,7 +1,7 @@
 -- `ask`: 1 and 4, then the answer. Assumes nothing.
 use mathlib.Core.Path.{sym, _∙_}
-use Rattle.base_limits.proofs.First.{refused-first, result-first}
-use Rattle.history_queries.specs.declared.Truth.the-variants as truth
+use Rattle.base.proofs.First.{refused-first, result-first}
+use Rattle.base.specs.Answer.Told.{alone}
 use Rattle.history_queries.specs.Looks.{asked}
 use borrow.Author.Needs.{needs}
 use Rattle.history_queries.proofs.questions.ask.Statement.{statement}
@@ -12,11 +12,11 @@ handle-no-requires c κs = search needs
 
 returns : tie.Need-returns
 unfolding asked
-returns c = refused-first _ truth.Refused _ _ (c .before .handle-no .ensures) (c .if1 .taken)
+returns c = refused-first _ alone _ _ (c .before .handle-no .ensures) (c .if1 .taken)
 
 returns-2 : tie.Need-returns-2
 unfolding asked
-returns-2 c = result-first _ truth.Refused _ (sym (c .before .handle-no .ensures) ∙ c .if1 .left)
+returns-2 c = result-first _ alone _ (sym (c .before .handle-no .ensures) ∙ c .if1 .left)
 
 pub ask-spec : {M : Type 1} → statement M
 ask-spec = tie.close (tie.spec handle-no-requires returns returns-2)

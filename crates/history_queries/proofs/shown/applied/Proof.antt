@@ -2,7 +2,7 @@
 use mathlib.Core.Path.{_≡_, sym, ap, _∙_}
 use native.Mathlib.Omega.{arith}
 use lib.ListN.{length}
-use Rattle.base_limits.specs.Checks.{firstOf}
+use Rattle.base.specs.Checks.{firstOf}
 use Rattle.history_model.specs.Calls.{handleChecks}
 use Rattle.history_queries.specs.Looks.{shownAfter}
 use Rattle.history_queries.proofs.NextShown.{applied-refused, applied-nothing, applied-after}

@@ -1,4 +1,8 @@
 -- `record_at`: the edit, and where its changes lie. Assumes nothing.
+use mathlib.Core.Path.{ap}
+use Prim.Native.Nat.{_+_, _-_, _*_}
+use Rattle.base.specs.declared.Edit.{Edit}
+use Rattle.history_queries.specs.Looks.{shows}
 use Rattle.history_queries.proofs.NextFound.{lies-bare}
 use borrow.Author.Needs.{needs}
 use Rattle.history_queries.proofs.shown.record_at.Statement.{statement}
@@ -20,7 +24,9 @@ sub-list-2 : tie.Need-sub-list-2
 sub-list-2 c = search needs
 
 returns : tie.Need-returns
-returns c = search needs
+returns c =
+    let a = c .before .before .args in
+    ap (λ (e : Edit). shows e (a .start) (a .n) (a .start + a .n - 4 - 8 * a .count) (a .count)) (c .edit-at .ensures)
 
 pub record-at-spec : {M : Type 1} → statement M
 record-at-spec =

@@ -1,5 +1,6 @@
 -- `shown_after`: what is left to step says what the whole says. Assumes nothing.
 use mathlib.Core.Path.{_≡_, refl, sym, ap, _∙_}
+use Rattle.base.specs.Answer.{nextTold}
 use Rattle.history_queries.specs.Looks.{shownAfter}
 use Rattle.history_queries.proofs.NextShown.{after-none, after-record, after-nothing, after-refused}
 use Rattle.history_queries.proofs.NextTold.{redo-told}
@@ -23,7 +24,7 @@ enum-known-length : tie.Need-enum-known-length Inv-loop μ-loop
 enum-known-length c = search needs
 
 stepped-forth-requires : tie.Need-stepped-forth-requires Inv-loop μ-loop
-stepped-forth-requires c κs = let t = redo-told _ _ (sym (c .before .before .before .next-redo .ensures) ∙ c .before .length .given .1) in (t .ends, t .left)
+stepped-forth-requires c κs = let t = redo-told _ _ (sym (c .before .before .before .next-redo .ensures) ∙ ap nextTold (c .before .length .given .1)) in (t .ends, t .left)
 
 enum-told : tie.Need-enum-told Inv-loop μ-loop
 enum-told c = search needs

@@ -3,8 +3,8 @@ use borrow.Author.Needs.{needs}
 use mathlib.Core.Path.{refl}
 use Prim.Native.Nat.{_-_}
 use mir.Syntax.{w16}
-use Rattle.base_ints.proofs.Back.{by-result}
-use Rattle.base_lists.proofs.Scan.{Flagged}
+use Rattle.base.proofs.Back.{by-result}
+use Rattle.base.proofs.Scan.{Flagged}
 use Rattle.sheet.specs.Sheet.{stray}
 use Rattle.edit.specs.Change.{unpacked, oldOf}
 use Rattle.journal_read.proofs.Numbers.{numbersIn, flag-next-in, flag-all-in}

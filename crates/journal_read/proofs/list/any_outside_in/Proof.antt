@@ -2,7 +2,7 @@
 use borrow.Author.Needs.{needs}
 use mathlib.Core.Path.{refl}
 use Prim.Native.Nat.{_-_}
-use Rattle.base_lists.proofs.Scan.{Flagged}
+use Rattle.base.proofs.Scan.{Flagged}
 use Rattle.edit.specs.Change.{unpacked, outside}
 use Rattle.journal_read.proofs.Numbers.{numbersIn, flag-next-in, flag-all-in}
 use Rattle.journal_read.proofs.list.any_outside_in.Statement.{statement}

@@ -1,8 +1,8 @@
 -- `removal_no_in`: the changes, then the pixels that are left. Assumes nothing.
 use mathlib.Core.Path.{_≡_, sym, _∙_}
 use mathlib.Core.List.{flatMap}
-use Rattle.base_limits.specs.Checks.{firstOf}
-use Rattle.base_limits.proofs.First.{first-here}
+use Rattle.base.specs.Checks.{firstOf}
+use Rattle.base.proofs.First.{first-here}
 use Rattle.edit.specs.Checks.{remapChecks, leftFrom}
 use Rattle.edit_pixels.specs.Inside.{bare}
 use Rattle.edit_pixels.proofs.Inside.{none-past}

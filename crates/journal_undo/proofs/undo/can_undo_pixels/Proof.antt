@@ -3,7 +3,7 @@ use borrow.Author.Needs.{needs}
 use mathlib.Core.Path.{_≡_, refl, sym, _∙_}
 use mathlib.Core.Bool.{false}
 use native.Mathlib.Omega.{arith}
-use Rattle.base_lists.specs.Lists.{some}
+use Rattle.base.specs.Lists.{some}
 use Rattle.edit.specs.Change.{outside}
 use Rattle.edit_pixels.proofs.Inside.{none-past}
 use Rattle.journal_record.specs.Record.{changesIn}

@@ -1,8 +1,8 @@
 -- `check_color`: 1, then 10. Assumes nothing.
 use mathlib.Core.Path.{sym, _∙_}
 use borrow.Author.Needs.{needs}
-use Rattle.base_limits.specs.Checks.{firstOf, refusedOr}
-use Rattle.base_limits.proofs.First.{first-past, first-here, refused-first}
+use Rattle.base.specs.Checks.{firstOf, refusedOr}
+use Rattle.base.proofs.First.{first-past, first-here, refused-first}
 use Rattle.palette.specs.Colours.{checkColorOf}
 use Rattle.palette.proofs.colours.check_color.Statement.{statement}
 use Rattle.palette.proofs.colours.check_color.Tie as tie

@@ -4,7 +4,7 @@ use Prim.Native.Nat.{_≤_, _-_}
 use native.Mathlib.Omega.{arith}
 use borrow.Author.Needs.{needs}
 use lib.ListN.{length}
-use Rattle.base_lists.specs.Lists.{over}
+use Rattle.base.specs.Lists.{over}
 use Rattle.palette.specs.Colours.{usedOf}
 use Rattle.palette.proofs.Used.{used-none, used-next, used-all}
 use Rattle.palette.proofs.colours.mark_used.Statement.{statement}

@@ -220,7 +220,7 @@ same-length-34 c = search needs
 
 returns-8 : tie.Need-returns-8
 unfolding callOf
-returns-8 c = rw (c .before .before .enum-told4 .given .1) (leaves-marked _ _ _ _ _ _ _ _ _ (c .mark .ensures))
+returns-8 c = rw (c .before .before .enum-told4 .given .1) (leaves-marked (c .mark .result) _ _ _ _ _ _ _ _ (c .mark .ensures))
 
 returns-9 : tie.Need-returns-9
 unfolding callOf

@@ -13,10 +13,10 @@ use Rattle.panel_console.proofs.reads.answer_reads.Statement.{statement
 use Rattle.panel_console.proofs.reads.answer_reads.Tie as tie
 
 abbrev Inv-loop : tie.InvT-loop
-Inv-loop palette₀ lab₀ indices₀ journal₀ line₀ chunk₀ bytes₀ list₀ out₀ s₀ reads₀ heard₀ said₀ last₀ palette lab indices journal line chunk bytes list out s reads heard said last = Fits (s .core) (length palette) (length lab) (length indices) (length journal) (length bytes) (length list) × Holds s (length line) × (length out ≡ 65536) × (length chunk ≡ 4096) × (reads ≤ 18446744073709551615) × Heard (panelIn (s₀ .core) palette₀ lab₀ indices₀ journal₀) (take (s₀ .len) line₀) (panelIn (s .core) palette lab indices journal) (take (s .len) line) heard said
+Inv-loop palette₀ lab₀ indices₀ journal₀ line₀ chunk₀ bytes₀ list₀ out₀ input s₀ reads₀ heard₀ said₀ last₀ palette lab indices journal line chunk bytes list out s reads heard said last = Fits (s .core) (length palette) (length lab) (length indices) (length journal) (length bytes) (length list) × Holds s (length line) × (length out ≡ 65536) × (length chunk ≡ 4096) × (reads ≤ 18446744073709551615) × Heard (panelIn (s₀ .core) palette₀ lab₀ indices₀ journal₀) (take (s₀ .len) line₀) (panelIn (s .core) palette lab indices journal) (take (s .len) line) heard said
 
 abbrev μ-loop : tie.MeasureT-loop
-μ-loop palette₀ lab₀ indices₀ journal₀ line₀ chunk₀ bytes₀ list₀ out₀ s₀ reads₀ heard₀ said₀ last₀ palette lab indices journal line chunk bytes list out s reads heard said last = 18446744073709551615 - reads
+μ-loop palette₀ lab₀ indices₀ journal₀ line₀ chunk₀ bytes₀ list₀ out₀ input s₀ reads₀ heard₀ said₀ last₀ palette lab indices journal line chunk bytes list out s reads heard said last = 18446744073709551615 - reads
 
 loop-holds : tie.Need-loop-holds Inv-loop μ-loop
 loop-holds c = let p = c .before .before .before .before .before .before .before .before .pre in (p .0, p .1 .0, p .1 .1, p .1 .2, omega arith, heard-none _ _)

@@ -1,5 +1,5 @@
 -- `take_indices`: the first i are copied. Assumes nothing.
-use Rattle.base_ints.proofs.Back.{back}
+use Rattle.base.proofs.Back.{back}
 use mir.Syntax.{w16}
 use Rattle.panel_frames.proofs.Filling.{Filling, filling-none, filling-next, filling-all}
 use Rattle.panel_frames.specs.Reading.{indexOf}

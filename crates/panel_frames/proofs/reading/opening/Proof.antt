@@ -1,4 +1,4 @@
--- `panel_open`: the length decides. Assumes nothing.
+-- `opening`: the length decides. Assumes nothing.
 use Rattle.panel_frames.specs.Reading.{openingOf}
 use borrow.Author.Tests.{lt-ltb, le-ltb, eq-eqb, ne-eqb}
 use native.Mathlib.Nat.{mul-le-mul}

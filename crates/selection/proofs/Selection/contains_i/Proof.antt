@@ -3,9 +3,9 @@ use mathlib.Core.Path.{_≡_, sym, _∙_}
 use mathlib.Core.Bool.{false}
 use borrow.Author.Needs.{needs}
 use mir.Facts.{toZ-ofZ}
-use Rattle.base_limits.specs.Checks.{firstOf, refusedOr}
-use Rattle.base_ints.specs.Ints.{fromZero}
-use Rattle.base_ints.proofs.Back.{by-value, by-values}
+use Rattle.base.specs.Checks.{firstOf, refusedOr}
+use Rattle.base.specs.Ints.{fromZero}
+use Rattle.base.proofs.Back.{by-value, by-values}
 use Rattle.selection.specs.Selection.{contains, containsI}
 use Rattle.selection.specs.Calls.{farAway, containsIOf}
 use Rattle.selection.proofs.Pointer.{left-of, above, unsigned}

@@ -1,9 +1,10 @@
 -- `from_corners`: each test is the check in its place, and past them the clipped spans are the Rust's. Assumes nothing.
-use mathlib.Core.Path.{_≡_, sym, _∙_}
+use mathlib.Core.Path.{_≡_, sym, ap, _∙_}
 use mathlib.Core.Bool.{false}
 use borrow.Author.Needs.{needs}
-use Rattle.base_limits.specs.Checks.{firstOf, refusedOr}
-use Rattle.base_ints.proofs.Back.{by-values}
+use Rattle.base.specs.Checks.{firstOf, refusedOr}
+use Rattle.base.specs.Answer.Told.{result}
+use Rattle.base.proofs.Back.{by-values}
 use Rattle.selection_spans.specs.Spans.{between}
 use Rattle.selection.specs.Calls.{tooLarge, farAway, cornerChecks, fromCornersOf}
 use Rattle.selection.proofs.Checks.{sides}
@@ -71,7 +72,7 @@ returns-4 : tie.Need-returns-4
 unfolding fromCornersOf cornerChecks firstOf refusedOr
 returns-4 c =
     let made = clipped _ _ _ _ _ _ (x-is (c .before .before)) (y-is (c .before)) in
-    rw (sized (c .before .before .before .before .before .before .before), near-a (c .before .before .before .before .before), near-b (c .before .before .before)) (c .clip .ensures ∙ made)
+    rw (sized (c .before .before .before .before .before .before .before), near-a (c .before .before .before .before .before), near-b (c .before .before .before)) (c .clip .ensures ∙ ap result made)
 
 pub from-corners-spec : {M : Type 1} → statement M
 from-corners-spec =

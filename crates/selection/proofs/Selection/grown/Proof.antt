@@ -5,8 +5,10 @@ use Prim.Native.Nat.{_<_, _^_}
 use native.Mathlib.Omega.{arith}
 use borrow.Author.Needs.{needs}
 use borrow.Author.Tests.{lt-ltb, le-ltb}
-use Rattle.base_limits.specs.Checks.{firstOf, refusedOr}
-use Rattle.selection.specs.declared.Chosen.the-variants.{Part}
+use Rattle.base.specs.Checks.{firstOf, refusedOr}
+use mathlib.Core.Option.{some}
+use Rattle.base.specs.Answer.Told.{result}
+use Rattle.selection.specs.declared.Selection.{Selection}
 use Rattle.selection.specs.Selection.{grown, inside}
 use Rattle.selection.specs.Calls.{tooLarge, marginChecks, grownOf}
 use Rattle.selection.proofs.Checks.{sides}
@@ -58,7 +60,7 @@ made c = rw (c .before .before .widened .ensures, c .before .widened2 .ensures) 
 
 returns-4 : tie.Need-returns-4
 unfolding grownOf marginChecks firstOf refusedOr
-returns-4 c = rw (sized (c .before .before .before .before .before .before), le-ltb _ _ (c .before .before .before .before .before .if2 .left), ← c .before .before .before .before .inside .ensures, c .before .before .before .if3 .left) (ap Part (made c))
+returns-4 c = rw (sized (c .before .before .before .before .before .before), le-ltb _ _ (c .before .before .before .before .before .if2 .left), ← c .before .before .before .before .inside .ensures, c .before .before .before .if3 .left) (ap (λ (s : Selection). result (some s)) (made c))
 
 pub grown-spec : {M : Type 1} → statement M
 grown-spec =

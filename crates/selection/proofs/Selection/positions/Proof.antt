@@ -4,7 +4,7 @@ use native.Mathlib.Nat.{mul-le-mul}
 use native.Mathlib.Omega.{arith}
 use borrow.Author.Needs.{needs}
 use borrow.Author.Tests.{lt-ltb, le-ltb}
-use Rattle.base_limits.specs.Checks.{firstOf, refusedOr}
+use Rattle.base.specs.Checks.{firstOf, refusedOr}
 use Rattle.selection.specs.Selection.{positions}
 use Rattle.selection.specs.Calls.{positionsOf}
 use Rattle.selection.proofs.Rows.{length-positions}

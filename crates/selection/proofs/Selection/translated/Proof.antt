@@ -1,10 +1,11 @@
 -- `translated`: each test is the check in its place, and past them the moved spans are the Rust's. Assumes nothing.
-use mathlib.Core.Path.{_≡_, sym, _∙_}
+use mathlib.Core.Path.{_≡_, sym, ap, _∙_}
 use mathlib.Core.Bool.{false}
 use borrow.Author.Needs.{needs}
 use mir.Facts.{toZ-ofZ}
-use Rattle.base_limits.specs.Checks.{firstOf, refusedOr}
-use Rattle.base_ints.proofs.Back.{by-value, by-values}
+use Rattle.base.specs.Checks.{firstOf, refusedOr}
+use Rattle.base.specs.Answer.Told.{result}
+use Rattle.base.proofs.Back.{by-value, by-values}
 use Rattle.selection_spans.specs.Spans.{moved}
 use Rattle.selection.specs.Selection.{translated}
 use Rattle.selection.specs.Calls.{tooLarge, farAway, shiftChecks, translatedOf}
@@ -67,7 +68,7 @@ returns-4 : tie.Need-returns-4
 unfolding translatedOf shiftChecks translated firstOf refusedOr
 returns-4 c =
     let made = clipped _ _ _ _ _ _ (x-is (c .before .before)) (y-is (c .before)) in
-    rw (sized (c .before .before .before .before .before .before .before), close (c .before .before .before .before .before), ← c .before .before .before .before .inside .ensures, c .before .before .before .if3 .left) (c .clip .ensures ∙ made)
+    rw (sized (c .before .before .before .before .before .before .before), close (c .before .before .before .before .before), ← c .before .before .before .before .inside .ensures, c .before .before .before .if3 .left) (c .clip .ensures ∙ ap result made)
 
 pub translated-spec : {M : Type 1} → statement M
 translated-spec =

@@ -7,8 +7,8 @@ use lib.ListN.{length, getD}
 use mir.Syntax.{w16}
 use mir.Val.{toZ, ofZ}
 use mir.Facts.{toZ-ofZ}
-use Rattle.base_lists.proofs.Scan.{Flagged, flag-step, flag-end}
-use Rattle.base_ints.proofs.Back.{back}
+use Rattle.base.proofs.Scan.{Flagged, flag-step, flag-end}
+use Rattle.base.proofs.Back.{back}
 use Rattle.sheet.specs.Sheet.{strayZ}
 use Rattle.sheet.proofs.checks.any_stray_below.Statement.{statement}
 use Rattle.sheet.proofs.checks.any_stray_below.Tie as tie

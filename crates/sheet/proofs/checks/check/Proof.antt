@@ -4,7 +4,7 @@ use native.Mathlib.Omega.{arith}
 use borrow.Author.Needs.{needs}
 use lib.Seq.{length-take-le}
 use mathlib.Core.Bool.{false}
-use Rattle.base_lists.specs.Lists.{some}
+use Rattle.base.specs.Lists.{some}
 use Rattle.sheet.specs.Sheet.{sheetOf, stray}
 use Rattle.sheet.specs.Checks.{Limits}
 use Rattle.sheet.proofs.Judging.{judged-limits, judged-index, judged-lab, judged-fine}

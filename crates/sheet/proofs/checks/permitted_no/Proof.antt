@@ -1,7 +1,7 @@
 -- `permitted_no`: the tests are the definition's. Assumes nothing.
 use borrow.Author.Needs.{needs}
 use borrow.Author.Tests.{le-ltb, lt-ltb, eq-eqb, ne-eqb, not-true, not-false}
-use Rattle.base_limits.specs.Checks.{firstOf}
+use Rattle.base.specs.Checks.{firstOf}
 use Rattle.sheet.specs.Checks.{permittedChecks}
 use Rattle.sheet.proofs.checks.permitted_no.Statement.{statement}
 use Rattle.sheet.proofs.checks.permitted_no.Tie as tie

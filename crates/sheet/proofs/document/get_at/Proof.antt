@@ -2,8 +2,8 @@
 use mathlib.Core.Path.{_≡_, sym}
 use borrow.Author.Needs.{needs}
 use mir.Facts.{toZ-ofZ}
-use Rattle.base_limits.specs.Checks.{firstOf, refusedOr}
-use Rattle.base_ints.specs.Ints.{far}
+use Rattle.base.specs.Checks.{firstOf, refusedOr}
+use Rattle.base.specs.Ints.{far}
 use Rattle.sheet.specs.Sheet.{sheetOf}
 use Rattle.sheet.specs.Checks.{WellFormed}
 use Rattle.sheet.specs.Document.{getAtOf}

@@ -3,13 +3,14 @@ use mathlib.Core.Path.{_≡_, ap, _∙_}
 use Prim.Native.Nat.{_+_, _*_, _<_}
 use native.Mathlib.Omega.{arith}
 use borrow.Author.Needs.{needs}
-use lib.IntN.{pos}
+use lib.IntN.{ℤ, pos}
 use lib.ListN.{length, getD}
 use mir.Syntax.{w16}
 use mir.Facts.{toZ-ofZ}
-use Rattle.base_ints.specs.Ints.{onAxis}
-use Rattle.base_ints.proofs.Back.{back}
-use Rattle.sheet.specs.declared.Got.the-variants.{Index}
+use Rattle.base.specs.Ints.{onAxis}
+use Rattle.base.proofs.Back.{back}
+use mathlib.Core.Option.{some}
+use Rattle.base.specs.Answer.Told.{result}
 use Rattle.sheet.proofs.Places.{place, index-inside, off-column, off-row}
 use Rattle.sheet.proofs.document.index_at.Statement.{statement}
 use Rattle.sheet.proofs.document.index_at.Tie as tie
@@ -46,14 +47,14 @@ shared-slice-copy-out-t14 c = here c
 returns : tie.Need-returns
 returns c =
     let at = c .before .before .before in
-    ap Index (back w16 (getD (c .before .before .before .before .before .args .indices .now) (c .before .before .before .on-axis2 .result * c .before .before .before .before .before .args .w + c .before .before .before .before .on-axis .result) (pos 0)) (c .t14 .given))
-    ∙ index-inside _ _ _ _ _ _ _ (column at) (row at) (c .before .before .if1 .taken) (c .before .if2 .taken)
+    ap (λ (z : ℤ). result (some z)) (back w16 (getD (c .before .before .before .before .before .args .indices .now) (c .before .before .before .on-axis2 .result * c .before .before .before .before .before .args .w + c .before .before .before .before .on-axis .result) (pos 0)) (c .t14 .given))
+    ∙ ap result (index-inside _ _ _ _ _ _ _ (column at) (row at) (c .before .before .if1 .taken) (c .before .if2 .taken))
 
 returns-2 : tie.Need-returns-2
-returns-2 c = off-row _ _ _ _ _ (rw (row (c .before .before)) at (c .if2 .left))
+returns-2 c = ap result (off-row _ _ _ _ _ (rw (row (c .before .before)) at (c .if2 .left)))
 
 returns-3 : tie.Need-returns-3
-returns-3 c = off-column _ _ _ _ _ (rw (column (c .before)) at (c .if1 .left))
+returns-3 c = ap result (off-column _ _ _ _ _ (rw (column (c .before)) at (c .if1 .left)))
 
 pub index-at-spec : {M : Type 1} → statement M
 index-at-spec =

@@ -1,7 +1,7 @@
 -- `with_lab`: what `check` finds. Assumes nothing.
 use mathlib.Core.Path.{sym, _∙_}
 use borrow.Author.Needs.{needs}
-use Rattle.base_limits.proofs.First.{refused-first, result-first}
+use Rattle.base.proofs.First.{refused-first, result-first}
 use Rattle.sheet.specs.Document.{withLabOf}
 use Rattle.sheet.proofs.document.with_lab.Statement.{statement}
 use Rattle.sheet.proofs.document.with_lab.Tie as tie

@@ -7,10 +7,10 @@ use lib.IntN.{pos}
 use lib.ListN.{length, drop, getD}
 use mir.Syntax.{w16}
 use mir.Val.{toZ, ofZ}
-use Rattle.base_ints.proofs.Back.{back}
+use Rattle.base.proofs.Back.{back}
 use Rattle.sheet.specs.Sheet.{stray}
 use Rattle.sheet.proofs.Pixels.{read-none}
-use Rattle.base_lists.proofs.Over.{over-is}
+use Rattle.base.proofs.Over.{over-is}
 use Rattle.sheet_counts.proofs.Totals.{counts-length}
 use Rattle.sheet_counts.proofs.Turns.{Counted, counted-none, counted-room, counted-next, counted-all}
 use Rattle.sheet_counts.proofs.counting.count_entries.Statement.{statement}

@@ -5,7 +5,7 @@ use lib.IntN.{natAbs}
 use mir.Syntax.{w16}
 use mir.Val.{toZ, ofZ}
 use mir.Facts.{toZ-ofZ}
-use Rattle.base_ints.proofs.Back.{as-usize}
+use Rattle.base.proofs.Back.{as-usize}
 use Rattle.sheet_counts.proofs.Turns.{Entry, entry-read, none-counted}
 use Rattle.sheet_counts.proofs.counting.count_one.Statement.{statement}
 use Rattle.sheet_counts.proofs.counting.count_one.Tie as tie

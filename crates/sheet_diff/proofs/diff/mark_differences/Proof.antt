@@ -8,11 +8,11 @@ use lib.IntN.{pos}
 use lib.ListN.{length, getD}
 use mir.Syntax.{w16}
 use mir.Val.{toZ, ofZ}
-use Rattle.base_ints.proofs.Back.{back}
+use Rattle.base.proofs.Back.{back}
 use Rattle.sheet.specs.Sheet.{stray}
 use Rattle.sheet.proofs.Pixels.{read-none}
 use Rattle.sheet_diff.proofs.Shades.{marked}
-use Rattle.base_lists.proofs.Over.{over-is}
+use Rattle.base.proofs.Over.{over-is}
 use Rattle.sheet_diff.proofs.Mask.{mask-length, Masked, masked-none, masked-next, masked-all}
 use Rattle.sheet_diff.proofs.diff.mark_differences.Statement.{statement}
 use Rattle.sheet_diff.proofs.diff.mark_differences.Tie as tie

@@ -7,7 +7,7 @@ use borrow.Author.Needs.{needs}
 use mir.Syntax.{w16}
 use mir.Val.{hbits}
 use mir.Facts.{toZ-pos}
-use Rattle.base_lists.specs.Lists.{some}
+use Rattle.base.specs.Lists.{some}
 use Rattle.sheet.specs.Sheet.{stray}
 use Rattle.sheet.proofs.Strays.{some-stray}
 use Rattle.sheet_diff.specs.Mask.{baselineOf}

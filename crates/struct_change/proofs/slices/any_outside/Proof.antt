@@ -48,13 +48,13 @@ use denote.Triple.Call.{calls-at}
 use denote.Triple.Clauses.{ensured, lasts}
 use denote.Triple.Table.{entered, cited}
 use denote.Triple.Walked.{says, needs, Stays, stay-none-slice, stay-none, walkOf, Walks, ends-at, walked, goes-none-slice, goes-none, walk-meets}
-use Rattle.base_lists.specs.Lists as lists
+use Rattle.base.specs.Lists as lists
 use Rattle.edit.specs.Change.{outside, unpacked}
-use Rattle.struct_change.specs.declared.Change.{Change}
+use Rattle.base.specs.declared.Change.{Change}
 use Rattle.struct_change.specs.Struct.{packedOf}
 use Rattle.struct_change.proofs.Loops.{none, Off, off-none, off-next, off-all}
-use Rattle.struct_change.proofs.Change as T
-use Rattle.struct_change.proofs.Change.Laws as T′
+use Rattle.base.proofs.Change as T
+use Rattle.base.proofs.Change.Laws as T′
 use Rattle.struct_change.proofs.While.{tests}
 use Rattle.struct_change.proofs.slices.or_outside as one
 use Rattle.struct_change.proofs.slices.or_outside.Symbol as one-def

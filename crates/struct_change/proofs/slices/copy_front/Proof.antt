@@ -45,11 +45,11 @@ use denote.Steps.{nothing, owned}
 use denote.Triple.Spec.{Meets, tripleOf}
 use denote.Triple.Table.{entered}
 use denote.Triple.Walked.{says, needs, Stays, stay-none-slice, stay-slice, stay-none, walkOf, Walks, ends-at, walked, goes-none-slice, goes-slice, goes-none, walk-meets}
-use Rattle.struct_change.specs.declared.Change.{Change}
+use Rattle.base.specs.declared.Change.{Change}
 use Rattle.struct_change.specs.Struct.{packedOf}
 use Rattle.struct_change.proofs.Loops.{none, copies, copies-length, copies-over}
-use Rattle.struct_change.proofs.Change as T
-use Rattle.struct_change.proofs.Change.Laws as T′
+use Rattle.base.proofs.Change as T
+use Rattle.base.proofs.Change.Laws as T′
 use Rattle.struct_change.proofs.While.{tests}
 use Rattle.struct_change.proofs.slices.copy_front.Key.{name as #struct_change·copy-front}
 use Rattle.struct_change.proofs.slices.copy_front as f

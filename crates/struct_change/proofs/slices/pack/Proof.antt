@@ -49,11 +49,11 @@ use denote.Triple.Call.{calls-at}
 use denote.Triple.Clauses.{ensured, lasts}
 use denote.Triple.Table.{entered, cited}
 use denote.Triple.Walked.{says, needs, Stays, stay-none-slice, stay-slice, stay-none, walkOf, Walks, ends-at, walked, goes-none-slice, goes-slice, goes-none, walk-meets}
-use Rattle.struct_change.specs.declared.Change.{Change}
+use Rattle.base.specs.declared.Change.{Change}
 use Rattle.struct_change.specs.Struct.{packedOf}
 use Rattle.struct_change.proofs.Loops.{none, packs, packs-length, packs-over}
-use Rattle.struct_change.proofs.Change as T
-use Rattle.struct_change.proofs.Change.Laws as T′
+use Rattle.base.proofs.Change as T
+use Rattle.base.proofs.Change.Laws as T′
 use Rattle.struct_change.proofs.While.{tests}
 use Rattle.struct_change.proofs.packed as one
 use Rattle.struct_change.proofs.packed.Symbol as one-def

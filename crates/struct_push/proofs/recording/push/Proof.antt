@@ -1,5 +1,6 @@
--- `push` meets its contract: a walk of its MIR, by hand. The borrows of palette count and handle are opened and both copied out; sheet and journal are lent as `&` for the checks and then given. All that the proof knows of the functions that it calls is that they
--- meet their contracts. Assumes nothing.
+-- Written by tools/walks; do not edit.
+-- `struct_push::push` meets its contract: a walk of its MIR, by hand. The borrows of palette count and handle are opened and both copied out; sheet and journal are lent as `&` for the checks and then given.
+-- All that the proof knows of the functions that it calls is that they meet their contracts. Assumes nothing.
 use mathlib.Core.Path.{_≡_, refl, ap, _∙_}
 use mathlib.Core.Bool.{Bool, false}
 use Prim.Native.Nat.{ℕ, _<_, _^_}
@@ -44,30 +45,29 @@ use denote.Triple.Clauses.{ensured, lasts}
 use denote.Triple.Table.{entered, cited}
 use denote.Triple.Walked.{says, Stays, stay-ref, stay-slice, gave-slice, stay-none-slice, stay-none, walkOf, goes-ref, goes-slice, goes-gave-slice, goes-none-slice, goes-none, Walks, ends-at, walked, walk-meets}
 use denote.Exit.{yes}
-use Rattle.edit.specs.declared.Edit.{Edit}
-use Rattle.edit.proofs.Edit as Edit-T
-use Rattle.edit.proofs.Edit.Laws as Edit-T′
-use Rattle.struct_change.specs.declared.Change.{Change}
-use Rattle.struct_change.proofs.Change as Change-T
-use Rattle.struct_change.proofs.Change.Laws as Change-T′
 use Rattle.struct_change.proofs.Lending.{LentAgain, LentShared, lend-mut, back-mut, lend-shr, back-shr}
-use Rattle.history_ledger.specs.declared.Handle.{Handle}
-use Rattle.history_ledger.proofs.Handle as Handle-T
-use Rattle.history_ledger.proofs.Handle.Laws as Handle-T′
-use Rattle.history_model.specs.declared.Moved.{Moved}
-use Rattle.history_model.proofs.Moved as Moved-T
-use Rattle.history_model.proofs.Moved.Laws as Moved-T′
-use Rattle.base_limits.specs.declared.Answer.{Answer}
-use Rattle.base_limits.proofs.Answer as Answer-T
-use Rattle.base_limits.proofs.Answer.Laws as Answer-T′
+use Rattle.base.specs.declared.Edit.{Edit}
+use Rattle.base.proofs.Edit as Edit-T
+use Rattle.base.proofs.Edit.Laws as Edit-T′
+use Rattle.base.specs.declared.Change.{Change}
+use Rattle.base.proofs.Change as Change-T
+use Rattle.base.specs.declared.Handle.{Handle}
+use Rattle.base.proofs.Handle as Handle-T
+use Rattle.base.proofs.Handle.Laws as Handle-T′
+use Rattle.base.specs.declared.Moved.{Moved}
+use Rattle.base.proofs.Moved as Moved-T
+use Rattle.base.proofs.Moved.Laws as Moved-T′
+use Rattle.base.specs.declared.Answer.{Answer}
+use Rattle.base.proofs.Answer as Answer-T
+use Rattle.base.proofs.Answer.Laws as Answer-T′
 use Rattle.sheet.specs.Sheet.{sheetOf}
 use Rattle.edit.specs.Apply.{noPixels}
-use Rattle.struct_edit.specs.Walk.{packedAll, toldAll}
+use Rattle.struct_edit.specs.Walk.{packedAll, flatAll}
 use Rattle.history_ledger.specs.Journal.{pushOf, pushed}
 use Rattle.history_model.specs.Editing.{givenOf, editing}
 use Rattle.history_model.specs.Calls.{stateOf, leaves, Standing, Acceptable}
-use Rattle.struct_push.specs.Lent.{left}
-use Rattle.struct_replay.specs.Phases.{Numbered, pushedOr}
+use Rattle.struct_push.specs.Lent.{leavesLent}
+use Rattle.struct_replay.specs.Phases.{PushNumbered, pushedOr}
 use Rattle.struct_push.proofs.Pushed.{push-is}
 use Rattle.struct_push_checks.proofs.push_no as Numbering-f
 use Rattle.struct_push_checks.proofs.push_no.Symbol as Numbering-def
@@ -115,7 +115,7 @@ module _ {M : Type 1} (𝓤 : URA M) (H : Heap 𝓤) (A : Atoms 𝓤) (W : Given
   to₁ count palette-ν palette-δ palette-now lab-ν lab-δ lab-now indices-ν indices-δ indices-now journal-ν journal-δ journal-now held scratch-ν scratch-δ scratch-now = (((palette-ν ∷ [], (lab-ν ∷ [], (indices-ν ∷ [], (κ₄, (κ₅, (journal-ν ∷ [], (scratch-ν ∷ [], tt))))))), (fullShare, (fullShare, (fullShare, (q₄, (q₅, (fullShare, (fullShare, tt))))))), tt, passed₁ count palette-ν palette-δ palette-now lab-ν lab-δ lab-now indices-ν indices-δ indices-now journal-ν journal-δ journal-now held scratch-ν scratch-δ scratch-now, (vint w64 w ∷ [], (vint w64 h ∷ [], (vint w64 count ∷ [], (sliceVal (palette-b, palette-o) (length palette) ∷ [], (sliceVal (lab-b, lab-o) (length lab) ∷ [], (sliceVal (indices-b, indices-o) (length indices) ∷ [], (vbool limited ∷ [], (sliceVal (permitted-b, permitted-o) (length permitted) ∷ [], (EL.val Edit-T.the-type Edit-T′.the-laws edit ∷ [], (sliceVal (list-b, list-o) (length list) ∷ [], (sliceVal (journal-b, journal-o) (length journal) ∷ [], (LL.val Handle-T.the-type Handle-T′.the-laws held ∷ [], (sliceVal (scratch-b, scratch-o) (length scratch) ∷ [], tt)))))))))))))), tt)
 
   abbrev Said₁ : (count : ℕ) (palette-ν : ℕ) (palette-δ : GName) (palette-now : List ℕ) (lab-ν : ℕ) (lab-δ : GName) (lab-now : List (f64 .Denot)) (indices-ν : ℕ) (indices-δ : GName) (indices-now : List ℤ) (journal-ν : ℕ) (journal-δ : GName) (journal-now : List ℕ) (held : Handle) (scratch-ν : ℕ) (scratch-δ : GName) (scratch-now : List ℕ) (r : ℕ) (scratch′ : List ℕ) → Type 0
-  Said₁ count palette-ν palette-δ palette-now lab-ν lab-δ lab-now indices-ν indices-δ indices-now journal-ν journal-δ journal-now held scratch-ν scratch-δ scratch-now r scratch′ = Numbered (length scratch-now) (stateOf (sheetOf w h count palette-now lab-now indices-now) journal-now held) (givenOf limited permitted edit (packedAll list)) r
+  Said₁ count palette-ν palette-δ palette-now lab-ν lab-δ lab-now indices-ν indices-δ indices-now journal-ν journal-δ journal-now held scratch-ν scratch-δ scratch-now r scratch′ = PushNumbered (length scratch-now) (stateOf (sheetOf w h count palette-now lab-now indices-now) journal-now held) (givenOf limited permitted edit (packedAll list)) r
 
   goes₁ : (count : ℕ) (palette-ν : ℕ) (palette-δ : GName) (palette-now : List ℕ) (lab-ν : ℕ) (lab-δ : GName) (lab-now : List (f64 .Denot)) (indices-ν : ℕ) (indices-δ : GName) (indices-now : List ℤ) (journal-ν : ℕ) (journal-δ : GName) (journal-now : List ℕ) (held : Handle) (scratch-ν : ℕ) (scratch-δ : GName) (scratch-now : List ℕ) (count-fits′ : count < 2 ^ 64) (held-is′ : Is Handle-T.the-row held (LL.val Handle-T.the-type Handle-T′.the-laws held ∷ [])) → ent 𝓤 (⋆ 𝓤 H A (‵ (flft (palette-ν ∷ []) fullShare) ∷ ‵ (flft (lab-ν ∷ []) fullShare) ∷ ‵ (flft (indices-ν ∷ []) fullShare) ∷ ‵ (flft (κ₄) q₄) ∷ ‵ (flft (κ₅) q₅) ∷ ‵ (flft (journal-ν ∷ []) fullShare) ∷ ‵ (flft (scratch-ν ∷ []) fullShare) ∷ ‵ (ShrSlice (named 1) (palette-ν ∷ []) u8 .own (record { ptr = (palette-b, palette-o); name = palette-δ; now = palette-now }) (sliceVal (palette-b, palette-o) (length palette) ∷ [])) ∷ ‵ (ShrSlice (named 2) (lab-ν ∷ []) f64 .own (record { ptr = (lab-b, lab-o); name = lab-δ; now = lab-now }) (sliceVal (lab-b, lab-o) (length lab) ∷ [])) ∷ ‵ (ShrSlice (named 3) (indices-ν ∷ []) i16 .own (record { ptr = (indices-b, indices-o); name = indices-δ; now = indices-now }) (sliceVal (indices-b, indices-o) (length indices) ∷ [])) ∷ ‵ (ShrSlice (named 4) (κ₄) u8 .own (record { ptr = (permitted-b, permitted-o); name = permitted-γ; now = permitted }) (sliceVal (permitted-b, permitted-o) (length permitted) ∷ [])) ∷ ‵ (ShrSlice (named 5) (κ₅) Change-T.the-row .own (record { ptr = (list-b, list-o); name = list-γ; now = list }) (sliceVal (list-b, list-o) (length list) ∷ [])) ∷ ‵ (ShrSlice (named 6) (journal-ν ∷ []) u8 .own (record { ptr = (journal-b, journal-o); name = journal-δ; now = journal-now }) (sliceVal (journal-b, journal-o) (length journal) ∷ [])) ∷ ‵ (MutSlice (named 8) (scratch-ν ∷ []) u8 .own (record { ptr = (scratch-b, scratch-o); name = scratch-δ; now = scratch-now }) (sliceVal (scratch-b, scratch-o) (length scratch) ∷ [])) ∷ [])) (Numbering 𝓤 H A at-mem run .pre (to₁ count palette-ν palette-δ palette-now lab-ν lab-δ lab-now indices-ν indices-δ indices-now journal-ν journal-δ journal-now held scratch-ν scratch-δ scratch-now))
   goes₁ count palette-ν palette-δ palette-now lab-ν lab-δ lab-now indices-ν indices-δ indices-now journal-ν journal-δ journal-now held scratch-ν scratch-δ scratch-now count-fits′ held-is′ = qed W (‵ (flft (palette-ν ∷ []) fullShare) ∷ ‵ (flft (lab-ν ∷ []) fullShare) ∷ ‵ (flft (indices-ν ∷ []) fullShare) ∷ ‵ (flft (κ₄) q₄) ∷ ‵ (flft (κ₅) q₅) ∷ ‵ (flft (journal-ν ∷ []) fullShare) ∷ ‵ (flft (scratch-ν ∷ []) fullShare) ∷ ‵ (ShrSlice (named 1) (palette-ν ∷ []) u8 .own (record { ptr = (palette-b, palette-o); name = palette-δ; now = palette-now }) (sliceVal (palette-b, palette-o) (length palette) ∷ [])) ∷ ‵ (ShrSlice (named 2) (lab-ν ∷ []) f64 .own (record { ptr = (lab-b, lab-o); name = lab-δ; now = lab-now }) (sliceVal (lab-b, lab-o) (length lab) ∷ [])) ∷ ‵ (ShrSlice (named 3) (indices-ν ∷ []) i16 .own (record { ptr = (indices-b, indices-o); name = indices-δ; now = indices-now }) (sliceVal (indices-b, indices-o) (length indices) ∷ [])) ∷ ‵ (ShrSlice (named 4) (κ₄) u8 .own (record { ptr = (permitted-b, permitted-o); name = permitted-γ; now = permitted }) (sliceVal (permitted-b, permitted-o) (length permitted) ∷ [])) ∷ ‵ (ShrSlice (named 5) (κ₅) Change-T.the-row .own (record { ptr = (list-b, list-o); name = list-γ; now = list }) (sliceVal (list-b, list-o) (length list) ∷ [])) ∷ ‵ (ShrSlice (named 6) (journal-ν ∷ []) u8 .own (record { ptr = (journal-b, journal-o); name = journal-δ; now = journal-now }) (sliceVal (journal-b, journal-o) (length journal) ∷ [])) ∷ ‵ (MutSlice (named 8) (scratch-ν ∷ []) u8 .own (record { ptr = (scratch-b, scratch-o); name = scratch-δ; now = scratch-now }) (sliceVal (scratch-b, scratch-o) (length scratch) ∷ [])) ∷ []) ∵ nothing ! $ move ! (7 ∷ 0 ∷ []) $ join ! $ move ! (6 ∷ 0 ∷ []) $ join ! $ move ! (5 ∷ 0 ∷ []) $ join ! $ move ! (4 ∷ 0 ∷ []) $ join ! $ move ! (3 ∷ 0 ∷ []) $ join ! $ move ! (2 ∷ 0 ∷ []) $ join ! $ move ! (1 ∷ 0 ∷ []) $ join ! $ nothing ! $ move ! (8 ∷ 0 ∷ []) $ fjoin ! $ owned ! Handle-T.the-row (Is Handle-T.the-row) (LL.makes Handle-T.the-type Handle-T′.the-plain 𝓤 H A) held _ held-is′ $ fjoin ! $ move ! (7 ∷ 0 ∷ []) $ fjoin ! $ move ! (6 ∷ 0 ∷ []) $ fjoin ! $ owned ! Edit-T.the-row (Is Edit-T.the-row) (EL.makes Edit-T.the-type Edit-T′.the-plain 𝓤 H A) edit _ edit-is $ fjoin ! $ move ! (5 ∷ 0 ∷ []) $ fjoin ! $ owned ! bool (Is bool) (bool-makes 𝓤 H A W) limited _ refl $ fjoin ! $ move ! (4 ∷ 0 ∷ []) $ fjoin ! $ move ! (3 ∷ 0 ∷ []) $ fjoin ! $ move ! (2 ∷ 0 ∷ []) $ fjoin ! $ owned ! usize (Is usize) (uint-makes 𝓤 H A W w64) count _ (refl, count-fits′) $ fjoin ! $ owned ! usize (Is usize) (uint-makes 𝓤 H A W w64) h _ (refl, h-fits) $ fjoin ! $ owned ! usize (Is usize) (uint-makes 𝓤 H A W w64) w _ (refl, w-fits) $ fjoin ! $ move ! (1 ∷ 0 ∷ []) $ join ! $ frame ! $ done !
@@ -128,15 +128,15 @@ module _ {M : Type 1} (𝓤 : URA M) (H : Heap 𝓤) (A : Atoms 𝓤) (W : Given
   to₂ number count palette-now lab-now indices-now journal-now held = (((κ₁, (κ₂, (κ₃, (κ₅, (κ₆, tt))))), (q₁, (q₂, (q₃, (q₅, (q₆, tt))))), tt, passed₂ number count palette-now lab-now indices-now journal-now held, (vint w8 number ∷ [], (vint w64 w ∷ [], (vint w64 h ∷ [], (vint w64 count ∷ [], (sliceVal (palette-b, palette-o) (length palette) ∷ [], (sliceVal (lab-b, lab-o) (length lab) ∷ [], (sliceVal (indices-b, indices-o) (length indices) ∷ [], (EL.val Edit-T.the-type Edit-T′.the-laws edit ∷ [], (sliceVal (list-b, list-o) (length list) ∷ [], (sliceVal (journal-b, journal-o) (length journal) ∷ [], (LL.val Handle-T.the-type Handle-T′.the-laws held ∷ [], tt)))))))))))), tt)
 
   abbrev Said₂ : (number : ℕ) (count : ℕ) (palette-now : List ℕ) (lab-now : List (f64 .Denot)) (indices-now : List ℤ) (journal-now : List ℕ) (held : Handle) (r : Moved) (palette′ : List ℕ) (lab′ : List (f64 .Denot)) (indices′ : List ℤ) (journal′ : List ℕ) → Type 0
-  Said₂ number count palette-now lab-now indices-now journal-now held r palette′ lab′ indices′ journal′ = (limited : Bool) (permitted : List ℕ) → leaves r w h palette′ lab′ indices′ journal′ ≡ pushedOr number (noPixels edit (toldAll list)) (stateOf (sheetOf w h count palette-now lab-now indices-now) journal-now held) (pushed editing (stateOf (sheetOf w h count palette-now lab-now indices-now) journal-now held) (givenOf limited permitted edit (packedAll list)))
+  Said₂ number count palette-now lab-now indices-now journal-now held r palette′ lab′ indices′ journal′ = (limited : Bool) (permitted : List ℕ) → leaves r w h palette′ lab′ indices′ journal′ ≡ pushedOr number (noPixels edit (flatAll list)) (stateOf (sheetOf w h count palette-now lab-now indices-now) journal-now held) (pushed editing (stateOf (sheetOf w h count palette-now lab-now indices-now) journal-now held) (givenOf limited permitted edit (packedAll list)))
 
   abbrev Asked₂ : (number : ℕ) (count : ℕ) (palette-now : List ℕ) (lab-now : List (f64 .Denot)) (indices-now : List ℤ) (journal-now : List ℕ) (held : Handle) → Type 0
-  Asked₂ number count palette-now lab-now indices-now journal-now held = (number ≡ 0 → Standing (stateOf (sheetOf w h count palette-now lab-now indices-now) journal-now held)) × (number ≡ 0 → noPixels edit (toldAll list) ≡ false → Acceptable (stateOf (sheetOf w h count palette-now lab-now indices-now) journal-now held) edit (toldAll list))
+  Asked₂ number count palette-now lab-now indices-now journal-now held = (number ≡ 0 → Standing (stateOf (sheetOf w h count palette-now lab-now indices-now) journal-now held)) × (number ≡ 0 → noPixels edit (flatAll list) ≡ false → Acceptable (stateOf (sheetOf w h count palette-now lab-now indices-now) journal-now held) edit (flatAll list))
 
   goes₂ : (number : ℕ) (count : ℕ) (palette-now : List ℕ) (lab-now : List (f64 .Denot)) (indices-now : List ℤ) (journal-now : List ℕ) (held : Handle) (number-fits′ : number < 2 ^ 8) (count-fits′ : count < 2 ^ 64) (held-is′ : Is Handle-T.the-row held (LL.val Handle-T.the-type Handle-T′.the-laws held ∷ [])) → Asked₂ number count palette-now lab-now indices-now journal-now held → ent 𝓤 (⋆ 𝓤 H A (‵ (flft (κ₁) q₁) ∷ ‵ (flft (κ₂) q₂) ∷ ‵ (flft (κ₃) q₃) ∷ ‵ (flft (κ₅) q₅) ∷ ‵ (flft (κ₆) q₆) ∷ ‵ (MutSlice (named 1) (κ₁) u8 .own (record { ptr = (palette-b, palette-o); name = palette-γ; now = palette-now }) (sliceVal (palette-b, palette-o) (length palette) ∷ [])) ∷ ‵ (MutSlice (named 2) (κ₂) f64 .own (record { ptr = (lab-b, lab-o); name = lab-γ; now = lab-now }) (sliceVal (lab-b, lab-o) (length lab) ∷ [])) ∷ ‵ (MutSlice (named 3) (κ₃) i16 .own (record { ptr = (indices-b, indices-o); name = indices-γ; now = indices-now }) (sliceVal (indices-b, indices-o) (length indices) ∷ [])) ∷ ‵ (ShrSlice (named 5) (κ₅) Change-T.the-row .own (record { ptr = (list-b, list-o); name = list-γ; now = list }) (sliceVal (list-b, list-o) (length list) ∷ [])) ∷ ‵ (MutSlice (named 6) (κ₆) u8 .own (record { ptr = (journal-b, journal-o); name = journal-γ; now = journal-now }) (sliceVal (journal-b, journal-o) (length journal) ∷ [])) ∷ [])) (Carrying 𝓤 H A at-mem run .pre (to₂ number count palette-now lab-now indices-now journal-now held))
   goes₂ number count palette-now lab-now indices-now journal-now held number-fits′ count-fits′ held-is′ asked = qed W (‵ (flft (κ₁) q₁) ∷ ‵ (flft (κ₂) q₂) ∷ ‵ (flft (κ₃) q₃) ∷ ‵ (flft (κ₅) q₅) ∷ ‵ (flft (κ₆) q₆) ∷ ‵ (MutSlice (named 1) (κ₁) u8 .own (record { ptr = (palette-b, palette-o); name = palette-γ; now = palette-now }) (sliceVal (palette-b, palette-o) (length palette) ∷ [])) ∷ ‵ (MutSlice (named 2) (κ₂) f64 .own (record { ptr = (lab-b, lab-o); name = lab-γ; now = lab-now }) (sliceVal (lab-b, lab-o) (length lab) ∷ [])) ∷ ‵ (MutSlice (named 3) (κ₃) i16 .own (record { ptr = (indices-b, indices-o); name = indices-γ; now = indices-now }) (sliceVal (indices-b, indices-o) (length indices) ∷ [])) ∷ ‵ (ShrSlice (named 5) (κ₅) Change-T.the-row .own (record { ptr = (list-b, list-o); name = list-γ; now = list }) (sliceVal (list-b, list-o) (length list) ∷ [])) ∷ ‵ (MutSlice (named 6) (κ₆) u8 .own (record { ptr = (journal-b, journal-o); name = journal-γ; now = journal-now }) (sliceVal (journal-b, journal-o) (length journal) ∷ [])) ∷ []) ∵ says ! asked $ nothing ! $ move ! (5 ∷ 0 ∷ []) $ join ! $ move ! (4 ∷ 0 ∷ []) $ join ! $ move ! (3 ∷ 0 ∷ []) $ join ! $ move ! (2 ∷ 0 ∷ []) $ join ! $ move ! (1 ∷ 0 ∷ []) $ join ! $ frame ! $ nothing ! $ owned ! Handle-T.the-row (Is Handle-T.the-row) (LL.makes Handle-T.the-type Handle-T′.the-plain 𝓤 H A) held _ held-is′ $ fjoin ! $ move ! (5 ∷ 0 ∷ []) $ fjoin ! $ move ! (4 ∷ 0 ∷ []) $ fjoin ! $ owned ! Edit-T.the-row (Is Edit-T.the-row) (EL.makes Edit-T.the-type Edit-T′.the-plain 𝓤 H A) edit _ edit-is $ fjoin ! $ move ! (3 ∷ 0 ∷ []) $ fjoin ! $ move ! (2 ∷ 0 ∷ []) $ fjoin ! $ move ! (1 ∷ 0 ∷ []) $ fjoin ! $ owned ! usize (Is usize) (uint-makes 𝓤 H A W w64) count _ (refl, count-fits′) $ fjoin ! $ owned ! usize (Is usize) (uint-makes 𝓤 H A W w64) h _ (refl, h-fits) $ fjoin ! $ owned ! usize (Is usize) (uint-makes 𝓤 H A W w64) w _ (refl, w-fits) $ fjoin ! $ owned ! u8 (Is u8) (uint-makes 𝓤 H A W w8) number _ (refl, number-fits′) $ fjoin ! $ done !
 
-  exits : (r : Answer) (k′ : ℕ) (palette′ : List ℕ) (lab′ : List (f64 .Denot)) (indices′ : List ℤ) (journal′ : List ℕ) (handle′ : Handle) (scratch′ : List ℕ) → (left r w h k′ palette′ lab′ indices′ journal′ handle′ ≡ pushOf editing (length scratch) (stateOf (sheetOf w h k palette lab indices) journal handle) (givenOf limited permitted edit (packedAll list))) × (length scratch′ ≡ length scratch) → length palette′ ≡ length palette → length lab′ ≡ length lab → length indices′ ≡ length indices → length journal′ ≡ length journal → length scratch′ ≡ length scratch → Is Answer-T.the-row r (EL.val Answer-T.the-type Answer-T′.the-laws r ∷ []) → ent 𝓤 (⋆ 𝓤 H A (‵ (fobs k-γ (usize .coded .code k′)) ∷ ‵ (fbor κ₀ (Body (mem usize) k-b k-o k-γ)) ∷ ‵ (flft κ₀ q₀) ∷ ‵ (finally u8 palette-γ palette′) ∷ ‵ (flft κ₁ q₁) ∷ ‵ (finally f64 lab-γ lab′) ∷ ‵ (flft κ₂ q₂) ∷ ‵ (finally i16 indices-γ indices′) ∷ ‵ (flft κ₃ q₃) ∷ ‵ (ShrSlice (named 4) κ₄ u8 .own (record { ptr = (permitted-b, permitted-o); name = permitted-γ; now = permitted }) (sliceVal (permitted-b, permitted-o) (length permitted) ∷ [])) ∷ ‵ (flft κ₄ q₄) ∷ ‵ (ShrSlice (named 5) κ₅ Change-T.the-row .own (record { ptr = (list-b, list-o); name = list-γ; now = list }) (sliceVal (list-b, list-o) (length list) ∷ [])) ∷ ‵ (flft κ₅ q₅) ∷ ‵ (finally u8 journal-γ journal′) ∷ ‵ (flft κ₆ q₆) ∷ ‵ (fobs handle-γ (Handle-T.the-row .coded .code handle′)) ∷ ‵ (fbor κ₇ (Body (mem Handle-T.the-row) handle-b handle-o handle-γ)) ∷ ‵ (flft κ₇ q₇) ∷ ‵ (MutSlice (named 8) κ₈ u8 .own (record { ptr = (scratch-b, scratch-o); name = scratch-γ; now = scratch′ }) (sliceVal (scratch-b, scratch-o) (length scratch) ∷ [])) ∷ ‵ (flft κ₈ q₈) ∷ [])) (Post (EL.val Answer-T.the-type Answer-T′.the-laws r))
+  exits : (r : Answer) (k′ : ℕ) (palette′ : List ℕ) (lab′ : List (f64 .Denot)) (indices′ : List ℤ) (journal′ : List ℕ) (handle′ : Handle) (scratch′ : List ℕ) → (leavesLent r w h k′ palette′ lab′ indices′ journal′ handle′ ≡ pushOf editing (length scratch) (stateOf (sheetOf w h k palette lab indices) journal handle) (givenOf limited permitted edit (packedAll list))) × (length scratch′ ≡ length scratch) → length palette′ ≡ length palette → length lab′ ≡ length lab → length indices′ ≡ length indices → length journal′ ≡ length journal → length scratch′ ≡ length scratch → Is Answer-T.the-row r (EL.val Answer-T.the-type Answer-T′.the-laws r ∷ []) → ent 𝓤 (⋆ 𝓤 H A (‵ (fobs k-γ (usize .coded .code k′)) ∷ ‵ (fbor κ₀ (Body (mem usize) k-b k-o k-γ)) ∷ ‵ (flft κ₀ q₀) ∷ ‵ (finally u8 palette-γ palette′) ∷ ‵ (flft κ₁ q₁) ∷ ‵ (finally f64 lab-γ lab′) ∷ ‵ (flft κ₂ q₂) ∷ ‵ (finally i16 indices-γ indices′) ∷ ‵ (flft κ₃ q₃) ∷ ‵ (ShrSlice (named 4) κ₄ u8 .own (record { ptr = (permitted-b, permitted-o); name = permitted-γ; now = permitted }) (sliceVal (permitted-b, permitted-o) (length permitted) ∷ [])) ∷ ‵ (flft κ₄ q₄) ∷ ‵ (ShrSlice (named 5) κ₅ Change-T.the-row .own (record { ptr = (list-b, list-o); name = list-γ; now = list }) (sliceVal (list-b, list-o) (length list) ∷ [])) ∷ ‵ (flft κ₅ q₅) ∷ ‵ (finally u8 journal-γ journal′) ∷ ‵ (flft κ₆ q₆) ∷ ‵ (fobs handle-γ (Handle-T.the-row .coded .code handle′)) ∷ ‵ (fbor κ₇ (Body (mem Handle-T.the-row) handle-b handle-o handle-γ)) ∷ ‵ (flft κ₇ q₇) ∷ ‵ (MutSlice (named 8) κ₈ u8 .own (record { ptr = (scratch-b, scratch-o); name = scratch-γ; now = scratch′ }) (sliceVal (scratch-b, scratch-o) (length scratch) ∷ [])) ∷ ‵ (flft κ₈ q₈) ∷ [])) (Post (EL.val Answer-T.the-type Answer-T′.the-laws r))
   exits r k′ palette′ lab′ indices′ journal′ handle′ scratch′ said palette-len lab-len indices-len journal-len scratch-len is =
       qed W (‵ (fobs k-γ (usize .coded .code k′)) ∷ ‵ (fbor κ₀ (Body (mem usize) k-b k-o k-γ)) ∷ ‵ (flft κ₀ q₀) ∷ ‵ (finally u8 palette-γ palette′) ∷ ‵ (flft κ₁ q₁) ∷ ‵ (finally f64 lab-γ lab′) ∷ ‵ (flft κ₂ q₂) ∷ ‵ (finally i16 indices-γ indices′) ∷ ‵ (flft κ₃ q₃) ∷ ‵ (ShrSlice (named 4) κ₄ u8 .own (record { ptr = (permitted-b, permitted-o); name = permitted-γ; now = permitted }) (sliceVal (permitted-b, permitted-o) (length permitted) ∷ [])) ∷ ‵ (flft κ₄ q₄) ∷ ‵ (ShrSlice (named 5) κ₅ Change-T.the-row .own (record { ptr = (list-b, list-o); name = list-γ; now = list }) (sliceVal (list-b, list-o) (length list) ∷ [])) ∷ ‵ (flft κ₅ q₅) ∷ ‵ (finally u8 journal-γ journal′) ∷ ‵ (flft κ₆ q₆) ∷ ‵ (fobs handle-γ (Handle-T.the-row .coded .code handle′)) ∷ ‵ (fbor κ₇ (Body (mem Handle-T.the-row) handle-b handle-o handle-γ)) ∷ ‵ (flft κ₇ q₇) ∷ ‵ (MutSlice (named 8) κ₈ u8 .own (record { ptr = (scratch-b, scratch-o); name = scratch-γ; now = scratch′ }) (sliceVal (scratch-b, scratch-o) (length scratch) ∷ [])) ∷ ‵ (flft κ₈ q₈) ∷ []) ∵
       suffices ! _ (ends-at 𝓤 H A f.ended stayed (f.clauses 𝓤 H A at-mem run) W ((((κ₀, (κ₁, (κ₂, (κ₃, (κ₄, (κ₅, (κ₆, (κ₇, (κ₈, tt))))))))), (q₀, (q₁, (q₂, (q₃, (q₄, (q₅, (q₆, (q₇, (q₈, tt))))))))), tt, a, vals), tt)) (EL.val Answer-T.the-type Answer-T′.the-laws r) r (tt, (tt, (k′, (palette′, (lab′, (indices′, (tt, (tt, (tt, (tt, (journal′, (handle′, (scratch′, tt))))))))))))) (tt, (tt, (tt, (palette-len, (lab-len, (indices-len, (tt, (tt, (tt, (tt, (journal-len, (tt, (scratch-len, tt)))))))))))))) $ says ! said $
@@ -243,8 +243,7 @@ module _ {M : Type 1} (𝓤 : URA M) (H : Heap 𝓤) (A : Atoms 𝓤) (W : Given
       (λ κs qs bounds a g are. via 𝓤 _ (fst∗ 𝓤 _ (emp 𝓤))
       (walk 𝓤 H A W mem run (κs .0) (κs .1 .0) (κs .1 .1 .0) (κs .1 .1 .1 .0) (κs .1 .1 .1 .1 .0) (κs .1 .1 .1 .1 .1 .0) (κs .1 .1 .1 .1 .1 .1 .0) (κs .1 .1 .1 .1 .1 .1 .1 .0) (κs .1 .1 .1 .1 .1 .1 .1 .1 .0) (qs .0) (qs .1 .0) (qs .1 .1 .0) (qs .1 .1 .1 .0) (qs .1 .1 .1 .1 .0) (qs .1 .1 .1 .1 .1 .0) (qs .1 .1 .1 .1 .1 .1 .0) (qs .1 .1 .1 .1 .1 .1 .1 .0) (qs .1 .1 .1 .1 .1 .1 .1 .1 .0) (a .0) (a .1 .0) (a .1 .1 .0 .ptr .0) (a .1 .1 .0 .ptr .1) (a .1 .1 .0 .name) (a .1 .1 .0 .now) (a .1 .1 .1 .0 .ptr .0) (a .1 .1 .1 .0 .ptr .1) (a .1 .1 .1 .0 .name) (a .1 .1 .1 .0 .now) (a .1 .1 .1 .1 .0 .ptr .0) (a .1 .1 .1 .1 .0 .ptr .1) (a .1 .1 .1 .1 .0 .name) (a .1 .1 .1 .1 .0 .now) (a .1 .1 .1 .1 .1 .0 .ptr .0) (a .1 .1 .1 .1 .1 .0 .ptr .1) (a .1 .1 .1 .1 .1 .0 .name) (a .1 .1 .1 .1 .1 .0 .now) (a .1 .1 .1 .1 .1 .1 .0) (a .1 .1 .1 .1 .1 .1 .1 .0 .ptr .0) (a .1 .1 .1 .1 .1 .1 .1 .0 .ptr .1) (a .1 .1 .1 .1 .1 .1 .1 .0 .name) (a .1 .1 .1 .1 .1 .1 .1 .0 .now) (a .1 .1 .1 .1 .1 .1 .1 .1 .0) (a .1 .1 .1 .1 .1 .1 .1 .1 .1 .0 .ptr .0) (a .1 .1 .1 .1 .1 .1 .1 .1 .1 .0 .ptr .1) (a .1 .1 .1 .1 .1 .1 .1 .1 .1 .0 .name) (a .1 .1 .1 .1 .1 .1 .1 .1 .1 .0 .now) (a .1 .1 .1 .1 .1 .1 .1 .1 .1 .1 .0 .ptr .0) (a .1 .1 .1 .1 .1 .1 .1 .1 .1 .1 .0 .ptr .1) (a .1 .1 .1 .1 .1 .1 .1 .1 .1 .1 .0 .name) (a .1 .1 .1 .1 .1 .1 .1 .1 .1 .1 .0 .now) (a .1 .1 .1 .1 .1 .1 .1 .1 .1 .1 .1 .0 .ptr .0) (a .1 .1 .1 .1 .1 .1 .1 .1 .1 .1 .1 .0 .ptr .1) (a .1 .1 .1 .1 .1 .1 .1 .1 .1 .1 .1 .0 .name) (a .1 .1 .1 .1 .1 .1 .1 .1 .1 .1 .1 .0 .now) (a .1 .1 .1 .1 .1 .1 .1 .1 .1 .1 .1 .1 .0 .ptr .0) (a .1 .1 .1 .1 .1 .1 .1 .1 .1 .1 .1 .1 .0 .ptr .1) (a .1 .1 .1 .1 .1 .1 .1 .1 .1 .1 .1 .1 .0 .name) (a .1 .1 .1 .1 .1 .1 .1 .1 .1 .1 .1 .1 .0 .now) (are .0 .1) (are .1 .0 .1) (are .1 .1 .1 .0 .0 .1) (are .1 .1 .1 .1 .0 .0 .1) (are .1 .1 .1 .1 .1 .0 .0 .1) (are .1 .1 .1 .1 .1 .1 .1 .0 .0 .1) (are .1 .1 .1 .1 .1 .1 .1 .1 .0) (are .1 .1 .1 .1 .1 .1 .1 .1 .1 .0 .0 .1) (are .1 .1 .1 .1 .1 .1 .1 .1 .1 .1 .0 .0 .1) (are .1 .1 .1 .1 .1 .1 .1 .1 .1 .1 .1 .1 .0 .0 .1) C Λ fm known-Numbering known-Carrying))
 
-push-meets : {M : Type 1} (𝓤 : URA M) (H : Heap 𝓤) (A : Atoms 𝓤) → Given 𝓤 H A → (mem : Memory → SProp 𝓤) (run : Routine → Fun 𝓤) (𝓣 : Tables 𝓤 H) → Triple 𝓤 (𝓣 .C #struct_push_checks·push-no) (Numbering 𝓤 H A mem run) → Triple 𝓤 (𝓣 .C #struct_push·recording·carry-out) (Carrying 𝓤 H A mem run)
-    → Meets 𝓤 H A f.signature (WpFn 𝓤 H (𝓣 .C) (𝓣 .Λ) code.function) (f.spec 𝓤 H A mem run)
+push-meets : {M : Type 1} (𝓤 : URA M) (H : Heap 𝓤) (A : Atoms 𝓤) → Given 𝓤 H A → (mem : Memory → SProp 𝓤) (run : Routine → Fun 𝓤) (𝓣 : Tables 𝓤 H) → Triple 𝓤 (𝓣 .C #struct_push_checks·push-no) (Numbering 𝓤 H A mem run) → Triple 𝓤 (𝓣 .C #struct_push·recording·carry-out) (Carrying 𝓤 H A mem run) → Meets 𝓤 H A f.signature (WpFn 𝓤 H (𝓣 .C) (𝓣 .Λ) code.function) (f.spec 𝓤 H A mem run)
 push-meets 𝓤 H A W mem run 𝓣 known-Numbering known-Carrying =
     walk-meets 𝓤 H A f.ended stayed W (goes-none 𝓤 H A W 9 (λ _. usize) yes (λ κs x f. refl), (goes-none 𝓤 H A W 9 (λ _. usize) yes (λ κs x f. refl), (goes-ref 𝓤 H A W 9 0 tt (plain (λ _. usize)), (goes-gave-slice 𝓤 H A W 9 1 tt (plain (λ _. u8)), (goes-gave-slice 𝓤 H A W 9 2 tt (plain (λ _. f64)), (goes-gave-slice 𝓤 H A W 9 3 tt (plain (λ _. i16)), (goes-none 𝓤 H A W 9 (λ _. bool) yes (λ κs x f. refl), (goes-none-slice 𝓤 H A W 9 (4 ∷ []) tt (plain (λ _. u8)) yes, (goes-none 𝓤 H A W 9 (λ _. Edit-T.the-row) yes (λ κs x f. refl), (goes-none-slice 𝓤 H A W 9 (5 ∷ []) tt (plain (λ _. Change-T.the-row)) yes, (goes-gave-slice 𝓤 H A W 9 6 tt (plain (λ _. u8)), (goes-ref 𝓤 H A W 9 7 tt (plain (λ _. Handle-T.the-row)), (goes-slice 𝓤 H A W 9 8 tt (plain (λ _. u8)), tt))))))))))))) (f.clauses 𝓤 H A mem run)
     (WpFn 𝓤 H (𝓣 .C) (𝓣 .Λ) code.function) (WpFn-mono 𝓤 H (W .laws) 𝓣 code.function) (push-walks 𝓤 H A W mem run (𝓣 .C) (𝓣 .Λ) (fmOf 𝓤 H (W .laws) 𝓣) known-Numbering known-Carrying)

@@ -1,5 +1,6 @@
--- `replay` meets its contract: a walk of its MIR, by hand. The palette count's borrow is opened and the count copied out; the sheet is lent as `&` for its checks and then given. All that the proof knows of the functions that it calls is that they
--- meet their contracts. Assumes nothing.
+-- Written by tools/walks; do not edit.
+-- `struct_replay::replay` meets its contract: a walk of its MIR, by hand. The palette count's borrow is opened and the count copied out; the sheet is lent as `&` for its checks and then given.
+-- All that the proof knows of the functions that it calls is that they meet their contracts. Assumes nothing.
 use mathlib.Core.Path.{_≡_, refl, sym, ap, _∙_}
 use mathlib.Core.Bool.{Bool}
 use Prim.Native.Nat.{ℕ, _<_, _^_}
@@ -44,26 +45,25 @@ use denote.Triple.Clauses.{ensured, lasts}
 use denote.Triple.Table.{entered, cited}
 use denote.Triple.Walked.{says, Stays, stay-ref, stay-slice, gave-slice, stay-none-slice, stay-none, walkOf, goes-ref, goes-slice, goes-gave-slice, goes-none-slice, goes-none, Walks, ends-at, walked, walk-meets}
 use denote.Exit.{yes}
-use Rattle.edit.specs.declared.Edit.{Edit}
-use Rattle.edit.proofs.Edit as Edit-T
-use Rattle.edit.proofs.Edit.Laws as Edit-T′
-use Rattle.struct_change.specs.declared.Change.{Change}
-use Rattle.struct_change.proofs.Change as Change-T
-use Rattle.struct_change.proofs.Change.Laws as Change-T′
 use Rattle.struct_change.proofs.Lending.{LentAgain, LentShared, lend-mut, back-mut, lend-shr, back-shr}
-use Rattle.history.specs.declared.Replayed.{Replayed}
-use Rattle.history.proofs.Replayed as Replayed-T
-use Rattle.history.proofs.Replayed.Laws as Replayed-T′
-use Rattle.base_limits.specs.declared.Answer.{Answer}
-use Rattle.base_limits.proofs.Answer as Answer-T
-use Rattle.base_limits.proofs.Answer.Laws as Answer-T′
-use Rattle.base_limits.specs.Checks.{firstOf}
+use Rattle.base.specs.declared.Edit.{Edit}
+use Rattle.base.proofs.Edit as Edit-T
+use Rattle.base.proofs.Edit.Laws as Edit-T′
+use Rattle.base.specs.declared.Change.{Change}
+use Rattle.base.proofs.Change as Change-T
+use Rattle.base.specs.declared.Replayed.{Replayed}
+use Rattle.base.proofs.Replayed as Replayed-T
+use Rattle.base.proofs.Replayed.Laws as Replayed-T′
+use Rattle.base.specs.declared.Answer.{Answer}
+use Rattle.base.proofs.Answer as Answer-T
+use Rattle.base.proofs.Answer.Laws as Answer-T′
+use Rattle.base.specs.Checks.{firstOf}
 use Rattle.color_lab.specs.Convert.{labOf}
 use Rattle.sheet.specs.Sheet.{sheetOf}
 use Rattle.edit.specs.Checks.{permittedOf}
 use Rattle.edit.specs.Apply.{redone}
 use Rattle.edit_apply.specs.Redoable.{Redoable}
-use Rattle.struct_edit.specs.Walk.{toldAll}
+use Rattle.struct_edit.specs.Walk.{flatAll}
 use Rattle.history_model.specs.Replay.{replayChecks, replayed, replayOf}
 use Rattle.history_model.proofs.ReplayChecks.{redoable}
 use Rattle.struct_replay.specs.Phases.{doneOr}
@@ -114,7 +114,7 @@ module _ {M : Type 1} (𝓤 : URA M) (H : Heap 𝓤) (A : Atoms 𝓤) (W : Given
   to₁ count palette-ν palette-δ palette-now lab-ν lab-δ lab-now indices-ν indices-δ indices-now scratch-ν scratch-δ scratch-now = (((palette-ν ∷ [], (lab-ν ∷ [], (indices-ν ∷ [], (κ₄, (κ₅, (scratch-ν ∷ [], tt)))))), (fullShare, (fullShare, (fullShare, (q₄, (q₅, (fullShare, tt)))))), tt, passed₁ count palette-ν palette-δ palette-now lab-ν lab-δ lab-now indices-ν indices-δ indices-now scratch-ν scratch-δ scratch-now, (vint w64 w ∷ [], (vint w64 h ∷ [], (vint w64 count ∷ [], (sliceVal (palette-b, palette-o) (length palette) ∷ [], (sliceVal (lab-b, lab-o) (length lab) ∷ [], (sliceVal (indices-b, indices-o) (length indices) ∷ [], (vbool limited ∷ [], (sliceVal (permitted-b, permitted-o) (length permitted) ∷ [], (EL.val Edit-T.the-type Edit-T′.the-laws edit ∷ [], (sliceVal (list-b, list-o) (length list) ∷ [], (sliceVal (scratch-b, scratch-o) (length scratch) ∷ [], tt)))))))))))), tt)
 
   abbrev Said₁ : (count : ℕ) (palette-ν : ℕ) (palette-δ : GName) (palette-now : List ℕ) (lab-ν : ℕ) (lab-δ : GName) (lab-now : List (f64 .Denot)) (indices-ν : ℕ) (indices-δ : GName) (indices-now : List ℤ) (scratch-ν : ℕ) (scratch-δ : GName) (scratch-now : List ℕ) (r : ℕ) (scratch′ : List ℕ) → Type 0
-  Said₁ count palette-ν palette-δ palette-now lab-ν lab-δ lab-now indices-ν indices-δ indices-now scratch-ν scratch-δ scratch-now r scratch′ = r ≡ firstOf (replayChecks (length scratch-now) (sheetOf w h count palette-now lab-now indices-now) (permittedOf limited permitted) edit (toldAll list))
+  Said₁ count palette-ν palette-δ palette-now lab-ν lab-δ lab-now indices-ν indices-δ indices-now scratch-ν scratch-δ scratch-now r scratch′ = r ≡ firstOf (replayChecks (length scratch-now) (sheetOf w h count palette-now lab-now indices-now) (permittedOf limited permitted) edit (flatAll list))
 
   goes₁ : (count : ℕ) (palette-ν : ℕ) (palette-δ : GName) (palette-now : List ℕ) (lab-ν : ℕ) (lab-δ : GName) (lab-now : List (f64 .Denot)) (indices-ν : ℕ) (indices-δ : GName) (indices-now : List ℤ) (scratch-ν : ℕ) (scratch-δ : GName) (scratch-now : List ℕ) (count-fits′ : count < 2 ^ 64) → ent 𝓤 (⋆ 𝓤 H A (‵ (flft (palette-ν ∷ []) fullShare) ∷ ‵ (flft (lab-ν ∷ []) fullShare) ∷ ‵ (flft (indices-ν ∷ []) fullShare) ∷ ‵ (flft (κ₄) q₄) ∷ ‵ (flft (κ₅) q₅) ∷ ‵ (flft (scratch-ν ∷ []) fullShare) ∷ ‵ (ShrSlice (named 1) (palette-ν ∷ []) u8 .own (record { ptr = (palette-b, palette-o); name = palette-δ; now = palette-now }) (sliceVal (palette-b, palette-o) (length palette) ∷ [])) ∷ ‵ (ShrSlice (named 2) (lab-ν ∷ []) f64 .own (record { ptr = (lab-b, lab-o); name = lab-δ; now = lab-now }) (sliceVal (lab-b, lab-o) (length lab) ∷ [])) ∷ ‵ (ShrSlice (named 3) (indices-ν ∷ []) i16 .own (record { ptr = (indices-b, indices-o); name = indices-δ; now = indices-now }) (sliceVal (indices-b, indices-o) (length indices) ∷ [])) ∷ ‵ (ShrSlice (named 4) (κ₄) u8 .own (record { ptr = (permitted-b, permitted-o); name = permitted-γ; now = permitted }) (sliceVal (permitted-b, permitted-o) (length permitted) ∷ [])) ∷ ‵ (ShrSlice (named 5) (κ₅) Change-T.the-row .own (record { ptr = (list-b, list-o); name = list-γ; now = list }) (sliceVal (list-b, list-o) (length list) ∷ [])) ∷ ‵ (MutSlice (named 6) (scratch-ν ∷ []) u8 .own (record { ptr = (scratch-b, scratch-o); name = scratch-δ; now = scratch-now }) (sliceVal (scratch-b, scratch-o) (length scratch) ∷ [])) ∷ [])) (Numbering 𝓤 H A at-mem run .pre (to₁ count palette-ν palette-δ palette-now lab-ν lab-δ lab-now indices-ν indices-δ indices-now scratch-ν scratch-δ scratch-now))
   goes₁ count palette-ν palette-δ palette-now lab-ν lab-δ lab-now indices-ν indices-δ indices-now scratch-ν scratch-δ scratch-now count-fits′ = qed W (‵ (flft (palette-ν ∷ []) fullShare) ∷ ‵ (flft (lab-ν ∷ []) fullShare) ∷ ‵ (flft (indices-ν ∷ []) fullShare) ∷ ‵ (flft (κ₄) q₄) ∷ ‵ (flft (κ₅) q₅) ∷ ‵ (flft (scratch-ν ∷ []) fullShare) ∷ ‵ (ShrSlice (named 1) (palette-ν ∷ []) u8 .own (record { ptr = (palette-b, palette-o); name = palette-δ; now = palette-now }) (sliceVal (palette-b, palette-o) (length palette) ∷ [])) ∷ ‵ (ShrSlice (named 2) (lab-ν ∷ []) f64 .own (record { ptr = (lab-b, lab-o); name = lab-δ; now = lab-now }) (sliceVal (lab-b, lab-o) (length lab) ∷ [])) ∷ ‵ (ShrSlice (named 3) (indices-ν ∷ []) i16 .own (record { ptr = (indices-b, indices-o); name = indices-δ; now = indices-now }) (sliceVal (indices-b, indices-o) (length indices) ∷ [])) ∷ ‵ (ShrSlice (named 4) (κ₄) u8 .own (record { ptr = (permitted-b, permitted-o); name = permitted-γ; now = permitted }) (sliceVal (permitted-b, permitted-o) (length permitted) ∷ [])) ∷ ‵ (ShrSlice (named 5) (κ₅) Change-T.the-row .own (record { ptr = (list-b, list-o); name = list-γ; now = list }) (sliceVal (list-b, list-o) (length list) ∷ [])) ∷ ‵ (MutSlice (named 6) (scratch-ν ∷ []) u8 .own (record { ptr = (scratch-b, scratch-o); name = scratch-δ; now = scratch-now }) (sliceVal (scratch-b, scratch-o) (length scratch) ∷ [])) ∷ []) ∵ nothing ! $ move ! (6 ∷ 0 ∷ []) $ join ! $ move ! (5 ∷ 0 ∷ []) $ join ! $ move ! (4 ∷ 0 ∷ []) $ join ! $ move ! (3 ∷ 0 ∷ []) $ join ! $ move ! (2 ∷ 0 ∷ []) $ join ! $ move ! (1 ∷ 0 ∷ []) $ join ! $ nothing ! $ move ! (7 ∷ 0 ∷ []) $ fjoin ! $ move ! (6 ∷ 0 ∷ []) $ fjoin ! $ owned ! Edit-T.the-row (Is Edit-T.the-row) (EL.makes Edit-T.the-type Edit-T′.the-plain 𝓤 H A) edit _ edit-is $ fjoin ! $ move ! (5 ∷ 0 ∷ []) $ fjoin ! $ owned ! bool (Is bool) (bool-makes 𝓤 H A W) limited _ refl $ fjoin ! $ move ! (4 ∷ 0 ∷ []) $ fjoin ! $ move ! (3 ∷ 0 ∷ []) $ fjoin ! $ move ! (2 ∷ 0 ∷ []) $ fjoin ! $ owned ! usize (Is usize) (uint-makes 𝓤 H A W w64) count _ (refl, count-fits′) $ fjoin ! $ owned ! usize (Is usize) (uint-makes 𝓤 H A W w64) h _ (refl, h-fits) $ fjoin ! $ owned ! usize (Is usize) (uint-makes 𝓤 H A W w64) w _ (refl, w-fits) $ fjoin ! $ move ! (1 ∷ 0 ∷ []) $ join ! $ frame ! $ done !
@@ -127,15 +127,15 @@ module _ {M : Type 1} (𝓤 : URA M) (H : Heap 𝓤) (A : Atoms 𝓤) (W : Given
   to₂ number count palette-now lab-now indices-now = (((κ₁, (κ₂, (κ₃, (κ₅, tt)))), (q₁, (q₂, (q₃, (q₅, tt)))), tt, passed₂ number count palette-now lab-now indices-now, (vint w8 number ∷ [], (vint w64 w ∷ [], (vint w64 count ∷ [], (sliceVal (palette-b, palette-o) (length palette) ∷ [], (sliceVal (lab-b, lab-o) (length lab) ∷ [], (sliceVal (indices-b, indices-o) (length indices) ∷ [], (EL.val Edit-T.the-type Edit-T′.the-laws edit ∷ [], (sliceVal (list-b, list-o) (length list) ∷ [], tt))))))))), tt)
 
   abbrev Said₂ : (number : ℕ) (count : ℕ) (palette-now : List ℕ) (lab-now : List (f64 .Denot)) (indices-now : List ℤ) (r : Replayed) (palette′ : List ℕ) (lab′ : List (f64 .Denot)) (indices′ : List ℤ) → Type 0
-  Said₂ number count palette-now lab-now indices-now r palette′ lab′ indices′ = (h : ℕ) → replayed (r .answer) (sheetOf w h (r .k) palette′ lab′ indices′) ≡ doneOr number (sheetOf w h count palette-now lab-now indices-now) (redone labOf (sheetOf w h count palette-now lab-now indices-now) edit (toldAll list))
+  Said₂ number count palette-now lab-now indices-now r palette′ lab′ indices′ = (h : ℕ) → replayed (r .answer) (sheetOf w h (r .k) palette′ lab′ indices′) ≡ doneOr number (sheetOf w h count palette-now lab-now indices-now) (redone labOf (sheetOf w h count palette-now lab-now indices-now) edit (flatAll list))
 
   abbrev Asked₂ : (number : ℕ) (count : ℕ) (palette-now : List ℕ) (lab-now : List (f64 .Denot)) (indices-now : List ℤ) → Type 0
-  Asked₂ number count palette-now lab-now indices-now = number ≡ 0 → Redoable w count palette-now lab-now indices-now edit (toldAll list)
+  Asked₂ number count palette-now lab-now indices-now = number ≡ 0 → Redoable w count palette-now lab-now indices-now edit (flatAll list)
 
   goes₂ : (number : ℕ) (count : ℕ) (palette-now : List ℕ) (lab-now : List (f64 .Denot)) (indices-now : List ℤ) (number-fits′ : number < 2 ^ 8) (count-fits′ : count < 2 ^ 64) → Asked₂ number count palette-now lab-now indices-now → ent 𝓤 (⋆ 𝓤 H A (‵ (flft (κ₁) q₁) ∷ ‵ (flft (κ₂) q₂) ∷ ‵ (flft (κ₃) q₃) ∷ ‵ (flft (κ₅) q₅) ∷ ‵ (MutSlice (named 1) (κ₁) u8 .own (record { ptr = (palette-b, palette-o); name = palette-γ; now = palette-now }) (sliceVal (palette-b, palette-o) (length palette) ∷ [])) ∷ ‵ (MutSlice (named 2) (κ₂) f64 .own (record { ptr = (lab-b, lab-o); name = lab-γ; now = lab-now }) (sliceVal (lab-b, lab-o) (length lab) ∷ [])) ∷ ‵ (MutSlice (named 3) (κ₃) i16 .own (record { ptr = (indices-b, indices-o); name = indices-γ; now = indices-now }) (sliceVal (indices-b, indices-o) (length indices) ∷ [])) ∷ ‵ (ShrSlice (named 5) (κ₅) Change-T.the-row .own (record { ptr = (list-b, list-o); name = list-γ; now = list }) (sliceVal (list-b, list-o) (length list) ∷ [])) ∷ [])) (Redoing 𝓤 H A at-mem run .pre (to₂ number count palette-now lab-now indices-now))
   goes₂ number count palette-now lab-now indices-now number-fits′ count-fits′ asked = qed W (‵ (flft (κ₁) q₁) ∷ ‵ (flft (κ₂) q₂) ∷ ‵ (flft (κ₃) q₃) ∷ ‵ (flft (κ₅) q₅) ∷ ‵ (MutSlice (named 1) (κ₁) u8 .own (record { ptr = (palette-b, palette-o); name = palette-γ; now = palette-now }) (sliceVal (palette-b, palette-o) (length palette) ∷ [])) ∷ ‵ (MutSlice (named 2) (κ₂) f64 .own (record { ptr = (lab-b, lab-o); name = lab-γ; now = lab-now }) (sliceVal (lab-b, lab-o) (length lab) ∷ [])) ∷ ‵ (MutSlice (named 3) (κ₃) i16 .own (record { ptr = (indices-b, indices-o); name = indices-γ; now = indices-now }) (sliceVal (indices-b, indices-o) (length indices) ∷ [])) ∷ ‵ (ShrSlice (named 5) (κ₅) Change-T.the-row .own (record { ptr = (list-b, list-o); name = list-γ; now = list }) (sliceVal (list-b, list-o) (length list) ∷ [])) ∷ []) ∵ says ! asked $ nothing ! $ move ! (4 ∷ 0 ∷ []) $ join ! $ move ! (3 ∷ 0 ∷ []) $ join ! $ move ! (2 ∷ 0 ∷ []) $ join ! $ move ! (1 ∷ 0 ∷ []) $ join ! $ frame ! $ nothing ! $ move ! (4 ∷ 0 ∷ []) $ fjoin ! $ owned ! Edit-T.the-row (Is Edit-T.the-row) (EL.makes Edit-T.the-type Edit-T′.the-plain 𝓤 H A) edit _ edit-is $ fjoin ! $ move ! (3 ∷ 0 ∷ []) $ fjoin ! $ move ! (2 ∷ 0 ∷ []) $ fjoin ! $ move ! (1 ∷ 0 ∷ []) $ fjoin ! $ owned ! usize (Is usize) (uint-makes 𝓤 H A W w64) count _ (refl, count-fits′) $ fjoin ! $ owned ! usize (Is usize) (uint-makes 𝓤 H A W w64) w _ (refl, w-fits) $ fjoin ! $ owned ! u8 (Is u8) (uint-makes 𝓤 H A W w8) number _ (refl, number-fits′) $ fjoin ! $ done !
 
-  exits : (r : Answer) (k′ : ℕ) (palette′ : List ℕ) (lab′ : List (f64 .Denot)) (indices′ : List ℤ) (scratch′ : List ℕ) → (replayed r (sheetOf w h k′ palette′ lab′ indices′) ≡ replayOf (length scratch) (sheetOf w h k palette lab indices) (permittedOf limited permitted) edit (toldAll list)) × (length scratch′ ≡ length scratch) → length palette′ ≡ length palette → length lab′ ≡ length lab → length indices′ ≡ length indices → length scratch′ ≡ length scratch → Is Answer-T.the-row r (EL.val Answer-T.the-type Answer-T′.the-laws r ∷ []) → ent 𝓤 (⋆ 𝓤 H A (‵ (fobs k-γ (usize .coded .code k′)) ∷ ‵ (fbor κ₀ (Body (mem usize) k-b k-o k-γ)) ∷ ‵ (flft κ₀ q₀) ∷ ‵ (finally u8 palette-γ palette′) ∷ ‵ (flft κ₁ q₁) ∷ ‵ (finally f64 lab-γ lab′) ∷ ‵ (flft κ₂ q₂) ∷ ‵ (finally i16 indices-γ indices′) ∷ ‵ (flft κ₃ q₃) ∷ ‵ (ShrSlice (named 4) κ₄ u8 .own (record { ptr = (permitted-b, permitted-o); name = permitted-γ; now = permitted }) (sliceVal (permitted-b, permitted-o) (length permitted) ∷ [])) ∷ ‵ (flft κ₄ q₄) ∷ ‵ (ShrSlice (named 5) κ₅ Change-T.the-row .own (record { ptr = (list-b, list-o); name = list-γ; now = list }) (sliceVal (list-b, list-o) (length list) ∷ [])) ∷ ‵ (flft κ₅ q₅) ∷ ‵ (MutSlice (named 6) κ₆ u8 .own (record { ptr = (scratch-b, scratch-o); name = scratch-γ; now = scratch′ }) (sliceVal (scratch-b, scratch-o) (length scratch) ∷ [])) ∷ ‵ (flft κ₆ q₆) ∷ [])) (Post (EL.val Answer-T.the-type Answer-T′.the-laws r))
+  exits : (r : Answer) (k′ : ℕ) (palette′ : List ℕ) (lab′ : List (f64 .Denot)) (indices′ : List ℤ) (scratch′ : List ℕ) → (replayed r (sheetOf w h k′ palette′ lab′ indices′) ≡ replayOf (length scratch) (sheetOf w h k palette lab indices) (permittedOf limited permitted) edit (flatAll list)) × (length scratch′ ≡ length scratch) → length palette′ ≡ length palette → length lab′ ≡ length lab → length indices′ ≡ length indices → length scratch′ ≡ length scratch → Is Answer-T.the-row r (EL.val Answer-T.the-type Answer-T′.the-laws r ∷ []) → ent 𝓤 (⋆ 𝓤 H A (‵ (fobs k-γ (usize .coded .code k′)) ∷ ‵ (fbor κ₀ (Body (mem usize) k-b k-o k-γ)) ∷ ‵ (flft κ₀ q₀) ∷ ‵ (finally u8 palette-γ palette′) ∷ ‵ (flft κ₁ q₁) ∷ ‵ (finally f64 lab-γ lab′) ∷ ‵ (flft κ₂ q₂) ∷ ‵ (finally i16 indices-γ indices′) ∷ ‵ (flft κ₃ q₃) ∷ ‵ (ShrSlice (named 4) κ₄ u8 .own (record { ptr = (permitted-b, permitted-o); name = permitted-γ; now = permitted }) (sliceVal (permitted-b, permitted-o) (length permitted) ∷ [])) ∷ ‵ (flft κ₄ q₄) ∷ ‵ (ShrSlice (named 5) κ₅ Change-T.the-row .own (record { ptr = (list-b, list-o); name = list-γ; now = list }) (sliceVal (list-b, list-o) (length list) ∷ [])) ∷ ‵ (flft κ₅ q₅) ∷ ‵ (MutSlice (named 6) κ₆ u8 .own (record { ptr = (scratch-b, scratch-o); name = scratch-γ; now = scratch′ }) (sliceVal (scratch-b, scratch-o) (length scratch) ∷ [])) ∷ ‵ (flft κ₆ q₆) ∷ [])) (Post (EL.val Answer-T.the-type Answer-T′.the-laws r))
   exits r k′ palette′ lab′ indices′ scratch′ said palette-len lab-len indices-len scratch-len is =
       qed W (‵ (fobs k-γ (usize .coded .code k′)) ∷ ‵ (fbor κ₀ (Body (mem usize) k-b k-o k-γ)) ∷ ‵ (flft κ₀ q₀) ∷ ‵ (finally u8 palette-γ palette′) ∷ ‵ (flft κ₁ q₁) ∷ ‵ (finally f64 lab-γ lab′) ∷ ‵ (flft κ₂ q₂) ∷ ‵ (finally i16 indices-γ indices′) ∷ ‵ (flft κ₃ q₃) ∷ ‵ (ShrSlice (named 4) κ₄ u8 .own (record { ptr = (permitted-b, permitted-o); name = permitted-γ; now = permitted }) (sliceVal (permitted-b, permitted-o) (length permitted) ∷ [])) ∷ ‵ (flft κ₄ q₄) ∷ ‵ (ShrSlice (named 5) κ₅ Change-T.the-row .own (record { ptr = (list-b, list-o); name = list-γ; now = list }) (sliceVal (list-b, list-o) (length list) ∷ [])) ∷ ‵ (flft κ₅ q₅) ∷ ‵ (MutSlice (named 6) κ₆ u8 .own (record { ptr = (scratch-b, scratch-o); name = scratch-γ; now = scratch′ }) (sliceVal (scratch-b, scratch-o) (length scratch) ∷ [])) ∷ ‵ (flft κ₆ q₆) ∷ []) ∵
       suffices ! _ (ends-at 𝓤 H A f.ended stayed (f.clauses 𝓤 H A at-mem run) W ((((κ₀, (κ₁, (κ₂, (κ₃, (κ₄, (κ₅, (κ₆, tt))))))), (q₀, (q₁, (q₂, (q₃, (q₄, (q₅, (q₆, tt))))))), tt, a, vals), tt)) (EL.val Answer-T.the-type Answer-T′.the-laws r) r (tt, (tt, (k′, (palette′, (lab′, (indices′, (tt, (tt, (tt, (tt, (scratch′, tt))))))))))) (tt, (tt, (tt, (palette-len, (lab-len, (indices-len, (tt, (tt, (tt, (tt, (scratch-len, tt)))))))))))) $ says ! said $
@@ -197,7 +197,7 @@ module _ {M : Type 1} (𝓤 : URA M) (H : Heap 𝓤) (A : Atoms 𝓤) (W : Given
         assigns ! (addr ! (from ! (fld ! refl (hop ! (look-in ! 64 (sub ! 0 refl (whole !))) (stop !))))) (from ! (stop !)) (init ! 22 refl (tt, tt)) $
         assigns ! (agg ! (and-then ! (load ! (from ! (stop !)) (look ! 22 refl)) (and-then ! (load ! (from ! (fld ! refl (stop !))) (look-in ! 64 (sub ! 1 refl (whole !)))) (no-more !)))) (from ! (stop !)) (init ! 20 refl (tt, (tt, (record { fits = indices-room .0 }, tt)))) $
         move ! (12 ∷ []) $ use1 W (‵ (ShrSlice (named 5) κ₅ Change-T.the-row .own (record { ptr = (list-b, list-o); name = list-γ; now = list }) (sliceVal (list-b, list-o) (length list) ∷ [])) ⊛ ‵ (ShrSlice (named 5) κ₅ Change-T.the-row .own (record { ptr = (list-b, list-o); name = list-γ; now = list }) (sliceVal (list-b, list-o) (length list) ∷ []))) (shr-slice-copy 𝓤 H A W (named 5) κ₅ Change-T.the-row .twice (record { ptr = (list-b, list-o); name = list-γ; now = list }) (sliceVal (list-b, list-o) (length list) ∷ [])) $ split ! $
-        move ! (9 ∷ 7 ∷ 5 ∷ 11 ∷ 8 ∷ 6 ∷ 4 ∷ 1 ∷ []) $ group ! 8 $ use1 W (raw (Redoing 𝓤 H A at-mem run .pre (to₂ (r₁) (k) (palette) (lab) (indices)))) (goes₂ (r₁) (k) (palette) (lab) (indices) (is₁ .1) (k-is .1) (λ z. redoable (length scratch) w h k palette lab indices (permittedOf limited permitted) edit (toldAll list) (sym e₁ ∙ z))) $
+        move ! (9 ∷ 7 ∷ 5 ∷ 11 ∷ 8 ∷ 6 ∷ 4 ∷ 1 ∷ []) $ group ! 8 $ use1 W (raw (Redoing 𝓤 H A at-mem run .pre (to₂ (r₁) (k) (palette) (lab) (indices)))) (goes₂ (r₁) (k) (palette) (lab) (indices) (is₁ .1) (k-is .1) (λ z. redoable (length scratch) w h k palette lab indices (permittedOf limited permitted) edit (flatAll list) (sym e₁ ∙ z))) $
         calls-at ! fm (Redoing 𝓤 H A at-mem run) known-Redoing (to₂ (r₁) (k) (palette) (lab) (indices)) (and-then ! (load ! (from ! (stop !)) (look ! 44 refl)) (and-then ! (load ! (from ! (stop !)) (look ! 68 refl)) (and-then ! (load ! (from ! (stop !)) (look ! 46 refl)) (and-then ! (load ! (from ! (stop !)) (look ! 22 refl)) (and-then ! (load ! (from ! (stop !)) (look ! 18 refl)) (and-then ! (load ! (from ! (stop !)) (look ! 14 refl)) (and-then ! (load ! (from ! (stop !)) (look ! 52 refl)) (and-then ! (load ! (from ! (stop !)) (look ! 50 refl)) (no-more !))))))))) (λ v₂.
         use1 W (later (some (λ (r₂ : Replayed). ((‵ (flft κ₁ q₁) ⊛ ‵ (flft κ₂ q₂) ⊛ ‵ (flft κ₃ q₃) ⊛ ‵ (flft κ₅ q₅) ⊛ ‵ ftrue) ⊛ ‵ (Replayed-T.the-row .own r₂ (v₂ ∷ []))) ⊛ raw (ensured 𝓤 H A Redoing-f.ended (Redoing-f.clauses 𝓤 H A at-mem run) (κ₁, (κ₂, (κ₃, (κ₅, tt)))) (passed₂ (r₁) (k) (palette) (lab) (indices)) tt r₂)))) (id⊢ 𝓤 _) $ await ! tt $ pick ! (λ r₂.
         split ! $ move ! (1 ∷ []) $ use1 W (some (λ (z₂ : Unit {0} × (Unit {0} × (Unit {0} × (List ℕ × (List (f64 .Denot) × (List ℤ × (Unit {0} × (Unit {0} × Unit {0})))))))). ‵ (lasts Redoing-f.ended (κ₁, (κ₂, (κ₃, (κ₅, tt)))) (passed₂ (r₁) (k) (palette) (lab) (indices)) z₂) ⊛ raw (fact 𝓤 (Said₂ (r₁) (k) (palette) (lab) (indices) r₂ (z₂ .1 .1 .1 .0) (z₂ .1 .1 .1 .1 .0) (z₂ .1 .1 .1 .1 .1 .0))))) (id⊢ 𝓤 _) $ pick ! (λ z₂.
@@ -217,7 +217,7 @@ module _ {M : Type 1} (𝓤 : URA M) (H : Heap 𝓤) (A : Atoms 𝓤) (W : Given
         move ! (17 ∷ 0 ∷ 18 ∷ 19 ∷ 20 ∷ []) $ closes ! tt usize (r₂ .k) (vint w64 (r₂ .k) ∷ []) k-b k-o $
         returns ! (look ! 77 refl) $ forget ! 77 refl $ forget ! 75 refl $ forget ! 73 refl $ forget ! 71 refl $ forget ! 69 refl $ forget ! 67 refl $ forget ! 65 refl $ forget ! 63 refl $ forget ! 61 refl $ forget ! 59 refl $ forget ! 57 refl $ forget ! 55 refl $ forget ! 53 refl $ forget ! 51 refl $ forget ! 49 refl $ forget ! 47 refl $ forget ! 45 refl $ forget ! 43 refl $ forget ! 41 refl $ forget ! 39 refl $ forget ! 37 refl $ forget ! 35 refl $ forget ! 33 refl $ forget ! 31 refl $ forget ! 29 refl $ forget ! 27 refl $ forget ! 25 refl $ forget ! 23 refl $ forget ! 21 refl $
         move ! (77 ∷ 78 ∷ []) $ free1 ! $ move ! (75 ∷ 76 ∷ []) $ free1 ! $ move ! (73 ∷ 74 ∷ []) $ free1 ! $ move ! (71 ∷ 72 ∷ []) $ free1 ! $ move ! (69 ∷ 70 ∷ []) $ free1 ! $ move ! (67 ∷ 68 ∷ []) $ free1 ! $ move ! (65 ∷ 66 ∷ []) $ free1 ! $ move ! (63 ∷ 64 ∷ []) $ free1 ! $ move ! (61 ∷ 62 ∷ []) $ free1 ! $ move ! (59 ∷ 60 ∷ []) $ free1 ! $ move ! (57 ∷ 58 ∷ []) $ free1 ! $ move ! (55 ∷ 56 ∷ []) $ free1 ! $ move ! (53 ∷ 54 ∷ []) $ free1 ! $ move ! (51 ∷ 52 ∷ []) $ free1 ! $ move ! (49 ∷ 50 ∷ []) $ free1 ! $ move ! (47 ∷ 48 ∷ []) $ free1 ! $ move ! (45 ∷ 46 ∷ []) $ free1 ! $ move ! (43 ∷ 44 ∷ []) $ free1 ! $ move ! (41 ∷ 42 ∷ []) $ free1 ! $ move ! (39 ∷ 40 ∷ []) $ free1 ! $ move ! (37 ∷ 38 ∷ []) $ free1 ! $ move ! (35 ∷ 36 ∷ []) $ free1 ! $ move ! (33 ∷ 34 ∷ []) $ free1 ! $ move ! (31 ∷ 32 ∷ []) $ free1 ! $ move ! (29 ∷ 30 ∷ []) $ free1 ! $ move ! (27 ∷ 28 ∷ []) $ free1 ! $ move ! (25 ∷ 26 ∷ []) $ free1 ! $ move ! (23 ∷ 24 ∷ []) $ free1 ! $ move ! (21 ∷ 22 ∷ []) $ free1 ! $ free0 ! $
-        keep ! (0 ∷ 1 ∷ 2 ∷ 11 ∷ 7 ∷ 10 ∷ 6 ∷ 9 ∷ 5 ∷ 18 ∷ 16 ∷ 12 ∷ 3 ∷ 13 ∷ 14 ∷ []) $ by ! (exits (r₂ .answer) (r₂ .k) (z₂ .1 .1 .1 .0) (z₂ .1 .1 .1 .1 .0) (z₂ .1 .1 .1 .1 .1 .0) (z₁ .1 .1 .1 .1 .1 .1 .1 .1 .1 .1 .0) ((e₂ h ∙ replay-is (length scratch) (sheetOf w h k palette lab indices) (permittedOf limited permitted) edit (toldAll list) r₁ e₁, l₁-scratch)) (l₂-palette) (l₂-lab) (l₂-indices) (l₁-scratch) (LL.owed Replayed-T.the-type Replayed-T′.the-laws r₂ _ is₂ .0)))))))))))))))))))))))))))))))))))))))))))))))))))))))
+        keep ! (0 ∷ 1 ∷ 2 ∷ 11 ∷ 7 ∷ 10 ∷ 6 ∷ 9 ∷ 5 ∷ 18 ∷ 16 ∷ 12 ∷ 3 ∷ 13 ∷ 14 ∷ []) $ by ! (exits (r₂ .answer) (r₂ .k) (z₂ .1 .1 .1 .0) (z₂ .1 .1 .1 .1 .0) (z₂ .1 .1 .1 .1 .1 .0) (z₁ .1 .1 .1 .1 .1 .1 .1 .1 .1 .1 .0) ((e₂ h ∙ replay-is (length scratch) (sheetOf w h k palette lab indices) (permittedOf limited permitted) edit (flatAll list) r₁ e₁, l₁-scratch)) (l₂-palette) (l₂-lab) (l₂-indices) (l₁-scratch) (LL.owed Replayed-T.the-type Replayed-T′.the-laws r₂ _ is₂ .0)))))))))))))))))))))))))))))))))))))))))))))))))))))))
 
 module _ {M : Type 1} (𝓤 : URA M) (H : Heap 𝓤) (A : Atoms 𝓤) (W : Given 𝓤 H A) (mem : Memory → SProp 𝓤) (run : Routine → Fun 𝓤) where
   replay-walks : (C : Calls 𝓤 H) (Λ : Loops 𝓤 H) → FmC 𝓤 H (W .laws) C → Triple 𝓤 (C #struct_replay·op·replay-no) (Numbering 𝓤 H A mem run) → Triple 𝓤 (C #struct_replay·op·redo-list) (Redoing 𝓤 H A mem run) → Walks 𝓤 H A f.ended stayed (WpFn 𝓤 H C Λ code.function) (f.clauses 𝓤 H A mem run)
@@ -226,8 +226,7 @@ module _ {M : Type 1} (𝓤 : URA M) (H : Heap 𝓤) (A : Atoms 𝓤) (W : Given
       (λ κs qs bounds a g are. via 𝓤 _ (fst∗ 𝓤 _ (emp 𝓤))
       (walk 𝓤 H A W mem run (κs .0) (κs .1 .0) (κs .1 .1 .0) (κs .1 .1 .1 .0) (κs .1 .1 .1 .1 .0) (κs .1 .1 .1 .1 .1 .0) (κs .1 .1 .1 .1 .1 .1 .0) (qs .0) (qs .1 .0) (qs .1 .1 .0) (qs .1 .1 .1 .0) (qs .1 .1 .1 .1 .0) (qs .1 .1 .1 .1 .1 .0) (qs .1 .1 .1 .1 .1 .1 .0) (a .0) (a .1 .0) (a .1 .1 .0 .ptr .0) (a .1 .1 .0 .ptr .1) (a .1 .1 .0 .name) (a .1 .1 .0 .now) (a .1 .1 .1 .0 .ptr .0) (a .1 .1 .1 .0 .ptr .1) (a .1 .1 .1 .0 .name) (a .1 .1 .1 .0 .now) (a .1 .1 .1 .1 .0 .ptr .0) (a .1 .1 .1 .1 .0 .ptr .1) (a .1 .1 .1 .1 .0 .name) (a .1 .1 .1 .1 .0 .now) (a .1 .1 .1 .1 .1 .0 .ptr .0) (a .1 .1 .1 .1 .1 .0 .ptr .1) (a .1 .1 .1 .1 .1 .0 .name) (a .1 .1 .1 .1 .1 .0 .now) (a .1 .1 .1 .1 .1 .1 .0) (a .1 .1 .1 .1 .1 .1 .1 .0 .ptr .0) (a .1 .1 .1 .1 .1 .1 .1 .0 .ptr .1) (a .1 .1 .1 .1 .1 .1 .1 .0 .name) (a .1 .1 .1 .1 .1 .1 .1 .0 .now) (a .1 .1 .1 .1 .1 .1 .1 .1 .0) (a .1 .1 .1 .1 .1 .1 .1 .1 .1 .0 .ptr .0) (a .1 .1 .1 .1 .1 .1 .1 .1 .1 .0 .ptr .1) (a .1 .1 .1 .1 .1 .1 .1 .1 .1 .0 .name) (a .1 .1 .1 .1 .1 .1 .1 .1 .1 .0 .now) (a .1 .1 .1 .1 .1 .1 .1 .1 .1 .1 .0 .ptr .0) (a .1 .1 .1 .1 .1 .1 .1 .1 .1 .1 .0 .ptr .1) (a .1 .1 .1 .1 .1 .1 .1 .1 .1 .1 .0 .name) (a .1 .1 .1 .1 .1 .1 .1 .1 .1 .1 .0 .now) (are .0 .1) (are .1 .0 .1) (are .1 .1 .1 .0 .0 .1) (are .1 .1 .1 .1 .0 .0 .1) (are .1 .1 .1 .1 .1 .0 .0 .1) (are .1 .1 .1 .1 .1 .1 .1 .0 .0 .1) (are .1 .1 .1 .1 .1 .1 .1 .1 .0) (are .1 .1 .1 .1 .1 .1 .1 .1 .1 .0 .0 .1) (are .1 .1 .1 .1 .1 .1 .1 .1 .1 .1 .0 .0 .1) C Λ fm known-Numbering known-Redoing))
 
-replay-meets : {M : Type 1} (𝓤 : URA M) (H : Heap 𝓤) (A : Atoms 𝓤) → Given 𝓤 H A → (mem : Memory → SProp 𝓤) (run : Routine → Fun 𝓤) (𝓣 : Tables 𝓤 H) → Triple 𝓤 (𝓣 .C #struct_replay·op·replay-no) (Numbering 𝓤 H A mem run) → Triple 𝓤 (𝓣 .C #struct_replay·op·redo-list) (Redoing 𝓤 H A mem run)
-    → Meets 𝓤 H A f.signature (WpFn 𝓤 H (𝓣 .C) (𝓣 .Λ) code.function) (f.spec 𝓤 H A mem run)
+replay-meets : {M : Type 1} (𝓤 : URA M) (H : Heap 𝓤) (A : Atoms 𝓤) → Given 𝓤 H A → (mem : Memory → SProp 𝓤) (run : Routine → Fun 𝓤) (𝓣 : Tables 𝓤 H) → Triple 𝓤 (𝓣 .C #struct_replay·op·replay-no) (Numbering 𝓤 H A mem run) → Triple 𝓤 (𝓣 .C #struct_replay·op·redo-list) (Redoing 𝓤 H A mem run) → Meets 𝓤 H A f.signature (WpFn 𝓤 H (𝓣 .C) (𝓣 .Λ) code.function) (f.spec 𝓤 H A mem run)
 replay-meets 𝓤 H A W mem run 𝓣 known-Numbering known-Redoing =
     walk-meets 𝓤 H A f.ended stayed W (goes-none 𝓤 H A W 7 (λ _. usize) yes (λ κs x f. refl), (goes-none 𝓤 H A W 7 (λ _. usize) yes (λ κs x f. refl), (goes-ref 𝓤 H A W 7 0 tt (plain (λ _. usize)), (goes-gave-slice 𝓤 H A W 7 1 tt (plain (λ _. u8)), (goes-gave-slice 𝓤 H A W 7 2 tt (plain (λ _. f64)), (goes-gave-slice 𝓤 H A W 7 3 tt (plain (λ _. i16)), (goes-none 𝓤 H A W 7 (λ _. bool) yes (λ κs x f. refl), (goes-none-slice 𝓤 H A W 7 (4 ∷ []) tt (plain (λ _. u8)) yes, (goes-none 𝓤 H A W 7 (λ _. Edit-T.the-row) yes (λ κs x f. refl), (goes-none-slice 𝓤 H A W 7 (5 ∷ []) tt (plain (λ _. Change-T.the-row)) yes, (goes-slice 𝓤 H A W 7 6 tt (plain (λ _. u8)), tt))))))))))) (f.clauses 𝓤 H A mem run)
     (WpFn 𝓤 H (𝓣 .C) (𝓣 .Λ) code.function) (WpFn-mono 𝓤 H (W .laws) 𝓣 code.function) (replay-walks 𝓤 H A W mem run (𝓣 .C) (𝓣 .Λ) (fmOf 𝓤 H (W .laws) 𝓣) known-Numbering known-Redoing)

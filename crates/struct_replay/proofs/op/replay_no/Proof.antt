@@ -1,5 +1,6 @@
--- `replay_no` meets its contract: a walk of its MIR, by hand. The marks are lent to each step. All that the proof knows of the functions that it calls is that they
--- meet their contracts. Assumes nothing.
+-- Written by tools/walks; do not edit.
+-- `struct_replay::replay_no` meets its contract: a walk of its MIR, by hand. The marks are lent to each step.
+-- All that the proof knows of the functions that it calls is that they meet their contracts. Assumes nothing.
 use mathlib.Core.Path.{_≡_, refl, ap, _∙_}
 use mathlib.Core.Bool.{Bool, true}
 use Prim.Native.Nat.{ℕ, _<_, _^_, _*_}
@@ -32,7 +33,6 @@ use denote.Ref.{RefT}
 use denote.Slice.{sliceVal, MutSlice, ShrSlice, Room, slice-vals, mut-slice-tells, shr-slice-tells, shr-slice-copy}
 use denote.Signature.{plain}
 use denote.Steps.{only, owned, peeks, heard, nothing}
-use denote.Struct.Laws as LL
 use denote.Enum.Laws as EL
 use denote.Triple.Entry.{onEntry}
 use denote.Triple.Spec.{Meets, tripleOf}
@@ -42,23 +42,22 @@ use denote.Triple.Clauses.{ensured, lasts}
 use denote.Triple.Table.{entered, cited}
 use denote.Triple.Walked.{says, Stays, stay-slice, stay-none-slice, stay-none, walkOf, goes-slice, goes-none-slice, goes-none, Walks, ends-at, walked, walk-meets}
 use denote.Exit.{yes}
-use Rattle.edit.specs.declared.Edit.{Edit}
-use Rattle.edit.proofs.Edit as Edit-T
-use Rattle.edit.proofs.Edit.Laws as Edit-T′
-use Rattle.struct_change.specs.declared.Change.{Change}
-use Rattle.struct_change.proofs.Change as Change-T
-use Rattle.struct_change.proofs.Change.Laws as Change-T′
 use Rattle.struct_change.proofs.Lending.{LentAgain, LentShared, lend-mut, back-mut, lend-shr, back-shr}
-use Rattle.base_limits.specs.Checks.{orElse, firstOf}
+use Rattle.base.specs.declared.Edit.{Edit}
+use Rattle.base.proofs.Edit as Edit-T
+use Rattle.base.proofs.Edit.Laws as Edit-T′
+use Rattle.base.specs.declared.Change.{Change}
+use Rattle.base.proofs.Change as Change-T
+use Rattle.base.specs.Checks.{orElse, firstOf}
 use Rattle.sheet.specs.Sheet.{sheetOf}
 use Rattle.edit.specs.Change as flat
 use Rattle.edit.specs.Checks.{permittedOf}
 use Rattle.edit_pixels.specs.Inside.{bare}
 use Rattle.edit_head.specs.Apart.{leftChecks, MarksFor}
-use Rattle.struct_edit.specs.Walk.{toldAll, checkUpto, markUpto, Checkable}
+use Rattle.struct_edit.specs.Walk.{flatAll, checkUpto, markUpto, Checkable}
 use Rattle.struct_edit.proofs.Told.{told-length}
 use Rattle.history_model.specs.Replay.{replayChecks}
-use Rattle.struct_replay.specs.Phases.{Opened}
+use Rattle.struct_replay.specs.Phases.{ReplayBegun}
 use Rattle.struct_replay.proofs.Replaying.{opened-checkable, checked-checkable, checked-marks, replay-number}
 use Rattle.struct_replay.proofs.op.open_replay as Opening-f
 use Rattle.struct_replay.proofs.op.open_replay.Symbol as Opening-def
@@ -113,7 +112,7 @@ module _ {M : Type 1} (𝓤 : URA M) (H : Heap 𝓤) (A : Atoms 𝓤) (W : Given
   to₁ n marks-ν marks-δ marks-now = (((κ₀, (κ₁, (κ₂, (κ₃, (marks-ν ∷ [], tt))))), (q₀, (q₁, (q₂, (q₃, (fullShare, tt))))), tt, passed₁ n marks-ν marks-δ marks-now, (vint w64 w ∷ [], (vint w64 h ∷ [], (vint w64 k ∷ [], (sliceVal (palette-b, palette-o) (length palette) ∷ [], (sliceVal (lab-b, lab-o) (length lab) ∷ [], (sliceVal (indices-b, indices-o) (length indices) ∷ [], (vbool limited ∷ [], (sliceVal (permitted-b, permitted-o) (length permitted) ∷ [], (EL.val Edit-T.the-type Edit-T′.the-laws edit ∷ [], (vint w64 n ∷ [], (sliceVal (marks-b, marks-o) (length marks) ∷ [], tt)))))))))))), tt)
 
   abbrev Said₁ : (n : ℕ) (marks-ν : ℕ) (marks-δ : GName) (marks-now : List ℕ) (r : ℕ) (marks′ : List ℕ) → Type 0
-  Said₁ n marks-ν marks-δ marks-now r marks′ = (cs : List flat.Change) → length cs ≡ n → Opened (length marks-now) (sheetOf w h k palette lab indices) (permittedOf limited permitted) edit cs r marks′
+  Said₁ n marks-ν marks-δ marks-now r marks′ = (cs : List flat.Change) → length cs ≡ n → ReplayBegun (length marks-now) (sheetOf w h k palette lab indices) (permittedOf limited permitted) edit cs r marks′
 
   goes₁ : (n : ℕ) (marks-ν : ℕ) (marks-δ : GName) (marks-now : List ℕ) (n-fits′ : n < 2 ^ 64) → ent 𝓤 (⋆ 𝓤 H A (‵ (flft (κ₀) q₀) ∷ ‵ (flft (κ₁) q₁) ∷ ‵ (flft (κ₂) q₂) ∷ ‵ (flft (κ₃) q₃) ∷ ‵ (flft (marks-ν ∷ []) fullShare) ∷ ‵ (ShrSlice (named 0) (κ₀) u8 .own (record { ptr = (palette-b, palette-o); name = palette-γ; now = palette }) (sliceVal (palette-b, palette-o) (length palette) ∷ [])) ∷ ‵ (ShrSlice (named 1) (κ₁) f64 .own (record { ptr = (lab-b, lab-o); name = lab-γ; now = lab }) (sliceVal (lab-b, lab-o) (length lab) ∷ [])) ∷ ‵ (ShrSlice (named 2) (κ₂) i16 .own (record { ptr = (indices-b, indices-o); name = indices-γ; now = indices }) (sliceVal (indices-b, indices-o) (length indices) ∷ [])) ∷ ‵ (ShrSlice (named 3) (κ₃) u8 .own (record { ptr = (permitted-b, permitted-o); name = permitted-γ; now = permitted }) (sliceVal (permitted-b, permitted-o) (length permitted) ∷ [])) ∷ ‵ (MutSlice (named 5) (marks-ν ∷ []) u8 .own (record { ptr = (marks-b, marks-o); name = marks-δ; now = marks-now }) (sliceVal (marks-b, marks-o) (length marks) ∷ [])) ∷ [])) (Opening 𝓤 H A at-mem run .pre (to₁ n marks-ν marks-δ marks-now))
   goes₁ n marks-ν marks-δ marks-now n-fits′ = qed W (‵ (flft (κ₀) q₀) ∷ ‵ (flft (κ₁) q₁) ∷ ‵ (flft (κ₂) q₂) ∷ ‵ (flft (κ₃) q₃) ∷ ‵ (flft (marks-ν ∷ []) fullShare) ∷ ‵ (ShrSlice (named 0) (κ₀) u8 .own (record { ptr = (palette-b, palette-o); name = palette-γ; now = palette }) (sliceVal (palette-b, palette-o) (length palette) ∷ [])) ∷ ‵ (ShrSlice (named 1) (κ₁) f64 .own (record { ptr = (lab-b, lab-o); name = lab-γ; now = lab }) (sliceVal (lab-b, lab-o) (length lab) ∷ [])) ∷ ‵ (ShrSlice (named 2) (κ₂) i16 .own (record { ptr = (indices-b, indices-o); name = indices-γ; now = indices }) (sliceVal (indices-b, indices-o) (length indices) ∷ [])) ∷ ‵ (ShrSlice (named 3) (κ₃) u8 .own (record { ptr = (permitted-b, permitted-o); name = permitted-γ; now = permitted }) (sliceVal (permitted-b, permitted-o) (length permitted) ∷ [])) ∷ ‵ (MutSlice (named 5) (marks-ν ∷ []) u8 .own (record { ptr = (marks-b, marks-o); name = marks-δ; now = marks-now }) (sliceVal (marks-b, marks-o) (length marks) ∷ [])) ∷ []) ∵ nothing ! $ move ! (5 ∷ 0 ∷ []) $ join ! $ move ! (4 ∷ 0 ∷ []) $ join ! $ move ! (3 ∷ 0 ∷ []) $ join ! $ move ! (2 ∷ 0 ∷ []) $ join ! $ move ! (1 ∷ 0 ∷ []) $ join ! $ nothing ! $ move ! (6 ∷ 0 ∷ []) $ fjoin ! $ owned ! usize (Is usize) (uint-makes 𝓤 H A W w64) n _ (refl, n-fits′) $ fjoin ! $ owned ! Edit-T.the-row (Is Edit-T.the-row) (EL.makes Edit-T.the-type Edit-T′.the-plain 𝓤 H A) edit _ edit-is $ fjoin ! $ move ! (5 ∷ 0 ∷ []) $ fjoin ! $ owned ! bool (Is bool) (bool-makes 𝓤 H A W) limited _ refl $ fjoin ! $ move ! (4 ∷ 0 ∷ []) $ fjoin ! $ move ! (3 ∷ 0 ∷ []) $ fjoin ! $ move ! (2 ∷ 0 ∷ []) $ fjoin ! $ owned ! usize (Is usize) (uint-makes 𝓤 H A W w64) k _ (refl, k-fits) $ fjoin ! $ owned ! usize (Is usize) (uint-makes 𝓤 H A W w64) h _ (refl, h-fits) $ fjoin ! $ owned ! usize (Is usize) (uint-makes 𝓤 H A W w64) w _ (refl, w-fits) $ fjoin ! $ move ! (1 ∷ 0 ∷ []) $ join ! $ frame ! $ done !
@@ -150,7 +149,7 @@ module _ {M : Type 1} (𝓤 : URA M) (H : Heap 𝓤) (A : Atoms 𝓤) (W : Given
   goes₃ : (checked : ℕ) (marks-ν : ℕ) (marks-δ : GName) (marks-now : List ℕ) (checked-fits′ : checked < 2 ^ 8) → Asked₃ checked marks-ν marks-δ marks-now → ent 𝓤 (⋆ 𝓤 H A (‵ (flft (κ₂) q₂) ∷ ‵ (flft (marks-ν ∷ []) fullShare) ∷ ‵ (ShrSlice (named 2) (κ₂) i16 .own (record { ptr = (indices-b, indices-o); name = indices-γ; now = indices }) (sliceVal (indices-b, indices-o) (length indices) ∷ [])) ∷ ‵ (ShrSlice (named 5) (marks-ν ∷ []) u8 .own (record { ptr = (marks-b, marks-o); name = marks-δ; now = marks-now }) (sliceVal (marks-b, marks-o) (length marks) ∷ [])) ∷ [])) (Leaving 𝓤 H A at-mem run .pre (to₃ checked marks-ν marks-δ marks-now))
   goes₃ checked marks-ν marks-δ marks-now checked-fits′ asked = qed W (‵ (flft (κ₂) q₂) ∷ ‵ (flft (marks-ν ∷ []) fullShare) ∷ ‵ (ShrSlice (named 2) (κ₂) i16 .own (record { ptr = (indices-b, indices-o); name = indices-γ; now = indices }) (sliceVal (indices-b, indices-o) (length indices) ∷ [])) ∷ ‵ (ShrSlice (named 5) (marks-ν ∷ []) u8 .own (record { ptr = (marks-b, marks-o); name = marks-δ; now = marks-now }) (sliceVal (marks-b, marks-o) (length marks) ∷ [])) ∷ []) ∵ says ! asked $ nothing ! $ move ! (2 ∷ 0 ∷ []) $ join ! $ move ! (1 ∷ 0 ∷ []) $ join ! $ frame ! $ nothing ! $ move ! (2 ∷ 0 ∷ []) $ fjoin ! $ move ! (1 ∷ 0 ∷ []) $ fjoin ! $ owned ! usize (Is usize) (uint-makes 𝓤 H A W w64) h _ (refl, h-fits) $ fjoin ! $ owned ! usize (Is usize) (uint-makes 𝓤 H A W w64) w _ (refl, w-fits) $ fjoin ! $ owned ! Edit-T.the-row (Is Edit-T.the-row) (EL.makes Edit-T.the-type Edit-T′.the-plain 𝓤 H A) edit _ edit-is $ fjoin ! $ owned ! u8 (Is u8) (uint-makes 𝓤 H A W w8) checked _ (refl, checked-fits′) $ fjoin ! $ done !
 
-  exits : (r : ℕ) (marks′ : List ℕ) → r ≡ firstOf (replayChecks (length marks) (sheetOf w h k palette lab indices) (permittedOf limited permitted) edit (toldAll list)) → length marks′ ≡ length marks → r < 2 ^ 8 → ent 𝓤 (⋆ 𝓤 H A (‵ (ShrSlice (named 0) κ₀ u8 .own (record { ptr = (palette-b, palette-o); name = palette-γ; now = palette }) (sliceVal (palette-b, palette-o) (length palette) ∷ [])) ∷ ‵ (flft κ₀ q₀) ∷ ‵ (ShrSlice (named 1) κ₁ f64 .own (record { ptr = (lab-b, lab-o); name = lab-γ; now = lab }) (sliceVal (lab-b, lab-o) (length lab) ∷ [])) ∷ ‵ (flft κ₁ q₁) ∷ ‵ (ShrSlice (named 2) κ₂ i16 .own (record { ptr = (indices-b, indices-o); name = indices-γ; now = indices }) (sliceVal (indices-b, indices-o) (length indices) ∷ [])) ∷ ‵ (flft κ₂ q₂) ∷ ‵ (ShrSlice (named 3) κ₃ u8 .own (record { ptr = (permitted-b, permitted-o); name = permitted-γ; now = permitted }) (sliceVal (permitted-b, permitted-o) (length permitted) ∷ [])) ∷ ‵ (flft κ₃ q₃) ∷ ‵ (ShrSlice (named 4) κ₄ Change-T.the-row .own (record { ptr = (list-b, list-o); name = list-γ; now = list }) (sliceVal (list-b, list-o) (length list) ∷ [])) ∷ ‵ (flft κ₄ q₄) ∷ ‵ (MutSlice (named 5) κ₅ u8 .own (record { ptr = (marks-b, marks-o); name = marks-γ; now = marks′ }) (sliceVal (marks-b, marks-o) (length marks) ∷ [])) ∷ ‵ (flft κ₅ q₅) ∷ [])) (Post (vint w8 r))
+  exits : (r : ℕ) (marks′ : List ℕ) → r ≡ firstOf (replayChecks (length marks) (sheetOf w h k palette lab indices) (permittedOf limited permitted) edit (flatAll list)) → length marks′ ≡ length marks → r < 2 ^ 8 → ent 𝓤 (⋆ 𝓤 H A (‵ (ShrSlice (named 0) κ₀ u8 .own (record { ptr = (palette-b, palette-o); name = palette-γ; now = palette }) (sliceVal (palette-b, palette-o) (length palette) ∷ [])) ∷ ‵ (flft κ₀ q₀) ∷ ‵ (ShrSlice (named 1) κ₁ f64 .own (record { ptr = (lab-b, lab-o); name = lab-γ; now = lab }) (sliceVal (lab-b, lab-o) (length lab) ∷ [])) ∷ ‵ (flft κ₁ q₁) ∷ ‵ (ShrSlice (named 2) κ₂ i16 .own (record { ptr = (indices-b, indices-o); name = indices-γ; now = indices }) (sliceVal (indices-b, indices-o) (length indices) ∷ [])) ∷ ‵ (flft κ₂ q₂) ∷ ‵ (ShrSlice (named 3) κ₃ u8 .own (record { ptr = (permitted-b, permitted-o); name = permitted-γ; now = permitted }) (sliceVal (permitted-b, permitted-o) (length permitted) ∷ [])) ∷ ‵ (flft κ₃ q₃) ∷ ‵ (ShrSlice (named 4) κ₄ Change-T.the-row .own (record { ptr = (list-b, list-o); name = list-γ; now = list }) (sliceVal (list-b, list-o) (length list) ∷ [])) ∷ ‵ (flft κ₄ q₄) ∷ ‵ (MutSlice (named 5) κ₅ u8 .own (record { ptr = (marks-b, marks-o); name = marks-γ; now = marks′ }) (sliceVal (marks-b, marks-o) (length marks) ∷ [])) ∷ ‵ (flft κ₅ q₅) ∷ [])) (Post (vint w8 r))
   exits r marks′ said marks-len is =
       qed W (‵ (ShrSlice (named 0) κ₀ u8 .own (record { ptr = (palette-b, palette-o); name = palette-γ; now = palette }) (sliceVal (palette-b, palette-o) (length palette) ∷ [])) ∷ ‵ (flft κ₀ q₀) ∷ ‵ (ShrSlice (named 1) κ₁ f64 .own (record { ptr = (lab-b, lab-o); name = lab-γ; now = lab }) (sliceVal (lab-b, lab-o) (length lab) ∷ [])) ∷ ‵ (flft κ₁ q₁) ∷ ‵ (ShrSlice (named 2) κ₂ i16 .own (record { ptr = (indices-b, indices-o); name = indices-γ; now = indices }) (sliceVal (indices-b, indices-o) (length indices) ∷ [])) ∷ ‵ (flft κ₂ q₂) ∷ ‵ (ShrSlice (named 3) κ₃ u8 .own (record { ptr = (permitted-b, permitted-o); name = permitted-γ; now = permitted }) (sliceVal (permitted-b, permitted-o) (length permitted) ∷ [])) ∷ ‵ (flft κ₃ q₃) ∷ ‵ (ShrSlice (named 4) κ₄ Change-T.the-row .own (record { ptr = (list-b, list-o); name = list-γ; now = list }) (sliceVal (list-b, list-o) (length list) ∷ [])) ∷ ‵ (flft κ₄ q₄) ∷ ‵ (MutSlice (named 5) κ₅ u8 .own (record { ptr = (marks-b, marks-o); name = marks-γ; now = marks′ }) (sliceVal (marks-b, marks-o) (length marks) ∷ [])) ∷ ‵ (flft κ₅ q₅) ∷ []) ∵
       suffices ! _ (ends-at 𝓤 H A f.ended stayed (f.clauses 𝓤 H A at-mem run) W ((((κ₀, (κ₁, (κ₂, (κ₃, (κ₄, (κ₅, tt)))))), (q₀, (q₁, (q₂, (q₃, (q₄, (q₅, tt)))))), tt, a, vals), tt)) (vint w8 r) r (tt, (tt, (tt, (tt, (tt, (tt, (tt, (tt, (tt, (tt, (marks′, tt))))))))))) (tt, (tt, (tt, (tt, (tt, (tt, (tt, (tt, (tt, (tt, (marks-len, tt)))))))))))) $ says ! said $
@@ -192,7 +191,7 @@ module _ {M : Type 1} (𝓤 : URA M) (H : Heap 𝓤) (A : Atoms 𝓤) (W : Given
         move ! (16 ∷ []) $ use1 W (‵ (ShrSlice (named 4) κ₄ Change-T.the-row .own (record { ptr = (list-b, list-o); name = list-γ; now = list }) (sliceVal (list-b, list-o) (length list) ∷ [])) ⊛ ‵ (ShrSlice (named 4) κ₄ Change-T.the-row .own (record { ptr = (list-b, list-o); name = list-γ; now = list }) (sliceVal (list-b, list-o) (length list) ∷ []))) (shr-slice-copy 𝓤 H A W (named 4) κ₄ Change-T.the-row .twice (record { ptr = (list-b, list-o); name = list-γ; now = list }) (sliceVal (list-b, list-o) (length list) ∷ [])) $ split ! $
         lft-new ! tt (λ ν₂-marks.
         move ! (5 ∷ 6 ∷ []) $ use2 W (later (some (λ (δ₂-marks : GName). ‵ (MutSlice (named 5) (ν₂-marks ∷ []) u8 .own (record { ptr = (marks-b, marks-o); name = δ₂-marks; now = (z₁ .1 .1 .1 .1 .1 .1 .1 .1 .1 .1 .0) }) (sliceVal (marks-b, marks-o) (length marks) ∷ [])) ⊛ ‵ (LentAgain u8 κ₅ (ν₂-marks ∷ []) q₅ marks-γ marks-b marks-o δ₂-marks (z₁ .1 .1 .1 .1 .1 .1 .1 .1 .1 .1 .0))))) (lend-mut u8 κ₅ (ν₂-marks ∷ []) q₅ marks-γ marks-b marks-o 𝓤 H A W (named 5) (named 5) (z₁ .1 .1 .1 .1 .1 .1 .1 .1 .1 .1 .0) (length marks) (l₁-marks)) $ await ! tt $ pick ! (λ δ₂-marks. split ! $
-        move ! (9 ∷ 2 ∷ 17 ∷ 6 ∷ 0 ∷ 4 ∷ []) $ group ! 6 $ use1 W (raw (Checking 𝓤 H A at-mem run .pre (to₂ (r₁) ν₂-marks δ₂-marks (z₁ .1 .1 .1 .1 .1 .1 .1 .1 .1 .1 .0)))) (goes₂ (r₁) ν₂-marks δ₂-marks (z₁ .1 .1 .1 .1 .1 .1 .1 .1 .1 .1 .0) (is₁ .1) (opened-checkable (length marks) w h k palette lab indices (permittedOf limited permitted) edit list r₁ (z₁ .1 .1 .1 .1 .1 .1 .1 .1 .1 .1 .0) (e₁ (toldAll list) (told-length list)) l₁-marks (length (z₁ .1 .1 .1 .1 .1 .1 .1 .1 .1 .1 .0)) (l₁-marks))) $
+        move ! (9 ∷ 2 ∷ 17 ∷ 6 ∷ 0 ∷ 4 ∷ []) $ group ! 6 $ use1 W (raw (Checking 𝓤 H A at-mem run .pre (to₂ (r₁) ν₂-marks δ₂-marks (z₁ .1 .1 .1 .1 .1 .1 .1 .1 .1 .1 .0)))) (goes₂ (r₁) ν₂-marks δ₂-marks (z₁ .1 .1 .1 .1 .1 .1 .1 .1 .1 .1 .0) (is₁ .1) (opened-checkable (length marks) w h k palette lab indices (permittedOf limited permitted) edit list r₁ (z₁ .1 .1 .1 .1 .1 .1 .1 .1 .1 .1 .0) (e₁ (flatAll list) (told-length list)) l₁-marks (length (z₁ .1 .1 .1 .1 .1 .1 .1 .1 .1 .1 .0)) (l₁-marks))) $
         calls-at ! fm (Checking 𝓤 H A at-mem run) known-Checking (to₂ (r₁) ν₂-marks δ₂-marks (z₁ .1 .1 .1 .1 .1 .1 .1 .1 .1 .1 .0)) (and-then ! (load ! (from ! (stop !)) (look ! 28 refl)) (and-then ! (load ! (from ! (stop !)) (look ! 36 refl)) (and-then ! (true-lit !) (and-then ! (load ! (from ! (stop !)) (look ! 52 refl)) (and-then ! (load ! (from ! (stop !)) (look ! 50 refl)) (and-then ! (load ! (from ! (stop !)) (look ! 48 refl)) (and-then ! (load ! (from ! (stop !)) (look ! 42 refl)) (and-then ! (load ! (from ! (stop !)) (look ! 18 refl)) (and-then ! (load ! (from ! (stop !)) (look ! 34 refl)) (no-more !)))))))))) (λ v₂.
         use1 W (later (some (λ (r₂ : ℕ). ((‵ (flft κ₂ q₂) ⊛ ‵ (flft (ν₂-marks ∷ []) fullShare) ⊛ ‵ (flft κ₄ q₄) ⊛ ‵ ftrue) ⊛ ‵ (u8 .own r₂ (v₂ ∷ []))) ⊛ raw (ensured 𝓤 H A Checking-f.ended (Checking-f.clauses 𝓤 H A at-mem run) (κ₂, (ν₂-marks ∷ [], (κ₄, tt))) (passed₂ (r₁) ν₂-marks δ₂-marks (z₁ .1 .1 .1 .1 .1 .1 .1 .1 .1 .1 .0)) tt r₂)))) (id⊢ 𝓤 _) $ await ! tt $ pick ! (λ r₂.
         split ! $ move ! (1 ∷ []) $ use1 W (some (λ (z₂ : Unit {0} × (Unit {0} × (Unit {0} × (Unit {0} × (Unit {0} × (Unit {0} × (Unit {0} × (List ℕ × (Unit {0} × Unit {0}))))))))). ‵ (lasts Checking-f.ended (κ₂, (ν₂-marks ∷ [], (κ₄, tt))) (passed₂ (r₁) ν₂-marks δ₂-marks (z₁ .1 .1 .1 .1 .1 .1 .1 .1 .1 .1 .0)) z₂) ⊛ raw (fact 𝓤 (Said₂ (r₁) ν₂-marks δ₂-marks (z₁ .1 .1 .1 .1 .1 .1 .1 .1 .1 .1 .0) r₂ (z₂ .1 .1 .1 .1 .1 .1 .1 .0))))) (id⊢ 𝓤 _) $ pick ! (λ z₂.
@@ -211,7 +210,7 @@ module _ {M : Type 1} (𝓤 : URA M) (H : Heap 𝓤) (A : Atoms 𝓤) (W : Given
         move ! (7 ∷ []) $ use1 W (‵ (ShrSlice (named 2) κ₂ i16 .own (record { ptr = (indices-b, indices-o); name = indices-γ; now = indices }) (sliceVal (indices-b, indices-o) (length indices) ∷ [])) ⊛ ‵ (ShrSlice (named 2) κ₂ i16 .own (record { ptr = (indices-b, indices-o); name = indices-γ; now = indices }) (sliceVal (indices-b, indices-o) (length indices) ∷ []))) (shr-slice-copy 𝓤 H A W (named 2) κ₂ i16 .twice (record { ptr = (indices-b, indices-o); name = indices-γ; now = indices }) (sliceVal (indices-b, indices-o) (length indices) ∷ [])) $ split ! $
         lft-new ! tt (λ ν₃-marks.
         move ! (3 ∷ 4 ∷ []) $ use2 W (later (some (λ (δ₃-marks : GName). ‵ (ShrSlice (named 5) (ν₃-marks ∷ []) u8 .own (record { ptr = (marks-b, marks-o); name = δ₃-marks; now = (z₂ .1 .1 .1 .1 .1 .1 .1 .0) }) (sliceVal (marks-b, marks-o) (length marks) ∷ [])) ⊛ ‵ (LentShared u8 κ₅ (ν₃-marks ∷ []) q₅ marks-γ marks-b marks-o (z₂ .1 .1 .1 .1 .1 .1 .1 .0))))) (lend-shr u8 κ₅ (ν₃-marks ∷ []) q₅ marks-γ marks-b marks-o 𝓤 H A W (named 5) (named 5) (z₂ .1 .1 .1 .1 .1 .1 .1 .0) (length marks) (l₂-marks ∙ l₁-marks)) $ await ! tt $ pick ! (λ δ₃-marks. split ! $
-        move ! (7 ∷ 2 ∷ 4 ∷ 0 ∷ []) $ group ! 4 $ use1 W (raw (Leaving 𝓤 H A at-mem run .pre (to₃ (r₂) ν₃-marks δ₃-marks (z₂ .1 .1 .1 .1 .1 .1 .1 .0)))) (goes₃ (r₂) ν₃-marks δ₃-marks (z₂ .1 .1 .1 .1 .1 .1 .1 .0) (is₂ .1) (checked-checkable (length marks) w h k palette lab indices (permittedOf limited permitted) edit list r₁ (z₁ .1 .1 .1 .1 .1 .1 .1 .1 .1 .1 .0) (e₁ (toldAll list) (told-length list)) l₁-marks (length (z₂ .1 .1 .1 .1 .1 .1 .1 .0)) r₂ (l₂-marks ∙ l₁-marks) (e₂ .0))) $
+        move ! (7 ∷ 2 ∷ 4 ∷ 0 ∷ []) $ group ! 4 $ use1 W (raw (Leaving 𝓤 H A at-mem run .pre (to₃ (r₂) ν₃-marks δ₃-marks (z₂ .1 .1 .1 .1 .1 .1 .1 .0)))) (goes₃ (r₂) ν₃-marks δ₃-marks (z₂ .1 .1 .1 .1 .1 .1 .1 .0) (is₂ .1) (checked-checkable (length marks) w h k palette lab indices (permittedOf limited permitted) edit list r₁ (z₁ .1 .1 .1 .1 .1 .1 .1 .1 .1 .1 .0) (e₁ (flatAll list) (told-length list)) l₁-marks (length (z₂ .1 .1 .1 .1 .1 .1 .1 .0)) r₂ (l₂-marks ∙ l₁-marks) (e₂ .0))) $
         calls-at ! fm (Leaving 𝓤 H A at-mem run) known-Leaving (to₃ (r₂) ν₃-marks δ₃-marks (z₂ .1 .1 .1 .1 .1 .1 .1 .0)) (and-then ! (load ! (from ! (stop !)) (look ! 29 refl)) (and-then ! (load ! (from ! (stop !)) (look ! 39 refl)) (and-then ! (load ! (from ! (stop !)) (look ! 55 refl)) (and-then ! (load ! (from ! (stop !)) (look ! 53 refl)) (and-then ! (load ! (from ! (stop !)) (look ! 45 refl)) (and-then ! (load ! (from ! (stop !)) (look ! 17 refl)) (no-more !))))))) (λ v₃.
         use1 W (later (some (λ (r₃ : ℕ). ((‵ (flft κ₂ q₂) ⊛ ‵ (flft (ν₃-marks ∷ []) fullShare) ⊛ ‵ ftrue) ⊛ ‵ (u8 .own r₃ (v₃ ∷ []))) ⊛ raw (ensured 𝓤 H A Leaving-f.ended (Leaving-f.clauses 𝓤 H A at-mem run) (κ₂, (ν₃-marks ∷ [], tt)) (passed₃ (r₂) ν₃-marks δ₃-marks (z₂ .1 .1 .1 .1 .1 .1 .1 .0)) tt r₃)))) (id⊢ 𝓤 _) $ await ! tt $ pick ! (λ r₃.
         split ! $ move ! (1 ∷ []) $ use1 W (some (λ (z₃ : Unit {0} × (Unit {0} × (Unit {0} × (Unit {0} × (Unit {0} × (Unit {0} × Unit {0})))))). ‵ (lasts Leaving-f.ended (κ₂, (ν₃-marks ∷ [], tt)) (passed₃ (r₂) ν₃-marks δ₃-marks (z₂ .1 .1 .1 .1 .1 .1 .1 .0)) z₃) ⊛ raw (fact 𝓤 (Said₃ (r₂) ν₃-marks δ₃-marks (z₂ .1 .1 .1 .1 .1 .1 .1 .0) r₃)))) (id⊢ 𝓤 _) $ pick ! (λ z₃.
@@ -225,7 +224,7 @@ module _ {M : Type 1} (𝓤 : URA M) (H : Heap 𝓤) (A : Atoms 𝓤) (W : Given
         move ! (0 ∷ 4 ∷ []) $ use2 W (later (‵ (MutSlice (named 5) κ₅ u8 .own (record { ptr = (marks-b, marks-o); name = marks-γ; now = (z₂ .1 .1 .1 .1 .1 .1 .1 .0) }) (sliceVal (marks-b, marks-o) (length marks) ∷ [])) ⊛ ‵ (flft κ₅ q₅))) (back-shr u8 κ₅ (ν₃-marks ∷ []) q₅ marks-γ marks-b marks-o 𝓤 H A W (named 5) (named 0) (z₂ .1 .1 .1 .1 .1 .1 .1 .0) (length marks) (l₂-marks ∙ l₁-marks)) $ await ! tt $ split ! $
         returns ! (look ! 60 refl) $ forget ! 60 refl $ forget ! 58 refl $ forget ! 56 refl $ forget ! 54 refl $ forget ! 52 refl $ forget ! 50 refl $ forget ! 48 refl $ forget ! 46 refl $ forget ! 44 refl $ forget ! 42 refl $ forget ! 40 refl $ forget ! 38 refl $ forget ! 36 refl $ forget ! 34 refl $ forget ! 32 refl $ forget ! 30 refl $ forget ! 28 refl $ forget ! 26 refl $ forget ! 24 refl $ forget ! 22 refl $ forget ! 20 refl $
         move ! (60 ∷ 61 ∷ []) $ free1 ! $ move ! (58 ∷ 59 ∷ []) $ free1 ! $ move ! (56 ∷ 57 ∷ []) $ free1 ! $ move ! (54 ∷ 55 ∷ []) $ free1 ! $ move ! (52 ∷ 53 ∷ []) $ free1 ! $ move ! (50 ∷ 51 ∷ []) $ free1 ! $ move ! (48 ∷ 49 ∷ []) $ free1 ! $ move ! (46 ∷ 47 ∷ []) $ free1 ! $ move ! (44 ∷ 45 ∷ []) $ free1 ! $ move ! (42 ∷ 43 ∷ []) $ free1 ! $ move ! (40 ∷ 41 ∷ []) $ free1 ! $ move ! (38 ∷ 39 ∷ []) $ free1 ! $ move ! (36 ∷ 37 ∷ []) $ free1 ! $ move ! (34 ∷ 35 ∷ []) $ free1 ! $ move ! (32 ∷ 33 ∷ []) $ free1 ! $ move ! (30 ∷ 31 ∷ []) $ free1 ! $ move ! (28 ∷ 29 ∷ []) $ free1 ! $ move ! (26 ∷ 27 ∷ []) $ free1 ! $ move ! (24 ∷ 25 ∷ []) $ free1 ! $ move ! (22 ∷ 23 ∷ []) $ free1 ! $ move ! (20 ∷ 21 ∷ []) $ free1 ! $ free0 ! $
-        keep ! (17 ∷ 13 ∷ 16 ∷ 12 ∷ 5 ∷ 3 ∷ 15 ∷ 11 ∷ 9 ∷ 6 ∷ 0 ∷ 1 ∷ []) $ by ! (exits (r₃) (z₂ .1 .1 .1 .1 .1 .1 .1 .0) (replay-number (length marks) w h k palette lab indices (permittedOf limited permitted) edit list r₁ (z₁ .1 .1 .1 .1 .1 .1 .1 .1 .1 .1 .0) (e₁ (toldAll list) (told-length list)) l₁-marks r₂ r₃ (e₂ .0) (e₃ (toldAll list) (λ z. rw (e₂ .1) (checked-marks (length marks) w h k palette lab indices (permittedOf limited permitted) edit list r₁ (z₁ .1 .1 .1 .1 .1 .1 .1 .1 .1 .1 .0) (e₁ (toldAll list) (told-length list)) l₁-marks r₂ (e₂ .0) z)))) (l₂-marks ∙ l₁-marks) (is₃ .1))))))))))))))))))))))))))))))))))))))))))))))
+        keep ! (17 ∷ 13 ∷ 16 ∷ 12 ∷ 5 ∷ 3 ∷ 15 ∷ 11 ∷ 9 ∷ 6 ∷ 0 ∷ 1 ∷ []) $ by ! (exits (r₃) (z₂ .1 .1 .1 .1 .1 .1 .1 .0) (replay-number (length marks) w h k palette lab indices (permittedOf limited permitted) edit list r₁ (z₁ .1 .1 .1 .1 .1 .1 .1 .1 .1 .1 .0) (e₁ (flatAll list) (told-length list)) l₁-marks r₂ r₃ (e₂ .0) (e₃ (flatAll list) (λ z. rw (e₂ .1) (checked-marks (length marks) w h k palette lab indices (permittedOf limited permitted) edit list r₁ (z₁ .1 .1 .1 .1 .1 .1 .1 .1 .1 .1 .0) (e₁ (flatAll list) (told-length list)) l₁-marks r₂ (e₂ .0) z)))) (l₂-marks ∙ l₁-marks) (is₃ .1))))))))))))))))))))))))))))))))))))))))))))))
 
 module _ {M : Type 1} (𝓤 : URA M) (H : Heap 𝓤) (A : Atoms 𝓤) (W : Given 𝓤 H A) (mem : Memory → SProp 𝓤) (run : Routine → Fun 𝓤) where
   replay-no-walks : (C : Calls 𝓤 H) (Λ : Loops 𝓤 H) → FmC 𝓤 H (W .laws) C → Triple 𝓤 (C #struct_replay·op·open-replay) (Opening 𝓤 H A mem run) → Triple 𝓤 (C #struct_edit·check-list) (Checking 𝓤 H A mem run) → Triple 𝓤 (C #struct_replay·op·left-after) (Leaving 𝓤 H A mem run) → Walks 𝓤 H A f.ended stayed (WpFn 𝓤 H C Λ code.function) (f.clauses 𝓤 H A mem run)
@@ -234,8 +233,7 @@ module _ {M : Type 1} (𝓤 : URA M) (H : Heap 𝓤) (A : Atoms 𝓤) (W : Given
       (λ κs qs bounds a g are. via 𝓤 _ (fst∗ 𝓤 _ (emp 𝓤))
       (walk 𝓤 H A W mem run (κs .0) (κs .1 .0) (κs .1 .1 .0) (κs .1 .1 .1 .0) (κs .1 .1 .1 .1 .0) (κs .1 .1 .1 .1 .1 .0) (qs .0) (qs .1 .0) (qs .1 .1 .0) (qs .1 .1 .1 .0) (qs .1 .1 .1 .1 .0) (qs .1 .1 .1 .1 .1 .0) (a .0) (a .1 .0) (a .1 .1 .0) (a .1 .1 .1 .0 .ptr .0) (a .1 .1 .1 .0 .ptr .1) (a .1 .1 .1 .0 .name) (a .1 .1 .1 .0 .now) (a .1 .1 .1 .1 .0 .ptr .0) (a .1 .1 .1 .1 .0 .ptr .1) (a .1 .1 .1 .1 .0 .name) (a .1 .1 .1 .1 .0 .now) (a .1 .1 .1 .1 .1 .0 .ptr .0) (a .1 .1 .1 .1 .1 .0 .ptr .1) (a .1 .1 .1 .1 .1 .0 .name) (a .1 .1 .1 .1 .1 .0 .now) (a .1 .1 .1 .1 .1 .1 .0) (a .1 .1 .1 .1 .1 .1 .1 .0 .ptr .0) (a .1 .1 .1 .1 .1 .1 .1 .0 .ptr .1) (a .1 .1 .1 .1 .1 .1 .1 .0 .name) (a .1 .1 .1 .1 .1 .1 .1 .0 .now) (a .1 .1 .1 .1 .1 .1 .1 .1 .0) (a .1 .1 .1 .1 .1 .1 .1 .1 .1 .0 .ptr .0) (a .1 .1 .1 .1 .1 .1 .1 .1 .1 .0 .ptr .1) (a .1 .1 .1 .1 .1 .1 .1 .1 .1 .0 .name) (a .1 .1 .1 .1 .1 .1 .1 .1 .1 .0 .now) (a .1 .1 .1 .1 .1 .1 .1 .1 .1 .1 .0 .ptr .0) (a .1 .1 .1 .1 .1 .1 .1 .1 .1 .1 .0 .ptr .1) (a .1 .1 .1 .1 .1 .1 .1 .1 .1 .1 .0 .name) (a .1 .1 .1 .1 .1 .1 .1 .1 .1 .1 .0 .now) (are .0 .1) (are .1 .0 .1) (are .1 .1 .0 .1) (are .1 .1 .1 .0 .0 .1) (are .1 .1 .1 .1 .0 .0 .1) (are .1 .1 .1 .1 .1 .0 .0 .1) (are .1 .1 .1 .1 .1 .1 .1 .0 .0 .1) (are .1 .1 .1 .1 .1 .1 .1 .1 .0) (are .1 .1 .1 .1 .1 .1 .1 .1 .1 .0 .0 .1) (are .1 .1 .1 .1 .1 .1 .1 .1 .1 .1 .0 .0 .1) C Λ fm known-Opening known-Checking known-Leaving))
 
-replay-no-meets : {M : Type 1} (𝓤 : URA M) (H : Heap 𝓤) (A : Atoms 𝓤) → Given 𝓤 H A → (mem : Memory → SProp 𝓤) (run : Routine → Fun 𝓤) (𝓣 : Tables 𝓤 H) → Triple 𝓤 (𝓣 .C #struct_replay·op·open-replay) (Opening 𝓤 H A mem run) → Triple 𝓤 (𝓣 .C #struct_edit·check-list) (Checking 𝓤 H A mem run) → Triple 𝓤 (𝓣 .C #struct_replay·op·left-after) (Leaving 𝓤 H A mem run)
-    → Meets 𝓤 H A f.signature (WpFn 𝓤 H (𝓣 .C) (𝓣 .Λ) code.function) (f.spec 𝓤 H A mem run)
+replay-no-meets : {M : Type 1} (𝓤 : URA M) (H : Heap 𝓤) (A : Atoms 𝓤) → Given 𝓤 H A → (mem : Memory → SProp 𝓤) (run : Routine → Fun 𝓤) (𝓣 : Tables 𝓤 H) → Triple 𝓤 (𝓣 .C #struct_replay·op·open-replay) (Opening 𝓤 H A mem run) → Triple 𝓤 (𝓣 .C #struct_edit·check-list) (Checking 𝓤 H A mem run) → Triple 𝓤 (𝓣 .C #struct_replay·op·left-after) (Leaving 𝓤 H A mem run) → Meets 𝓤 H A f.signature (WpFn 𝓤 H (𝓣 .C) (𝓣 .Λ) code.function) (f.spec 𝓤 H A mem run)
 replay-no-meets 𝓤 H A W mem run 𝓣 known-Opening known-Checking known-Leaving =
     walk-meets 𝓤 H A f.ended stayed W (goes-none 𝓤 H A W 6 (λ _. usize) yes (λ κs x f. refl), (goes-none 𝓤 H A W 6 (λ _. usize) yes (λ κs x f. refl), (goes-none 𝓤 H A W 6 (λ _. usize) yes (λ κs x f. refl), (goes-none-slice 𝓤 H A W 6 (0 ∷ []) tt (plain (λ _. u8)) yes, (goes-none-slice 𝓤 H A W 6 (1 ∷ []) tt (plain (λ _. f64)) yes, (goes-none-slice 𝓤 H A W 6 (2 ∷ []) tt (plain (λ _. i16)) yes, (goes-none 𝓤 H A W 6 (λ _. bool) yes (λ κs x f. refl), (goes-none-slice 𝓤 H A W 6 (3 ∷ []) tt (plain (λ _. u8)) yes, (goes-none 𝓤 H A W 6 (λ _. Edit-T.the-row) yes (λ κs x f. refl), (goes-none-slice 𝓤 H A W 6 (4 ∷ []) tt (plain (λ _. Change-T.the-row)) yes, (goes-slice 𝓤 H A W 6 5 tt (plain (λ _. u8)), tt))))))))))) (f.clauses 𝓤 H A mem run)
     (WpFn 𝓤 H (𝓣 .C) (𝓣 .Λ) code.function) (WpFn-mono 𝓤 H (W .laws) 𝓣 code.function) (replay-no-walks 𝓤 H A W mem run (𝓣 .C) (𝓣 .Λ) (fmOf 𝓤 H (W .laws) 𝓣) known-Opening known-Checking known-Leaving)

@@ -6,8 +6,8 @@ use Prim.Native.Nat.{_≤_, _-_}
 use native.Mathlib.Omega.{arith}
 use borrow.Author.Needs.{needs}
 use mir.Syntax.{w16}
-use Rattle.base_ints.proofs.Back.{back}
-use Rattle.base_lists.specs.Lists.{range}
+use Rattle.base.proofs.Back.{back}
+use Rattle.base.specs.Lists.{range}
 use Rattle.tile_cells.specs.Seen.{inRow, rowSeen}
 use Rattle.tile_cells.specs.Tile.{turned, sameTile}
 use Rattle.tile_cells.proofs.Lying.{in-row}

@@ -7,7 +7,7 @@ use native.Mathlib.Omega.{arith}
 use borrow.Author.Needs.{needs}
 use borrow.Author.Tests.{not-true, not-false}
 use lib.ListN.{length}
-use Rattle.base_lists.specs.Lists.{range}
+use Rattle.base.specs.Lists.{range}
 use Rattle.tile_cells.specs.Seen.{rowOf, tileSeen}
 use Rattle.tile_cells.specs.Tile.{sameTile}
 use Rattle.tile_cells.proofs.Lying.{row-lies, row-same, row-differs}

@@ -3,7 +3,7 @@ use native.Mathlib.Omega.{arith}
 use borrow.Author.Needs.{needs}
 use mir.Syntax.{w16}
 use mir.Val.{ofZ}
-use Rattle.base_ints.proofs.Back.{by-value}
+use Rattle.base.proofs.Back.{by-value}
 use Rattle.tile_cells.specs.Key.{mixed}
 use Rattle.tile_cells.proofs.keys.mix.Statement.{statement}
 use Rattle.tile_cells.proofs.keys.mix.Tie as tie

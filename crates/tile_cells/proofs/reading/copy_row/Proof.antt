@@ -3,7 +3,7 @@ use Prim.Native.Nat.{_≤_, _-_}
 use native.Mathlib.Omega.{arith}
 use borrow.Author.Needs.{needs}
 use mir.Syntax.{w16}
-use Rattle.base_ints.proofs.Back.{back}
+use Rattle.base.proofs.Back.{back}
 use Rattle.tile_cells.specs.Seen.{inRow, rowSeen}
 use Rattle.tile_cells.proofs.Lying.{in-row}
 use Rattle.tile_cells.proofs.Rows.{Row, row-none, row-next, row-all}

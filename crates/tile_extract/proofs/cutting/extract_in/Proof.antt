@@ -5,7 +5,7 @@ use Prim.Native.Nat.{_*_}
 use native.Mathlib.Omega.{arith}
 use borrow.Author.Needs.{needs}
 use lib.ListN.{length}
-use Rattle.base_lists.specs.Lists.{range, over}
+use Rattle.base.specs.Lists.{range, over}
 use Rattle.tile_cells.proofs.Corners.{count-small, area}
 use Rattle.tile_cells.proofs.Rows.{length-first}
 use Rattle.tile_cells.specs.Cells.{cellCount}

@@ -1,5 +1,5 @@
 -- `compare`: the tests are the definition's. Assumes nothing.
-use Rattle.base_ints.proofs.Back.{ltZ-back}
+use Rattle.base.proofs.Back.{ltZ-back}
 use Rattle.tile_least.specs.Least.{comparedZ}
 use Rattle.tile_least.proofs.least.compare.Statement.{statement}
 use Rattle.tile_least.proofs.least.compare.Tie as tie

@@ -6,7 +6,7 @@ use native.Mathlib.Omega.{arith}
 use borrow.Author.Needs.{needs}
 use lib.IntN.{ℤ}
 use lib.ListN.{length}
-use Rattle.base_lists.specs.Lists.{range}
+use Rattle.base.specs.Lists.{range}
 use Rattle.tile_cells.specs.Seen.{rowOf, tileSeen}
 use Rattle.tile_cells.proofs.Lying.{row-lies}
 use Rattle.tile_least.specs.Least.{compared}

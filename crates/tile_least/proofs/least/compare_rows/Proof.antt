@@ -6,8 +6,8 @@ use native.Mathlib.Omega.{arith}
 use borrow.Author.Needs.{needs}
 use lib.IntN.{ℤ}
 use mir.Syntax.{w16}
-use Rattle.base_ints.proofs.Back.{back}
-use Rattle.base_lists.specs.Lists.{range}
+use Rattle.base.proofs.Back.{back}
+use Rattle.base.specs.Lists.{range}
 use Rattle.tile_cells.specs.Seen.{inRow, rowSeen}
 use Rattle.tile_cells.proofs.Lying.{in-row}
 use Rattle.tile_least.specs.Least.{comparedZ, compared}

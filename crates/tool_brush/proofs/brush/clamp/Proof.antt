@@ -1,6 +1,6 @@
 -- `clamp`: the three cases. Assumes nothing.
 use native.Mathlib.Omega.{arith}
-use Rattle.tool_points.specs.Brush.{clamped}
+use Rattle.tool_line.specs.Brush.{clamped}
 use Rattle.tool_brush.proofs.brush.clamp.Statement.{statement}
 use Rattle.tool_brush.proofs.brush.clamp.Tie as tie
 

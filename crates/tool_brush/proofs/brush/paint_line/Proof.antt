@@ -5,8 +5,8 @@ use native.Mathlib.Omega.{arith}
 use mir.Syntax.{w32}
 use mir.Val.{toZ}
 use mir.Facts.{toZ-ofZ}
-use Rattle.tool_points.specs.Line.{point}
-use Rattle.tool_points.proofs.Walks.{walking, longer-near}
+use Rattle.tool_line.specs.Line.{point}
+use Rattle.tool_line.proofs.Walks.{walking, longer-near}
 use Rattle.tool_brush.proofs.Stamps.{Lining, Standing, stand-close}
 use Rattle.tool_brush.proofs.Walked.{walked-more, walked-none, walked-start, walked-next, walked-end}
 use borrow.Author.Needs.{needs}

@@ -2,7 +2,7 @@
 use mathlib.Core.Path.{_≡_, sym, ap, _∙_}
 use Prim.Native.Nat.{_+_}
 use mir.Facts.{toZ-ofZ}
-use Rattle.tool_points.specs.Line.{point}
+use Rattle.tool_line.specs.Line.{point}
 use Rattle.tool_brush.specs.Places.{setAll}
 use Rattle.tool_brush.proofs.Fitting.{clipped-ends, clipped-rows}
 use Rattle.tool_brush.proofs.Stamps.{axis, one-stamp}

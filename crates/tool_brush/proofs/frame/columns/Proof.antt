@@ -1,5 +1,5 @@
 -- `columns`: by the equations of its parts. Assumes nothing.
-use Rattle.base_ints.proofs.Back.{by-values}
+use Rattle.base.proofs.Back.{by-values}
 use Rattle.tool_brush.specs.Places.{clipped, columnsOf}
 use borrow.Author.Needs.{needs}
 use Rattle.tool_brush.proofs.frame.columns.Statement.{statement}

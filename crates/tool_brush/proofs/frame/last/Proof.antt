@@ -1,5 +1,5 @@
 -- `last`: the two cases. Assumes nothing.
-use Rattle.base_ints.proofs.Back.{by-values, ltZ-back}
+use Rattle.base.proofs.Back.{by-values, ltZ-back}
 use Rattle.tool_brush.specs.Places.{clipped, columnsOf}
 use borrow.Author.Needs.{needs}
 use Rattle.tool_brush.proofs.frame.last.Statement.{statement}

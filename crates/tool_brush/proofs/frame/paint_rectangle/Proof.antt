@@ -2,9 +2,9 @@
 use mathlib.Core.Path.{_≡_, sym, ap, _∙_}
 use Prim.Native.Nat.{_+_}
 use mir.Syntax.{w32}
-use Rattle.base_ints.specs.Ints.{minZ, maxZ}
-use Rattle.base_ints.proofs.Back.{back, by-values}
-use Rattle.tool_points.specs.Line.{point}
+use Rattle.base.specs.Ints.{minZ, maxZ}
+use Rattle.base.proofs.Back.{back, by-values}
+use Rattle.tool_line.specs.Line.{point}
 use Rattle.tool_brush.specs.Places.{setAll, clipped, columnsOf}
 use Rattle.tool_brush.proofs.Frames.{rectangle-places}
 use Rattle.tool_brush.proofs.Fitting.{columns-end, clipped-rows}

@@ -7,7 +7,7 @@ use lib.ListN.{length}
 use mir.Facts.{toZ-ofZ}
 use mir.Syntax.{w32}
 use mir.Val.{toZ}
-use Rattle.base_lists.specs.Lists.{range}
+use Rattle.base.specs.Lists.{range}
 use Rattle.tool_brush.specs.Places.{setAll, framePlaces, Row}
 use Rattle.tool_brush.proofs.Painted.{rows-step}
 use Rattle.tool_brush.proofs.Fitting.{row-of}

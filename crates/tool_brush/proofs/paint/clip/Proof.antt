@@ -1,7 +1,7 @@
 -- `clip`: by the equations of its steps. Assumes nothing.
 use mathlib.Core.Path.{_≡_}
-use Rattle.base_ints.specs.Ints.{fromZero, upTo}
-use Rattle.base_ints.proofs.Back.{by-value}
+use Rattle.base.specs.Ints.{fromZero, upTo}
+use Rattle.base.proofs.Back.{by-value}
 use Rattle.tool_brush.specs.Places.{clipped}
 use borrow.Author.Needs.{needs}
 use Rattle.tool_brush.proofs.paint.clip.Statement.{statement}

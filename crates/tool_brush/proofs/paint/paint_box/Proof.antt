@@ -4,7 +4,7 @@ use mathlib.Core.Path.{_≡_, refl}
 use mathlib.Core.List.{flatMap}
 use native.Mathlib.Omega.{arith}
 use lib.ListN.{length}
-use Rattle.base_lists.specs.Lists.{range}
+use Rattle.base.specs.Lists.{range}
 use Rattle.tool_brush.specs.Places.{setAll, rowPlaces, boxPlaces, Row}
 use Rattle.tool_brush.proofs.Painted.{rows-step}
 use Rattle.tool_brush.proofs.Fitting.{row-of, row-start, row-run, run-start}

@@ -1,9 +1,9 @@
 -- `line_rows`: its points lie from the least of the two rows to the greatest. Assumes nothing.
 use mir.Syntax.{w32}
 use mir.Facts.{toZ-ofZ}
-use Rattle.base_ints.specs.Ints.{minZ, maxZ}
-use Rattle.base_ints.proofs.Back.{back, by-values}
-use Rattle.tool_points.specs.Line.{point}
+use Rattle.base.specs.Ints.{minZ, maxZ}
+use Rattle.base.proofs.Back.{back, by-values}
+use Rattle.tool_line.specs.Line.{point}
 use Rattle.tool_brush.proofs.Reached.{ends-close, ends-down}
 use borrow.Author.Needs.{needs}
 use Rattle.tool_brush.proofs.rows.line_rows.Statement.{statement}

@@ -1,8 +1,8 @@
 -- `rectangle_rows`: its rows are from the least of the two to the greatest, clipped. Assumes nothing.
 use mir.Syntax.{w32}
-use Rattle.base_ints.specs.Ints.{minZ, maxZ}
-use Rattle.base_ints.proofs.Back.{back, by-values}
-use Rattle.tool_points.specs.Line.{point}
+use Rattle.base.specs.Ints.{minZ, maxZ}
+use Rattle.base.proofs.Back.{back, by-values}
+use Rattle.tool_line.specs.Line.{point}
 use Rattle.tool_brush.proofs.Reached.{rows-hold, clipped-wide, rectangle-down}
 use borrow.Author.Needs.{needs}
 use Rattle.tool_brush.proofs.rows.rectangle_rows.Statement.{statement}

@@ -1,8 +1,8 @@
 -- `widen`: of each bound with row y. Assumes nothing.
 use mir.Syntax.{w32}
 use mir.Val.{SFits}
-use Rattle.base_ints.specs.Ints.{minZ, maxZ}
-use Rattle.base_ints.proofs.Back.{back, by-values}
+use Rattle.base.specs.Ints.{minZ, maxZ}
+use Rattle.base.proofs.Back.{back, by-values}
 use Rattle.tool_brush.specs.Reached.{wider}
 use borrow.Author.Needs.{needs}
 use Rattle.tool_brush.proofs.rows.widen.Statement.{statement}

@@ -3,8 +3,8 @@ use mathlib.Core.Path.{_≡_}
 use native.Mathlib.Omega.{arith}
 use borrow.Author.Needs.{needs}
 use mir.Facts.{toZ-ofZ}
-use Rattle.tool_points.specs.Line.{point, longer}
-use Rattle.tool_points.proofs.Reaching.{BothOf, both-of}
+use Rattle.tool_line.specs.Line.{point, longer}
+use Rattle.tool_line.proofs.Reaching.{BothOf, both-of}
 use Rattle.tool_brush.proofs.Touching.{both-touched}
 use Rattle.tool_brush.proofs.touch.touched_steps.Statement.{statement}
 use Rattle.tool_brush.proofs.touch.touched_steps.Tie as tie

@@ -1,5 +1,4 @@
 -- `copy`: 1 to 3, 5, 16, then the region's indices. Assumes nothing.
-use mathlib.Core.Path.{sym, _∙_}
 use mathlib.Core.List.{[], _∷_}
 use Prim.Native.Nat.{_≤_}
 use native.Mathlib.Nat.{mul-le-mul}
@@ -22,7 +21,7 @@ past c = c .before .check .ensures .fine (c .if1 .left)
 
 -- the region
 found : (c : tie.After-s) → let a = c .before .before .before .before .before .before .before .args in Found (a .area) (a .w) (a .h) (c .s .given .0 .0)
-found c = let l = past (c .before .before .before) .limits in region-found _ _ (l .w-small) (l .h-small) _ _ (sym (c .before .before .region .ensures) ∙ c .s .given .1)
+found c = let l = past (c .before .before .before) .limits in region-found _ _ (l .w-small) (l .h-small) _ _ (c .before .before .region .ensures) (c .s .given .1)
 
 returns : tie.Need-returns
 returns c = copy-sheet _ _ _ _ (c .before .check .ensures) (c .if1 .taken)
@@ -36,7 +35,7 @@ enum-known-s c = search needs
 returns-2 : tie.Need-returns-2
 returns-2 c =
     let f = past (c .before .before) in
-    copy-off _ _ _ f (region-none _ _ (f .limits .w-small) (f .limits .h-small) _ (λ s e. miss (1 ∷ 2 ∷ []) 0 tt (rw (c .before .region .ensures ∙ e) at (c .match .keys2))))
+    copy-off _ _ _ f (region-none _ _ (f .limits .w-small) (f .limits .h-small) _ (c .before .region .result) (c .before .region .ensures) (λ s e. miss (1 ∷ 2 ∷ []) 0 tt (rw e at (c .match .keys2))))
 
 cast-width : tie.Need-cast-width
 cast-width c = search needs

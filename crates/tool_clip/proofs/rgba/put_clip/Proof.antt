@@ -4,7 +4,7 @@ use native.Mathlib.Omega.{arith}
 use borrow.Author.Needs.{needs}
 use lib.ListN.{length, length-take, length-drop}
 use mir.Syntax.{w16}
-use Rattle.base_ints.proofs.Back.{back}
+use Rattle.base.proofs.Back.{back}
 use Rattle.tool_clip.proofs.Bytes.{Put, put-none, put-next, put-all}
 use Rattle.tool_clip.proofs.rgba.put_clip.Statement.{statement}
 use Rattle.tool_clip.proofs.rgba.put_clip.Tie as tie

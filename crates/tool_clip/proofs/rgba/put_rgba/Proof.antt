@@ -7,10 +7,10 @@ use borrow.Author.Needs.{needs}
 use mir.Syntax.{w32}
 use mir.Val.{SFits}
 use mir.Facts.{toZ-ofZ}
-use Rattle.base_lists.specs.Lists.{over}
-use Rattle.base_ints.specs.Ints.{onAxis}
-use Rattle.base_ints.proofs.Back.{by-value}
-use Rattle.base_storage.specs.Triples.{rgbAt}
+use Rattle.base.specs.Lists.{over}
+use Rattle.base.specs.Ints.{onAxis}
+use Rattle.base.proofs.Back.{by-value}
+use Rattle.base.specs.Triples.{rgbAt}
 use Rattle.tool_clip.proofs.Bytes.{rgba-entry, rgba-none}
 use Rattle.tool_clip.proofs.rgba.put_rgba.Statement.{statement}
 use Rattle.tool_clip.proofs.rgba.put_rgba.Tie as tie

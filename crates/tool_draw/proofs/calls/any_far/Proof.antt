@@ -5,9 +5,9 @@ use borrow.Author.Needs.{needs}
 use lib.IntN.{pos}
 use lib.ListN.{length, getD}
 use mir.Syntax.{w32}
-use Rattle.base_lists.proofs.Scan.{Flagged, flag-step, flag-end}
-use Rattle.base_ints.proofs.Back.{back}
-use Rattle.base_ints.specs.Ints.{far}
+use Rattle.base.proofs.Scan.{Flagged, flag-step, flag-end}
+use Rattle.base.proofs.Back.{back}
+use Rattle.base.specs.Ints.{far}
 use Rattle.tool_draw.proofs.calls.any_far.Statement.{statement}
 use Rattle.tool_draw.proofs.calls.any_far.Tie as tie
 

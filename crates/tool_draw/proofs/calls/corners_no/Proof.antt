@@ -1,8 +1,8 @@
 -- `corners_no`: each test is the check in its place. Assumes nothing.
 use mathlib.Core.Path.{_≡_, sym}
-use Rattle.base_limits.specs.Checks.{firstOf}
-use Rattle.base_ints.proofs.Back.{by-values}
-use Rattle.tool_points.specs.Line.{point, farPoint}
+use Rattle.base.specs.Checks.{firstOf}
+use Rattle.base.proofs.Back.{by-values}
+use Rattle.tool_line.specs.Line.{point, farPoint}
 use Rattle.tool_brush.specs.Given.{cornerChecks}
 use borrow.Author.Needs.{needs}
 use Rattle.tool_draw.proofs.calls.corners_no.Statement.{statement}

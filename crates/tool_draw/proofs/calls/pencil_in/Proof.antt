@@ -8,10 +8,10 @@ use lib.Dec.{eqb}
 use lib.ListN.{length}
 use mir.Syntax.{w16}
 use mir.Val.{ofZ}
-use Rattle.base_limits.specs.Checks.{_when_}
-use Rattle.base_ints.proofs.Back.{by-value}
+use Rattle.base.specs.Checks.{_when_}
+use Rattle.base.proofs.Back.{by-value}
 use Rattle.sheet.specs.Sheet.{Sheet, sheetOf}
-use Rattle.tool_points.specs.Brush.{stamped}
+use Rattle.tool_line.specs.Brush.{stamped}
 use Rattle.tool_brush.specs.Points.{pencilOf}
 use Rattle.tool_brush.specs.Given.{pointsOf, pointChecks}
 use Rattle.tool_brush.specs.Reached.{Holds}

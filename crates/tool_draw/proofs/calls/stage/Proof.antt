@@ -19,7 +19,7 @@ past c = c .before .check .ensures .fine (c .if1 .left)
 
 -- the region
 found : (c : tie.After-s) → let a = c .before .before .before .before .before .before .before .before .args in Found (a .area) (a .w) (a .h) (c .s .given .0 .0)
-found c = let l = past (c .before .before .before .before) .limits in region-found _ _ (l .w-small) (l .h-small) _ _ (sym (c .before .before .region .ensures) ∙ c .s .given .1)
+found c = let l = past (c .before .before .before .before) .limits in region-found _ _ (l .w-small) (l .h-small) _ _ (c .before .before .region .ensures) (c .s .given .1)
 
 returns : tie.Need-returns
 returns c = λ given e. stage-sheet _ _ _ _ _ (c .before .check .ensures) (c .if1 .taken)
@@ -34,7 +34,7 @@ enum-known-s : tie.Need-enum-known-s
 enum-known-s c = search needs
 
 returns-3 : tie.Need-returns-3
-returns-3 c = λ given e. let f = past (c .before .before .before) in stage-off _ _ _ _ f (sym (c .before .before .if2 .left) ∙ e) (region-none _ _ (f .limits .w-small) (f .limits .h-small) _ (λ s q. miss (1 ∷ 2 ∷ []) 0 tt (rw (c .before .region .ensures ∙ q) at (c .match .keys2))))
+returns-3 c = λ given e. let f = past (c .before .before .before) in stage-off _ _ _ _ f (sym (c .before .before .if2 .left) ∙ e) (region-none _ _ (f .limits .w-small) (f .limits .h-small) _ (c .before .region .result) (c .before .region .ensures) (λ s q. miss (1 ∷ 2 ∷ []) 0 tt (rw q at (c .match .keys2))))
 
 returns-4 : tie.Need-returns-4
 returns-4 c = λ given e. let f = past (c .before .before .before .before .before .before) in stage-short _ _ _ _ f (sym (c .before .before .before .before .before .if2 .left) ∙ e) (found (c .before .before) .unrefused) (rw (f .limits .indices-length) at (c .if3 .taken))

@@ -4,7 +4,7 @@ use lib.IntN.{pos}
 use lib.ListN.{getD}
 use mir.Syntax.{w16}
 use mir.Facts.{toZ-ofZ}
-use Rattle.base_ints.proofs.Back.{back}
+use Rattle.base.proofs.Back.{back}
 use Rattle.tool_flood.specs.Cells.{pairOf}
 use Rattle.tool_flood.proofs.Flooded.{is-flood}
 use borrow.Author.Needs.{needs}

@@ -4,8 +4,8 @@ use lib.IntN.{pos}
 use lib.ListN.{getD}
 use mir.Syntax.{w16}
 use borrow.Author.Tests.{not-true, not-false}
-use Rattle.base_ints.specs.Ints.{eqZ}
-use Rattle.base_ints.proofs.Back.{back}
+use Rattle.base.specs.Ints.{eqZ}
+use Rattle.base.proofs.Back.{back}
 use Rattle.tool_flood.proofs.Passable.{other-index, same-index}
 use borrow.Author.Needs.{needs}
 use Rattle.tool_flood.proofs.reach.passes.Statement.{statement}

@@ -4,7 +4,7 @@ use mathlib.Core.Path.{refl, sym, _∙_}
 use native.Mathlib.Omega.{arith}
 use lib.ListN.{length}
 use borrow.Author.Tests.{not-true, not-false}
-use Rattle.base_ints.proofs.Back.{never}
+use Rattle.base.proofs.Back.{never}
 use Rattle.tool_flood.specs.Cells.{stay, push}
 use Rattle.tool_flood.proofs.Queue.{odds-lt, is-pushed}
 use Rattle.tool_flood.proofs.Passable.{off-picture}

@@ -1,5 +1,5 @@
 -- `pair_of`: the bits of both. Assumes nothing.
-use Rattle.base_ints.proofs.Back.{by-value}
+use Rattle.base.proofs.Back.{by-value}
 use native.Mathlib.Omega.{arith}
 use mir.Syntax.{w16}
 use mir.Val.{ofZ}

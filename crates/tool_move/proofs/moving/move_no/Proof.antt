@@ -1,9 +1,9 @@
 -- `move_no`: test by test. Assumes nothing.
 use mathlib.Core.Path.{_≡_, sym, _∙_}
-use Rattle.base_limits.specs.Checks.{firstOf}
+use Rattle.base.specs.Checks.{firstOf}
 use mir.Facts.{toZ-ofZ}
 use Rattle.selection.specs.Calls.{shiftChecks}
-use Rattle.tool_move.proofs.Answers.{move-sheet, move-shift, move-short, move-none}
+use Rattle.tool_move.proofs.ToolMoveAnswers.{move-sheet, move-shift, move-short, move-none}
 use borrow.Author.Needs.{needs}
 use Rattle.tool_move.proofs.moving.move_no.Statement.{statement}
 use Rattle.tool_move.proofs.moving.move_no.Tie as tie

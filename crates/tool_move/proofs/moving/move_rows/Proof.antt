@@ -1,7 +1,7 @@
 -- `move_rows`: the least of the two starts, and the greatest of the two ends. Assumes nothing.
 use mathlib.Core.Path.{_≡_}
 use native.Mathlib.Omega.{arith}
-use Rattle.base_ints.proofs.Back.{by-value}
+use Rattle.base.proofs.Back.{by-value}
 use Rattle.tool_block.specs.Blocks.{landing}
 use Rattle.tool_block.proofs.Landings.{offsetOf}
 use Rattle.tool_move.proofs.Placing.{move-ends, move-hull}

@@ -4,7 +4,7 @@ use Prim.Native.Nat.{_+_, _*_, _/_, _%_, _≤_}
 use native.Mathlib.Omega.{arith}
 use borrow.Author.Needs.{needs}
 use lib.ListN.{getD}
-use Rattle.base_limits.specs.declared.Lab.{Lab}
+use Rattle.base.specs.declared.Lab.{Lab}
 use Rattle.color_nearest.specs.declared.Near.{Near}
 use Rattle.color_nearest.specs.Nearest.{nearestOf}
 use Rattle.tool_snap.specs.Snap.{entryOf}

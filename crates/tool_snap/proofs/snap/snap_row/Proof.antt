@@ -4,7 +4,7 @@ use Prim.Native.Nat.{_≤_, _-_}
 use native.Mathlib.Omega.{arith}
 use borrow.Author.Needs.{needs}
 use mir.Syntax.{w16}
-use Rattle.base_ints.proofs.Back.{back}
+use Rattle.base.proofs.Back.{back}
 use Rattle.tool_snap.specs.Snap.{colourAt, snapAt}
 use Rattle.tool_snap.specs.Cache.{allOk}
 use Rattle.tool_snap.proofs.Rows.{Row, row-none, row-next, row-all}

@@ -1,0 +1,14 @@
+pub mod First
+pub mod Bools
+pub mod Scan
+pub mod Over
+pub mod Mapped
+pub mod Behind
+pub mod Collect
+pub mod Nowhere
+pub mod Kept
+pub mod Each
+pub mod Back
+pub mod Sums
+pub mod Clip
+pub mod Told

@@ -1,4 +1,0 @@
-pub mod Limits
-pub mod Numbers
-pub mod Checks
-pub mod Answer

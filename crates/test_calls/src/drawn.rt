@@ -1,0 +1,79 @@
+// The calls that list changes of a sheet.
+use crate::answers::of_counted;
+use crate::answers::of_removal;
+use crate::answers::of_shifted;
+use crate::lists::draw;
+use crate::lists::remove;
+use crate::lists::shift;
+use test_inputs::Hand;
+use test_inputs::Outcome;
+use test_inputs::mix_words;
+use test_inputs::told;
+
+const FREE: u64 = 0x5a5a_5a5a_5a5a_5a5a;
+
+fn drawn(
+    c: usize,
+    a: Hand,
+    w: usize,
+    h: usize,
+    k: usize,
+    palette: &[u8],
+    lab: &[f64],
+    indices: &[i16],
+) -> Outcome {
+    let mut scratch = [0u64; 6];
+    let mut out = [FREE; 4];
+    let counted = draw(c, a, w, h, k, palette, lab, indices, &mut scratch, &mut out);
+    let t = of_counted(counted);
+    told(t.number, mix_words(t.print, &out))
+}
+
+fn shifted(
+    c: usize,
+    a: Hand,
+    w: usize,
+    h: usize,
+    k: usize,
+    palette: &[u8],
+    lab: &[f64],
+    indices: &[i16],
+) -> Outcome {
+    let mut scratch = [0u64; 6];
+    let mut out = [FREE; 4];
+    let moved = shift(c, a, w, h, k, palette, lab, indices, &mut scratch, &mut out);
+    let t = of_shifted(moved);
+    told(t.number, mix_words(t.print, &out))
+}
+
+fn removed(
+    c: usize,
+    a: Hand,
+    w: usize,
+    h: usize,
+    k: usize,
+    palette: &[u8],
+    lab: &[f64],
+    indices: &[i16],
+) -> Outcome {
+    let mut out = [FREE; 3];
+    let t = of_removal(remove(c, a, w, h, k, palette, lab, indices, &mut out));
+    told(t.number, mix_words(t.print, &out))
+}
+
+pub(crate) fn list_answer(
+    c: usize,
+    a: Hand,
+    w: usize,
+    h: usize,
+    k: usize,
+    palette: &[u8],
+    lab: &[f64],
+    indices: &[i16],
+) -> Outcome {
+    match c {
+        15 | 16 => shifted(c, a, w, h, k, palette, lab, indices),
+        24 | 25 => removed(c, a, w, h, k, palette, lab, indices),
+        _ => drawn(c, a, w, h, k, palette, lab, indices),
+    }
+}

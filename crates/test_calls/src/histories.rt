@@ -1,0 +1,222 @@
+// The calls of a history in a journal. What a call moves on, the palette count and the handle, goes from call to call in
+// `base::Moved`.
+use crate::answers::of_next;
+use crate::answers::of_truth;
+use crate::bare::edit;
+use crate::lists::mark_saved;
+use crate::lists::push;
+use crate::lists::redo;
+use crate::lists::remove;
+use crate::lists::replay;
+use crate::lists::undo;
+use base::Handle;
+use base::Moved;
+use base::Removal;
+use test_inputs::Hand;
+use test_inputs::Outcome;
+use test_inputs::colours;
+use test_inputs::fill_list;
+use test_inputs::mix_bytes;
+use test_inputs::mix_doubles;
+use test_inputs::mix_indices;
+use test_inputs::mix_number;
+use test_inputs::mix_sizes;
+use test_inputs::told;
+
+// The number, and the palette count and the handle.
+pub fn told_state(no: u8, k: usize, s: Handle) -> Outcome {
+    let state = [k, s.offset, s.end, s.position, s.count, s.saved];
+    told(no, mix_sizes(mix_number(no), &state))
+}
+
+// The same, and but for `mark_saved` all that is lent.
+pub fn told_change(
+    c: usize,
+    m: Moved,
+    palette: &[u8],
+    lab: &[f64],
+    indices: &[i16],
+    journal: &[u8],
+) -> Outcome {
+    let answer = m.answer;
+    let t = told_state(answer.number(), m.k, m.handle);
+    if c == 48 {
+        return t;
+    }
+    let sheet = mix_indices(mix_doubles(mix_bytes(t.print, palette), lab), indices);
+    told(t.number, mix_bytes(sheet, journal))
+}
+
+fn removal_count(r: Removal) -> usize {
+    match r {
+        Removal::Made { edit: _, count } => count,
+        Removal::Refused(_) => 0,
+    }
+}
+
+// Writes a list, and answers how many changes it has: a removal's is that of `merge_entries`.
+fn fill_edit(
+    a: Hand,
+    w: usize,
+    h: usize,
+    k: usize,
+    palette: &[u8],
+    lab: &[f64],
+    indices: &[i16],
+    list: &mut [u64],
+) -> usize {
+    if a.choice.kind == 4 {
+        return removal_count(remove(25, a, w, h, k, palette, lab, indices, list));
+    }
+    fill_list(a.seeds.seed, list);
+    a.choice.size
+}
+
+// The first n changes of a list, or all of them.
+fn front(list: &[u64], n: usize) -> &[u64] {
+    if n <= list.len() { &list[..n] } else { list }
+}
+
+fn pushed(
+    a: Hand,
+    w: usize,
+    h: usize,
+    m: Moved,
+    palette: &mut [u8],
+    lab: &mut [f64],
+    indices: &mut [i16],
+    journal: &mut [u8],
+) -> Moved {
+    let mut list = [0u64; 6];
+    let mut scratch = [0u8; 6];
+    let permitted = colours(a.seeds.listed);
+    let n = fill_edit(a, w, h, m.k, palette, lab, indices, &mut list);
+    push(
+        w,
+        h,
+        m.k,
+        palette,
+        lab,
+        indices,
+        a.choice.limited,
+        &permitted,
+        edit(a),
+        front(&list, n),
+        journal,
+        m.handle,
+        &mut scratch,
+    )
+}
+
+fn redone(
+    w: usize,
+    h: usize,
+    m: Moved,
+    palette: &mut [u8],
+    lab: &mut [f64],
+    indices: &mut [i16],
+    journal: &[u8],
+) -> Moved {
+    let mut scratch = [0u8; 6];
+    redo(
+        w,
+        h,
+        m.k,
+        palette,
+        lab,
+        indices,
+        journal,
+        m.handle,
+        &mut scratch,
+    )
+}
+
+fn marked(m: Moved, journal: &[u8]) -> Moved {
+    let s = mark_saved(journal, m.handle);
+    let answer = s.answer;
+    let handle = s.handle;
+    Moved {
+        answer,
+        k: m.k,
+        handle,
+    }
+}
+
+// Two changes, or an edit of the palette beside them, replayed.
+fn replayed(
+    a: Hand,
+    w: usize,
+    h: usize,
+    m: Moved,
+    palette: &mut [u8],
+    lab: &mut [f64],
+    indices: &mut [i16],
+) -> Moved {
+    let mut list = [0u64; 2];
+    let mut scratch = [0u8; 6];
+    let permitted = colours(a.seeds.listed);
+    fill_list(a.seeds.seed, &mut list);
+    let s = replay(
+        w,
+        h,
+        m.k,
+        palette,
+        lab,
+        indices,
+        a.choice.limited,
+        &permitted,
+        edit(a),
+        &list,
+        &mut scratch,
+    );
+    let answer = s.answer;
+    let handle = m.handle;
+    Moved {
+        answer,
+        k: s.k,
+        handle,
+    }
+}
+
+// A call that may move the history on: `push`, `undo`, `redo`, `mark_saved` or `replay`.
+pub fn change(
+    c: usize,
+    a: Hand,
+    w: usize,
+    h: usize,
+    m: Moved,
+    palette: &mut [u8],
+    lab: &mut [f64],
+    indices: &mut [i16],
+    journal: &mut [u8],
+) -> Moved {
+    match c {
+        45 => pushed(a, w, h, m, palette, lab, indices, journal),
+        46 => undo(w, h, m.k, palette, lab, indices, journal, m.handle),
+        47 => redone(w, h, m, palette, lab, indices, journal),
+        48 => marked(m, journal),
+        _ => replayed(a, w, h, m, palette, lab, indices),
+    }
+}
+
+// What is asked of the journal and the handle.
+pub fn look(c: usize, a: Hand, journal: &[u8], handle: Handle) -> Outcome {
+    match c {
+        49 => of_truth(editor::is_dirty(journal, handle)),
+        50 => of_truth(editor::can_undo(journal, handle)),
+        51 => of_truth(editor::can_redo(journal, handle)),
+        52 => of_next(editor::next_undo(journal, handle)),
+        53 => of_next(editor::next_redo(journal, handle)),
+        _ => of_next(editor::applied(journal, handle, a.seeds.number)),
+    }
+}
+
+// Changes a byte of the journal, now and then.
+pub fn damage(a: Hand, journal: &mut [u8]) {
+    let at = a.seeds.place;
+    if a.seeds.hit {
+        if at < journal.len() {
+            journal[at] = a.choice.byte;
+        }
+    }
+}

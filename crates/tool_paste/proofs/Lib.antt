@@ -1,4 +1,0 @@
-pub mod Answers
-mod Pasting
-mod Spans
-mod Clips

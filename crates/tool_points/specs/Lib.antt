@@ -1,5 +1,0 @@
-pub mod Line
-pub mod Walk
-pub mod Within
-pub mod Steps
-pub mod Brush

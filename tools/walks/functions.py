@@ -1,0 +1,586 @@
+"""The functions whose walks are written by tools/walks/make: one entry a function, in the words of chains.py.
+
+A new parameter of a function is one entry in its list of parameters, one in the arguments of the calls that take it,
+and its type in TYPES if no other function has it. Contracts are the text of `requires` and `ensures` in src/, without
+`now`."""
+from chains import Call, Deref, Field, Fn, Give, Len, Let, Return, Store, last
+from kinds import Bool, Enum, MutRef, MutSlice, ShrSlice, Sint, Struct, Uint, Unit
+
+USIZE = Uint('usize')
+COUNTED, ANSWER, REMOVAL, SHIFTED, MADE = map(Enum, ['Counted', 'Answer', 'Removal', 'Shifted', 'MadeOp'])
+MOVED, REPLAYED, MARKED = map(Struct, ['Moved', 'Replayed', 'Marked'])
+
+# what a parameter is, or what it is a slice of, by its name; another type is written behind the name
+TYPES = {
+    # the sheet
+    'w': 'usize', 'h': 'usize', 'k': 'usize', 'palette': 'u8', 'lab': 'f64', 'indices': 'i16',
+    # an edit and the history
+    'no': 'u8', 'edit': Enum('Edit'), 'limited': Bool(), 'permitted': 'u8', 'list': 'Change', 'journal': 'u8',
+    'handle': Struct('Handle'), 'marks': 'u8',
+    # the tools
+    'area': Enum('Area'), 's': Struct('Selection'), 'points': 'i32', 'size': 'usize', 'index': 'i16', 'filled': Bool(),
+    'ax': 'i32', 'ay': 'i32', 'bx': 'i32', 'b-y': 'i32', 'x': 'i32', 'y': 'i32', 'dx': 'i32', 'dy': 'i32',
+    'clip-w': 'usize', 'clip-h': 'usize', 'clip': 'i16', 'tool': 'u8', 'count': 'usize', 'stroke': 'Change',
+    'on': Bool(), 't': 'usize', 'flat': 'u64', 'more': 'u64', 'scratch': 'u64', 'out': 'Change',
+}
+SHEET = 'w, h, k, &[palette], &[lab], &[indices]'
+LENT_SHEET = 'w, h, &mut k, &mut [palette], &mut [lab], &mut [indices]'
+EDIT = 'limited, &[permitted], edit, &[list]'
+
+
+def parameters(*texts):
+    """`x` by value, `&mut x`, `&mut [x]` and `&[x]`; `x: T` where TYPES has another type."""
+    out = []
+    for text in ', '.join(texts).split(', '):
+        kinds = {'&mut [': MutSlice, '&[': ShrSlice, '&mut ': MutRef}
+        kind = next((kinds[k] for k in kinds if text.startswith(k)), None)
+        name, _, other = text.replace('&mut ', '').strip('&[]').partition(': ')
+        type = other or TYPES[name]
+        if kind:
+            out.append((name, kind(getattr(type, 'name', type))))
+        elif isinstance(type, str):
+            out.append((name, (Sint if type[0] == 'i' else Uint)(type)))
+        else:
+            out.append((name, type))
+    return out
+
+
+# ---- where the words of the contracts and the laws stand
+def words(text):
+    """A line a module: its crate, specs or proofs, its name, and words that a proof may use of it."""
+    return [tuple(line.split(None, 3)) for line in text.strip().split('\n')]
+
+
+LISTS = words('''
+base specs Lists over
+base specs Answer filled
+struct_change specs Struct packedOf least
+change_list specs Listed countOf InScratch
+change_list proofs InScratch copy-fits copied
+struct_change specs Scratch needing
+sheet specs Sheet sheetOf
+''')
+STATE_WORDS = words('''
+base specs Limits maxChanges maxJournal
+base specs Checks orElse firstOf
+color_lab specs Convert labOf
+sheet specs Sheet sheetOf
+edit specs Change as flat
+edit specs Checks permittedOf
+edit specs Apply noPixels redone
+edit_pixels specs Inside bare
+edit_head specs Apart leftChecks MarksFor Finishable
+edit_apply specs Redoable Redoable
+struct_change specs Struct packedOf
+struct_edit specs Walk packedAll flatAll putUpto paintUpto checkUpto markUpto AllPuttable AllPaintable Checkable
+struct_edit proofs Told told-length
+history_ledger specs Journal pushOf pushed undoOf redoOf markOf
+history_model specs Editing givenOf editing
+history_model specs Calls stateOf leaves Standing Acceptable outcomeOf
+history_model specs Replay replayChecks replayed replayOf
+history_model proofs ReplayChecks redoable
+struct_push specs Lent leavesLent
+struct_replay specs Phases ReplayBegun Begun PushNumbered pushedOr doneOr nonePut finished Finishes fullNumber
+struct_replay proofs Replaying opened-checkable checked-checkable checked-marks replay-number
+struct_replay proofs Replaying done-either redoable-paints redoable-finishes replay-is
+struct_push_checks proofs PushSteps begun-checkable settle-checkable settle-short settle-marks push-number
+struct_push proofs Carrying carry-puts carry-paints carry-finishes carried
+struct_push proofs Pushed push-is
+''')
+FUNCTIONS = []
+
+
+def function(path, params, result, said, steps, end, **more):
+    FUNCTIONS.append(Fn(path, params, result, said, steps, end, **more))
+
+
+# ---- the tools: the core leaves its list in the scratch, and the list is unpacked into out
+S = '(sheetOf w h k palette lab indices)'
+COUNTING = {
+    'Counted': ('change_list::count_of', 'countOf'),
+    'Shifted': ('tool_move::shifted_count', 'shiftedCount'),
+    'Removal': ('struct_palette::removing::removal_count', 'removalCount'),
+    'MadeOp': ('change_stroke::made_count', 'madeCount'),
+}
+
+
+KEEPS = 'length scratch′ ≡ length scratch-now'
+
+
+def counting(result, to='n'):
+    path, word = COUNTING[result.name]
+    return Call('Counting', path, 'answer', USIZE, 'r ≡ %s answer' % word, to=to)
+
+
+def unpacking(count, out, why):
+    """The last call: as many structs as the answer counts."""
+    return Call('Unpacking', 'struct_change::unpack', 'share scratch, %s, give %s' % (count, out), Unit(),
+                'map packedOf {0}′ ≡ over (take {1} scratch-now) (map packedOf {0}-now)'.format(out, count),
+                asked='({1} ≤ length scratch-now) × ({1} ≤ length {0}-now)'.format(out, count), why=why)
+
+
+def copied(told, count, unpack, out):
+    return 'copied %s e%s (map packedOf %s) (sym (length-map %s packedOf)) e%s' % (told, count, out, out, unpack)
+
+
+def tool(path, core, own, result, leaves, does, keeps=True, using=''):
+    """`does` is the call as a definition, without its last argument, the list in out; `keeps`: the core has a clause of
+    its own that the scratch keeps its length."""
+    params = parameters(SHEET, own, '&mut [scratch], &mut [out]')
+    args = ', '.join(p for p, _ in params[:-2]) + ', lend scratch, out.len()'
+    inside = does.replace('(length scratch)', '(length scratch-now)')
+    left = 'InScratch (%s r) (length out) scratch′ (%s r) (%s)' % (COUNTING[result.name][1], leaves, inside)
+    function(
+        path, params, result,
+        '(%s r (map packedOf out′) ≡ %s (map packedOf out)) × (length scratch′ ≡ length scratch)' % (leaves, does),
+        [Call('Core', core, args, result, left, to='answer', also=KEEPS if keeps else None),
+         counting(result), unpacking('n', 'out', 'copy-fits e₁ e₂'), Return('answer')],
+        '%s, l₁-scratch' % copied('e₁', '₂', '₃', 'out'), uses=LISTS + words(using),
+        story='`%s` leaves its list in the scratch, which is lent to it, and the list is unpacked into out; the scratch'
+        ' is lent to that, too.' % core.split('::')[-1])
+
+
+def draw(name, own, args):
+    tool('struct_tools::draw::' + name, 'tool_draw::%s_in' % name, 'area, ' + own, COUNTED, 'leaves',
+         '%sCall %s area %s (length scratch)' % (name, S, args),
+         using='tool_line specs Line point\ntool_draw specs Calls leaves %sCall' % name)
+
+
+def place(name, core, own, call):
+    tool('struct_tools::place::' + name, core, own, SHIFTED, 'left', '%s (length scratch)' % call,
+         using='tool_move specs Pasting pasteCall left shiftedCount\ntool_move specs Moves moveCall')
+
+
+draw('pencil', '&[points], size, index', 'points size index')
+draw('eraser', '&[points], size', 'points size')
+draw('line', 'ax, ay, bx, b-y, size, index', '(point ax ay) (point bx b-y) size index')
+draw('rectangle', 'ax, ay, bx, b-y, filled, index', '(point ax ay) (point bx b-y) filled index')
+place('move_selection', 'tool_move::move_selection_in', 's, dx, dy', 'moveCall %s s dx dy' % S)
+place('paste', 'tool_move::paste_in', 'clip-w, clip-h, &[clip], x, y', 'pasteCall %s clip-w clip-h clip x y' % S)
+
+FILLS = '''
+tool_flood_fill specs Fill floodFillOf
+tool_replace specs Fills replaceColorOf fillGlobalOf
+'''
+NEEDING = 'needing (length scratch) (length indices) (%s)'
+tool('struct_fill::flooding::flood_fill', 'tool_flood_fill::flood_fill_in', 'area, x, y, index',
+     COUNTED, 'filled', 'floodFillOf %s area x y index (length scratch)' % S, using=FILLS)
+tool('struct_fill::index::replace_color', 'struct_fill::index::replace_color_in', 'area, old: i16, new: i16',
+     COUNTED, 'filled', NEEDING % ('replaceColorOf %s area old new' % S), keeps=False, using=FILLS)
+tool('struct_fill::index::fill_global', 'struct_fill::index::fill_global_in', 'area, x, y, index',
+     COUNTED, 'filled', NEEDING % ('fillGlobalOf %s area x y index' % S), keeps=False, using=FILLS)
+
+REMOVALS = '''
+palette_remove specs Removal remapped removeEntryOf mergeEntriesOf
+struct_palette specs Scratch removalCount needingRemap
+'''
+REMAP = 'needingRemap (length scratch) (length indices) (%s)'
+tool('struct_palette::removing::remove_entry', 'struct_palette::removing::remove_entry_in', 'index: usize',
+     REMOVAL, 'remapped', REMAP % ('removeEntryOf %s index' % S), keeps=False, using=REMOVALS)
+tool('struct_palette::removing::merge_entries', 'struct_palette::removing::merge_entries_in', 'old: usize, new: usize',
+     REMOVAL, 'remapped', REMAP % ('mergeEntriesOf %s old new' % S), keeps=False, using=REMOVALS)
+
+
+# ---- lists that are read, too: packed into flat, and their core's list unpacked
+def packing(list, count, flat, why):
+    now, lent = (list, list) if list == 'list' else (list + '-now', 'share ' + list)
+    return Call('Packing', 'struct_change::pack', '%s, %s, lend %s' % (lent, count, flat), Unit(),
+                '{2}′ ≡ over (take {1} (map packedOf {0})) {2}-now'.format(now, count, flat),
+                asked='({1} ≤ length {0}) × ({1} ≤ length {2}-now)'.format(now, count, flat), why=why)
+
+
+def lesser(a, b, said, to):
+    return Call('Lesser', 'struct_change::lesser', '%s, %s' % (a, b), USIZE, said, to=to)
+
+
+def fits(flat):
+    return '''
+  fits : (m : ℕ) → m ≡ least (length list) (length {0}) → (m ≤ length list) × (m ≤ length {0})
+  fits m e = subst (λ (i : ℕ). (i ≤ length list) × (i ≤ length {0})) (sym e) (least-fits (length list) (length {0}))
+'''.format(flat)
+
+
+OP = LISTS + words('''
+struct_change proofs Packing least-fits told
+change_stroke specs Op normalizeCall made madeCount pixelsCall
+''')
+
+
+def normal(name, own, result, leaves, call):
+    """`normalize` and `pixels`."""
+    params = parameters(*own, '&[list], &mut [flat], &mut [scratch], &mut [out]')
+    args = [p for p, _ in params[:-4]] + ['share flat', 'n', 'lend scratch', 'out.len()']
+    told = ('(told (λ i. %s (least i (length scratch))) (map packedOf list) flat %s %s (length list) r₁ e₃ (length-map'
+            ' list packedOf) e₁ l₂-flat e₂)' % (call, last(2, 2), last(3, len(args) - 2)))
+    function(
+        'struct_stroke::op::' + name, params, result,
+        '(%s r (map packedOf out′) ≡ %s (least (length flat) (length scratch)) (map packedOf list) (map packedOf out))'
+        ' × (length flat′ ≡ length flat) × (length scratch′ ≡ length scratch)' % (leaves, call),
+        [Len('n', 'list'), lesser('n', 'flat.len()', 'r ≡ least n (length flat)', 'm'),
+         packing('list', 'm', 'flat', 'fits r₁ e₁'),
+         Call('Core', 'struct_stroke::op::%s_packed' % name, ', '.join(args), result,
+              '(l : List ℕ) → length l ≡ n → take n flat-now ≡ take (length flat-now) l → InScratch (%s r) (length out)'
+              ' scratch′ (%s r) (%s (least (length flat-now) (length scratch-now)) l)'
+              % (COUNTING[result.name][1], leaves, call), to='answer'),
+         counting(result, 'count'), unpacking('count', 'out', 'copy-fits %s e₄' % told), Return('answer')],
+        '%s, l₂-flat, l₃-scratch' % copied(told, '₄', '₅', 'out'), laws=fits('flat'), uses=OP,
+        story='The list is packed into flat, `%s_packed` leaves its list in the scratch, and that is unpacked into out.'
+        % name)
+
+
+normal('normalize', [], COUNTED, 'filled', 'normalizeCall')
+normal('pixels', ['tool'], MADE, 'made', 'pixelsCall tool')
+
+ROOM = '(roomFor (length flat) (length more) (length scratch) count (length list))'
+MEANT = '(means r₅ %s %s %s r₁ r₃ e₅ e₁ l₂-flat e₂ e₃ l₄-more e₄)' % (last(2, 2), last(4, 2), last(5, 5))
+function('struct_extend::strokes::extend',
+         parameters('&mut [stroke], count, &[list], &mut [flat], &mut [more], &mut [scratch]'), COUNTED,
+         '(filled r (map packedOf stroke′) ≡ extendCall %s count (map packedOf list) (map packedOf stroke)) × (length'
+         ' flat′ ≡ length flat) × (length more′ ≡ length more) × (length scratch′ ≡ length scratch)' % ROOM,
+         [Len('n', 'list'),
+          Call('Three', 'struct_extend::strokes::least_of', 'count, stroke.len(), flat.len()', USIZE,
+               'r ≡ least (least count (length stroke)) (length flat)', to='held'),
+          packing('stroke', 'held', 'flat', 'three-fit count (length stroke) (length flat) r₁ e₁'),
+          lesser('n', 'more.len()', 'r ≡ least n (length more)', 'm'), packing('list', 'm', 'more', 'fits r₃ e₃'),
+          Call('Core', 'struct_extend::strokes::extend_packed', 'share flat, count, share more, n, stroke.len(), lend'
+               ' scratch', COUNTED,
+               '(stk l : List ℕ) → length stk ≡ length stroke → length l ≡ n → (count ≤ length stroke → count ≤ length'
+               ' flat-now → take count flat-now ≡ take count stk) → (n ≤ length more-now → take n more-now ≡ l) → Left'
+               ' r scratch′ stk l (roomFor (length flat-now) (length more-now) (length scratch-now) count n)',
+               to='answer'),
+          counting(COUNTED, 'total'), unpacking('total', 'stroke', 'copy-fits %s e₆' % MEANT), Return('answer')],
+         '%s ∙ over-own %s count (map packedOf list) (map packedOf stroke), l₂-flat, l₄-more, l₅-scratch'
+         % (copied(MEANT, '₆', '₇', 'stroke'), ROOM),
+         before='''
+  -- what the core leaves in the scratch
+  abbrev Left : Counted → List ℕ → List ℕ → List ℕ → ℕ → Type 0
+  Left r ws stk l room = InScratch (countOf r) (length stroke) ws (filled r) (extendOver room count l stk)
+''', laws=fits('more') + '''
+  -- what the core says of the buffers means of the lists
+  means : (r : Counted) (zs ys ws : List ℕ) (h m : ℕ)
+      → ((stk l : List ℕ) → length stk ≡ length stroke → length l ≡ length list
+      → (count ≤ length stroke → count ≤ length zs → take count zs ≡ take count stk) → (length list ≤ length ys → take (length list) ys ≡ l)
+      → Left r ws stk l (roomFor (length zs) (length ys) (length scratch) count (length list)))
+      → h ≡ least (least count (length stroke)) (length flat) → length zs ≡ length flat → zs ≡ over (take h (map packedOf stroke)) flat
+      → m ≡ least (length list) (length more) → length ys ≡ length more → ys ≡ over (take m (map packedOf list)) more
+      → Left r ws (map packedOf stroke) (map packedOf list) {room}
+  means r zs ys ws h m s e l d e′ l′ d′ =
+      let k : length (map packedOf stroke) ≡ length stroke = length-map stroke packedOf in
+      subst (λ (i : ℕ). Left r ws (map packedOf stroke) (map packedOf list) (roomFor (length flat) i (length scratch) count (length list))) l′
+      (subst (λ (i : ℕ). Left r ws (map packedOf stroke) (map packedOf list) (roomFor i (length ys) (length scratch) count (length list))) l
+      (s (map packedOf stroke) (map packedOf list) k (length-map list packedOf)
+      (λ x y. stroke-front (map packedOf stroke) flat zs count h (subst (λ (i : ℕ). h ≡ least (least count i) (length flat)) (sym k) e) l d
+      (subst (λ (i : ℕ). count ≤ i) (sym k) x) y)
+      (λ x. list-front (map packedOf list) more ys (length list) m (length-map list packedOf) e′ l′ d′ x)))
+'''.format(room=ROOM),
+         uses=LISTS + words('''
+struct_change proofs Packing least-fits
+change_stroke specs Stroke extendCall
+struct_extend specs Places roomFor extendOver
+struct_extend proofs Joined over-own stroke-front list-front three-fit
+'''),
+         story='The stroke and the list are packed into flat and more, `extend_packed` leaves its list in the scratch,'
+         ' and that is unpacked over the stroke.')
+
+# ---- `mirror_tiles`
+TOUCHING = '(touching on (length list) t w h)'
+FLAT, SCRATCH = last(5, 2), last(6, 12)
+JUDGED = 'w h t on (length list) r₁ r₂ e₁ e₂'
+MEANS = '(means r₁ r₂ r₃ r₄ r₆ %s %s e₁ e₂ e₃ e₄ l₅-flat e₅ e₆)' % (FLAT, SCRATCH)
+function('struct_mirror::mirror_tiles', parameters(SHEET, 'area, on, t, &[list], &mut [flat], &mut [scratch], &mut'
+    ' [out]'), COUNTED,
+         '(filled r (map packedOf out′) ≡ mirrorLent %s area on t (map packedOf list) (length flat) (length scratch)'
+         ' (map packedOf out)) × (length flat′ ≡ length flat) × (length scratch′ ≡ length scratch)' % S,
+         [Len('n', 'list'), Len('places', 'flat'), Len('room', 'out'),
+          Call('Touching', 'tile_mirror_checks::is_touching', 'on, n, t, w, h', Bool(), 'r ≡ touching on n t w h',
+               to='touched'),
+          Call('Reading', 'struct_mirror::packed::read_of', 'touched, n', USIZE, 'r ≡ readOf touched n', to='read'),
+          Call('Scanning', 'struct_change::any_outside', 'w, h, list, read', Bool(),
+               'r ≡ some-of (outside w h) (map unpacked (take read (map packedOf list)))', to='off',
+               asked='read ≤ length list',
+               why='read-fits ' + JUDGED),
+          lesser('read', 'places', 'r ≡ least read places', 'm'), packing('list', 'm', 'flat', 'pack-fits %s flat r₄ e₄'
+              % JUDGED),
+          Call('Core', 'struct_mirror::packed::mirror_packed',
+               'w, h, k, palette, lab, indices, area, on, t, off, share flat, n, lend scratch, room', COUNTED,
+               '(l : List ℕ) → length l ≡ n → off ≡ straying (touching on n t w h) w h l → (touching on n t w h ≡ true'
+               ' → n ≤ length flat-now → take n flat-now ≡ l) → Laid (madeOf (touching on n t w h) r) (keptOf (touching'
+               ' on n t w h) r) room scratch′ l (filled r) (mirrorLent %s area on t l (length flat-now) (length'
+               ' scratch-now))' % S, to='answer',
+               asked='touching on n t w h ≡ true → n ≤ length flat-now → off ≡ some-of (outside w h) (map unpacked'
+               ' (take n flat-now))',
+               why='read-judged %s (map packedOf list) (length-map list packedOf) r₃ e₃ flat %s r₄ e₄ l₅-flat e₅'
+               % (JUDGED, FLAT)),
+          Call('Made', 'struct_mirror::packed::made_of', 'touched, answer', USIZE, 'r ≡ madeOf touched answer',
+               to='made'),
+          Call('Unpacking', 'struct_change::unpack', 'share scratch, made, lend out', Unit(),
+               'map packedOf out′ ≡ over (take made scratch-now) (map packedOf out-now)',
+               asked='(made ≤ length scratch-now) × (made ≤ length out-now)', why='unpack-fits r₁ _ e₁ r₆ %s r₇ e₇'
+               % MEANS),
+          Call('Kept', 'struct_mirror::packed::kept_of', 'touched, answer', USIZE, 'r ≡ keptOf touched answer',
+               to='kept'),
+          Call('Copying', 'struct_change::copy_front', 'list, kept, give out', Unit(),
+               'map packedOf out′ ≡ over (take kept (map packedOf list)) (map packedOf out-now)',
+               asked='(kept ≤ length list) × (kept ≤ length out-now)',
+               why='subst (λ (i : ℕ). (r₉ ≤ i) × (r₉ ≤ length {0})) (length-map list packedOf) (subst (λ (i : ℕ). (r₉ ≤'
+               ' length (map packedOf list)) × (r₉ ≤ i)) (sym l₈-out) (copy-fits r₁ _ e₁ r₆ {1} r₉ e₉))'
+               .format(last(8, 2), MEANS)),
+          Return('answer')],
+         'laid-all r₁ _ e₁ r₆ %s r₇ r₉ e₇ e₉ (map packedOf out) (map packedOf %s) (map packedOf %s) (length-map out'
+         ' packedOf) e₈ e₁₀, l₅-flat, l₆-scratch'
+         % (MEANS, last(8, 2), last(10, 2)),
+         laws='''
+  -- what the core says of flat and the scratch means of the list
+  means : (touched : Bool) (read : ℕ) (off : Bool) (m : ℕ) (r : Counted) (zs ws : List ℕ)
+      → touched ≡ touching on (length list) t w h → read ≡ readOf touched (length list)
+      → off ≡ some-of (outside w h) (map unpacked (take read (map packedOf list)))
+      → m ≡ least read (length flat) → length zs ≡ length flat → zs ≡ over (take m (map packedOf list)) flat
+      → ((l : List ℕ) → length l ≡ length list → off ≡ straying {0} w h l
+      → (touching on (length list) t w h ≡ true → length list ≤ length zs → take (length list) zs ≡ l)
+      → Laid (madeOf {0} r) (keptOf {0} r) (length out) ws l (filled r) (mirrorLent {1} area on t l (length zs) (length scratch)))
+      → Laid (madeOf {0} r) (keptOf {0} r) (length out) ws (map packedOf list) (filled r)
+      (mirrorLent {1} area on t (map packedOf list) (length flat) (length scratch))
+  means touched read off m r zs ws is reads j q l d said =
+      let e = length-map list packedOf in
+      subst (λ (i : ℕ). Laid (madeOf {0} r) (keptOf {0} r) (length out) ws (map packedOf list) (filled r)
+      (mirrorLent {1} area on t (map packedOf list) i (length scratch))) l
+      (said (map packedOf list) e (read-off w h t on (length list) touched read is reads (map packedOf list) e off j)
+      (read-front w h t on (length list) touched read is reads (map packedOf list) e flat zs m q l d))
+'''.format(TOUCHING, S),
+         uses=words('''
+base specs Answer filled
+struct_change specs Struct packedOf least
+sheet specs Sheet sheetOf
+base specs Lists over some_as_some-of
+edit specs Change outside unpacked
+tile_mirror_checks specs Calls touching straying
+struct_mirror specs Lent readOf mirrorLent madeOf keptOf Laid
+struct_mirror proofs Laying read-fits pack-fits read-front read-off read-judged unpack-fits copy-fits laid-all
+'''),
+         story='A list that is touched is judged and packed into flat; `mirror_packed` leaves its result in the'
+         ' scratch, and that is unpacked into out; a list that is not is copied into out.')
+
+
+# ---- the state: sheet, journal and handle
+def sheet(now, k='k'):
+    return '(sheetOf w h %s %s)' % (k, ' '.join(x + now for x in ('palette', 'lab', 'indices')))
+
+
+def state(now, k='k', handle='handle', journal=None):
+    return '(stateOf %s %s %s)' % (sheet(now, k), journal or 'journal' + now, handle)
+
+
+GIVEN = '(givenOf limited permitted edit (packedAll list))'
+STATE, CALLED = state(''), state('-now', 'count', 'held')
+COUNT = sheet('-now', 'count')
+
+
+def stepping(name, path, own, said, end, also=None):
+    """`undo` and `redo`: what the call by value leaves is stored."""
+    lends = ', give scratch' if 'scratch' in own else ''
+    function('struct_history::moving::' + name, parameters(LENT_SHEET, '&[journal], &mut handle',
+        *([own] if own else [])), ANSWER,
+             said % ('leavesLent r w h k′ palette′ lab′ indices′ journal handle′ ≡ %s %s'
+                     % (('redoOf editing (length scratch)' if lends else 'undoOf editing'), STATE)),
+             [Call('Step', path, 'w, h, *k, give palette, give lab, give indices, journal, *handle' + lends, MOVED,
+                   'leavesLent (r .answer) w h (r .k) palette′ lab′ indices′ journal (r .handle) ≡ %s %s'
+                   % (('redoOf editing (length scratch-now)' if lends else 'undoOf editing'),
+                      state('-now', 'k-now', 'handle-now', 'journal')),
+                   to='s', also=also),
+              Store('k', 'k'), Store('handle', 'handle'), Give('answer')], end, uses=STATE_WORDS,
+             story='The borrows of palette count and handle are opened and both copied out, `%s` is called, what it'
+             ' returned is stored, and the borrows are closed at it.' % path)
+
+
+stepping('undo', 'history_undo::undo', '', '%s', 'e₁')
+stepping('redo', 'history_redo::redo', '&mut [scratch: u8]', '(%s) × (length scratch′ ≡ length scratch)',
+         'e₁, l₁-scratch',
+         also='length scratch′ ≡ length scratch-now')
+function('struct_history::moving::mark_saved', parameters('&[journal], &mut handle'), ANSWER,
+         'outcomeOf r handle′ ≡ markOf (length journal) handle',
+         [Call('Step', 'history::mark_saved', 'journal, *handle', MARKED, 'outcomeOf (r .answer) (r .handle) ≡ markOf'
+               ' (length journal) handle-now', to='s'),
+          Store('handle', 'handle'), Give('answer')], 'e₁', uses=STATE_WORDS,
+         story='The borrow of the handle is opened and the handle copied out, `history::mark_saved` is called, what it'
+         ' returned is stored, and the borrow is closed at it.')
+
+# ---- `replay`
+REPLAYED_AS = 'replayed (r .answer) (sheetOf w h (r .k) palette′ lab′ indices′) ≡ doneOr %s %s (redone labOf %s edit %s)'
+PERMITTED = '(permittedOf limited permitted)'
+NAMED_SHEET = parameters('no, w, k, &mut [palette], &mut [lab], &mut [indices], edit, &[list]')
+
+
+def painting(why):
+    return Call('Painting', 'struct_edit::paint_list', 'no, edit, lend indices, w, list', Unit(),
+                'indices′ ≡ paintUpto no edit w list indices-now (length list)',
+                asked='no ≡ 0 → AllPaintable edit w (length indices-now) (flatAll list)', why='λ z. ' + why)
+
+
+def checking(first, changes, why):
+    """The loop over the list: `changes` says whether the olds are compared."""
+    bare = '(bare w h k indices)'
+    return Call('Checking', 'struct_edit::check_list', '%s, edit, %s, w, h, k, indices, lend marks, list'
+                % (first, changes), Uint('u8'),
+                '(r ≡ checkUpto {0} {1} {2} edit list (length list)) × (marks′ ≡ markUpto {0} {1} {2} edit list'
+                ' marks-now (length list))'
+                .format(first, changes, bare), to='checked', asked='%s ≡ 0 → Checkable edit w h (length indices)'
+                ' (length marks-now)' % first, why=why)
+
+
+function('struct_replay::op::redo_list', NAMED_SHEET, REPLAYED, '(h : ℕ) → ' + REPLAYED_AS
+         % ('no', S, S, '(flatAll list)'),
+         [painting('redoable-paints edit (flatAll list) (fit z)'),
+          Call('Finishing', 'struct_replay::op::finish_replay', 'no, k, give palette, give lab, give indices, edit',
+               REPLAYED,
+               '(w h : ℕ) → ' + REPLAYED_AS % ('no', sheet('-now'), sheet('-now'), '[]'), to='',
+               asked='no ≡ 0 → Finishable k (length palette-now) (length lab-now) edit',
+               why='λ z. redoable-finishes edit (flatAll list) (fit z)')],
+         'λ (h : ℕ). e₂ w h ∙ done-either w h k palette lab indices edit list no %s e₁' % last(1, 2),
+         fit='no ≡ 0 → Redoable w k palette lab indices edit (flatAll list)', uses=STATE_WORDS,
+         story='The indices are lent to the loop, and then the storage is given to the last step.')
+
+ALL = '(length marks) w h k palette lab indices %s edit list' % PERMITTED
+OPENED = 'r₁ %s (e₁ (flatAll list) (told-length list)) l₁-marks' % last(1, 10)
+function('struct_replay::op::replay_no', parameters(SHEET, EDIT, '&mut [marks]'), Uint('u8'),
+         'r ≡ firstOf (replayChecks (length marks) %s %s edit (flatAll list))' % (S, PERMITTED),
+         [Len('n', 'list'),
+          Call('Opening', 'struct_replay::op::open_replay', 'w, h, k, palette, lab, indices, limited, permitted, edit,'
+               ' n, lend marks', Uint('u8'),
+               '(cs : List flat.Change) → length cs ≡ n → ReplayBegun (length marks-now) %s %s edit cs r marks′'
+               % (S, PERMITTED), to='opened'),
+          checking('opened', 'true', 'opened-checkable %s %s (length %s) (l₁-marks)' % (ALL, OPENED, last(1, 10))),
+          Call('Leaving', 'struct_replay::op::left_after', 'checked, edit, w, h, indices, share marks', Uint('u8'),
+               '(cs : List flat.Change) → (checked ≡ 0 → MarksFor edit w (w * h) cs marks-now) → r ≡ orElse checked'
+               ' (firstOf (leftChecks (bare w h 0 indices) edit cs))', to='',
+               asked='checked ≡ 0 → Checkable edit w h (length indices) (length marks-now)',
+               why='checked-checkable %s %s (length %s) r₂ (l₂-marks ∙ l₁-marks) (e₂ .0)' % (ALL, OPENED, last(2, 7)))],
+         'replay-number {0} {1} r₂ r₃ (e₂ .0) (e₃ (flatAll list) (λ z. rw (e₂ .1) (checked-marks {0} {1} r₂ (e₂ .0)'
+         ' z)))'
+         .format(ALL, OPENED),
+         uses=STATE_WORDS, story='The marks are lent to each step.')
+
+function('struct_replay::op::replay', parameters(LENT_SHEET, EDIT, '&mut [scratch: u8]'), ANSWER,
+         '(replayed r (sheetOf w h k′ palette′ lab′ indices′) ≡ replayOf (length scratch) %s %s edit (flatAll list)) ×'
+         ' (length scratch′ ≡ length scratch)'
+         % (S, PERMITTED),
+         [Deref('count', 'k'),
+          Call('Numbering', 'struct_replay::op::replay_no',
+               'w, h, count, share palette, share lab, share indices, limited, permitted, edit, list, lend scratch',
+               Uint('u8'),
+               'r ≡ firstOf (replayChecks (length scratch-now) %s %s edit (flatAll list))' % (COUNT, PERMITTED),
+               to='number'),
+          Call('Redoing', 'struct_replay::op::redo_list', 'number, w, count, give palette, give lab, give indices,'
+               ' edit, list', REPLAYED,
+               '(h : ℕ) → ' + REPLAYED_AS % ('number', COUNT, COUNT, '(flatAll list)'), to='s',
+               asked='number ≡ 0 → Redoable w count palette-now lab-now indices-now edit (flatAll list)',
+               why='λ z. redoable (length scratch) w h k palette lab indices %s edit (flatAll list) (sym e₁ ∙ z)'
+               % PERMITTED),
+          Store('k', 'k'), Give('answer')],
+         '(e₂ h ∙ replay-is (length scratch) %s %s edit (flatAll list) r₁ e₁, l₁-scratch)' % (S, PERMITTED),
+         uses=STATE_WORDS,
+         story="The palette count's borrow is opened and the count copied out; the sheet is lent as `&` for its"
+         " checks and then given.")
+
+# ---- `push`
+ALL = '(length marks) w h k palette lab indices journal handle limited permitted edit list'
+BEGUN = 'r₁ %s (e₁ (packedAll list) (length-map list packedOf)) l₁-marks' % last(1, 12)
+function('struct_push_checks::push_no', parameters(SHEET, EDIT, '&[journal], handle, &mut [marks]'), Uint('u8'),
+         'PushNumbered (length marks) %s %s r' % (STATE, GIVEN),
+         [Len('n', 'list'), Len('size', 'journal'), Field('offset', 'handle', 'offset'),
+          Call('Beginning', 'struct_push_checks::begin', 'w, h, k, palette, lab, indices, limited, permitted, edit, n,'
+               ' journal, handle, lend marks',
+               Uint('u8'), '(ns : List ℕ) → length ns ≡ n → Begun (length marks-now) %s (givenOf limited permitted edit'
+               ' ns) r marks′' % STATE, to='begun'),
+          checking('begun', 'false', 'begun-checkable %s %s (length %s) (l₁-marks)' % (ALL, BEGUN, last(1, 12))),
+          Call('Settling', 'struct_push_checks::settle', 'checked, edit, n, w, h, indices, share marks, size, offset',
+               Uint('u8'),
+               '(cs : List flat.Change) → (checked ≡ 0 → MarksFor edit w (w * h) cs marks-now) → r ≡ orElse (orElse'
+               ' checked (firstOf (leftChecks (bare w h 0 indices) edit cs))) (fullNumber offset edit n size)', to='',
+               asked='(checked ≡ 0 → Checkable edit w h (length indices) (length marks-now)) × (checked ≡ 0 → (n ≤'
+               ' maxChanges) × (offset ≤ maxJournal))',
+               why='settle-checkable {0} {1} (length {2}) r₂ (l₂-marks ∙ l₁-marks) (e₂ .0), settle-short {0} {1} r₂ (e₂'
+               ' .0)'
+               .format(ALL, BEGUN, last(2, 7)))],
+         'push-number {0} {1} r₂ r₃ (e₂ .0) (e₃ (flatAll list) (λ z. rw (e₂ .1) (settle-marks {0} {1} r₂ (e₂ .0) z)))'
+         .format(ALL, BEGUN),
+         uses=STATE_WORDS, story='The marks are lent to each step.')
+
+
+def carried(no, at):
+    return ('(limited : Bool) (permitted : List ℕ) → leaves r w h palette′ lab′ indices′ journal′ ≡ pushedOr {0}'
+            ' (noPixels edit (flatAll list)) {1} (pushed editing {1} {2})'.format(no, at, GIVEN))
+
+
+def carries(no, at):
+    return '({0} ≡ 0 → Standing {1}) × ({0} ≡ 0 → noPixels edit (flatAll list) ≡ false → Acceptable {1} edit (flatAll list))'.format(no, at)
+
+
+EACH = 'w h k palette lab indices journal handle edit list'
+function('struct_push::recording::carry_out',
+         parameters('no, w, h, k, &mut [palette], &mut [lab], &mut [indices], edit, &[list], &mut [journal], handle'),
+         MOVED, carried('no', STATE),
+         [Len('n', 'list'), Field('offset', 'handle', 'offset'),
+          Call('Writing', 'struct_edit::put_list', 'no, edit, lend journal, offset, share indices, w, list', Unit(),
+               'journal′ ≡ putUpto no edit offset w indices-now list journal-now (length list)',
+               asked='no ≡ 0 → AllPuttable edit offset (length journal-now) w (length indices-now) (flatAll list)',
+               why='λ z. carry-puts %s (fit .0 z) (fit .1 z)' % EACH),
+          painting('carry-paints %s (fit .0 z) (fit .1 z)' % EACH),
+          Call('Finishing', 'struct_push::recording::finish',
+               'no, k, give palette, give lab, give indices, edit, n, give journal, handle', MOVED,
+               '(w h : ℕ) → leaves r w h palette′ lab′ indices′ journal′ ≡ pushedOr no (nonePut edit n) {0} (finished'
+               ' {0} edit n)'.format(state('-now')),
+               to='', asked='no ≡ 0 → nonePut edit n ≡ false → Finishes k palette-now lab-now journal-now handle edit n',
+               why='λ z t. carry-finishes %s (fit .0 z) (fit .1 z) %s (l₁-journal) t' % (EACH, last(1, 2)))],
+         'λ (limited : Bool) (permitted : List ℕ). e₃ w h ∙ carried %s limited permitted no %s %s e₂ e₁ (fit .1)'
+         % (EACH, last(2, 2), last(1, 2)),
+         fit=carries('no', STATE), uses=STATE_WORDS, story='Journal and indices are lent to the loops, and then given'
+         ' to the last step.')
+
+function('struct_push::recording::push',
+         parameters(LENT_SHEET, EDIT, '&mut [journal], &mut handle, &mut [scratch: u8]'), ANSWER,
+         '(leavesLent r w h k′ palette′ lab′ indices′ journal′ handle′ ≡ pushOf editing (length scratch) %s %s) × (length'
+         ' scratch′ ≡ length scratch)' % (STATE, GIVEN),
+         [Deref('count', 'k'), Deref('held', 'handle'),
+          Call('Numbering', 'struct_push_checks::push_no',
+               'w, h, count, share palette, share lab, share indices, limited, permitted, edit, list, share journal,'
+               ' held, lend scratch',
+               Uint('u8'), 'PushNumbered (length scratch-now) %s %s r' % (CALLED, GIVEN), to='number'),
+          Call('Carrying', 'struct_push::recording::carry_out',
+               'number, w, h, count, give palette, give lab, give indices, edit, list, give journal, held', MOVED,
+               carried('number', CALLED), to='s',
+               asked=carries('number', CALLED), why='(λ z. e₁ .stands z), λ z t. e₁ .fine z t'),
+          Store('k', 'k'), Store('handle', 'handle'), Give('answer')],
+         '(e₂ limited permitted ∙ push-is (length scratch) %s %s r₁ (e₁ .value), l₁-scratch)' % (STATE, GIVEN),
+         uses=STATE_WORDS,
+         story='The borrows of palette count and handle are opened and both copied out; sheet and journal are lent as'
+         ' `&` for the checks and then given.')
+
+# ---- the example: palette count and handle are locals, which are lent
+PLAIN_SHEET = 'w, h, k, &mut [palette], &mut [lab], &mut [indices]'
+EXAMPLE = STATE_WORDS + words('example_editor specs Lent movedOf')
+
+
+def lent(name, call, own, by, also=None):
+    """`undone` and `redone`: the call of struct_history over locals."""
+    scratch = ', give scratch' if own else ''
+    now = by.replace('(length scratch)', '(length scratch-now)')
+    function(
+        'example_editor::lent::' + name, parameters(PLAIN_SHEET, '&[journal], handle', *own), MOVED,
+        'leaves r w h palette′ lab′ indices′ journal ≡ %s %s' % (by, STATE),
+        [Let('count', 'k'), Let('held', 'handle'),
+         Call('Step', 'struct_history::' + call,
+              'w, h, &mut count, give palette, give lab, give indices, journal, &mut held' + scratch, ANSWER,
+              ('(%s)%s' if also else '%s%s') % (
+                  'leavesLent r w h count′ palette′ lab′ indices′ journal held′ ≡ %s %s'
+                  % (now, state('-now', 'count-now', 'held-now', 'journal')), also or ''), to='answer'),
+         Call('Making', 'example_editor::lent::moved', 'answer, count, held', MOVED, 'r ≡ movedOf answer count held',
+              to='')],
+        'ap (λ (m : Moved). leaves m w h {0} {1} {2} journal) e₂ ∙ e₁{3}'
+        .format(last(1, 3), last(1, 4), last(1, 5), ' .0' if also else ''), uses=EXAMPLE,
+        story='Palette count and handle are put into locals, which are lent for the call; what it leaves in them is'
+        ' returned.')
+
+
+lent('undone', 'undo', [], 'undoOf editing')
+lent('redone', 'redo', ['&mut [scratch: u8]'], 'redoOf editing (length scratch)',
+     ' × (length scratch′ ≡ length scratch-now)')
