@@ -1,20 +1,14 @@
-// Document 01's limits, its numbers 1 to 22, and the values that the crates hand to each other.
+// What every crate stands on: document 01's limits and its numbers 1 to 22, the types that calls take and give, entries
+// of palette and LAB storage, tests on numbers, and laws on lists.
 //
-// specs/ says the same to the contracts: Limits and Numbers name the numbers, Checks takes the first
-// check that applies, Answer gives document 01's number and values for each case of each enum that is an answer.
-// What loops over lists share: a definition, the laws of scans, and the test that keeps a scan free of branches.
-// Signed numbers: the tests and the readings that loops and checks make of them, each with an equation on
-// whole numbers, so that callers meet no bit pattern; and of what Rust gives every number, `min`, `max` and
-// `saturating_sub`.
-// Palette storage and LAB storage, entry by entry. Each function asks its caller that the storage has the
-// entry.
+// specs/ says the same to the contracts: Limits and Numbers name the numbers, Checks takes the first check that applies,
+// Answer gives document 01's number and values for each case of each enum that is an answer.
 mod ints;
 mod lists;
 mod storage;
 
 ghost use mathlib.Core.Path.{_≡_};
 ghost use Rattle.base.specs.Answer.{numberOf, countedNumber};
-ghost use Prim.Native.Nat.{_-_};
 pub use ints::from_zero;
 pub use ints::is_far;
 pub use ints::max_i32;

@@ -1,10 +1,9 @@
-// Every exported call of the repository under a plain C name, for compare/ and bench/. A wrapper makes one call, or one of
-// some of one shape, by a number: structs and enums come and go as numbers in small arrays, and what it returns is document 01's
-// number: 0 where there is an answer, 255 for "still", nothing or outside, else the refusal's own. What the calls
-// answer stands in their own contracts; of the wrappers it is proved that they are safe and end.
-// What bench/driver.rs times of the colours, exported to C over slices: as many calls as there are inputs,
-// and none where the results have too few places. Of these loops it is proved that they stay inside and
-// end; what the calls answer stands in their own contracts.
+// Every exported call of the repository under a plain C name, for compare/ and bench/. A wrapper makes one call, or one
+// of some of one shape, by a number: structs and enums come and go as numbers in small arrays, and what it returns is
+// document 01's number: 0 where there is an answer, 255 for "still", nothing or outside, else the refusal's own. What
+// the calls answer stands in their own contracts; of the wrappers it is proved that they are safe and end.
+//
+// `bench` has what bench/driver.rs times of the colours: loops over slices, as many calls as there are inputs.
 mod bench;
 mod colours;
 mod drawn;

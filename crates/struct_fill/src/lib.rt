@@ -1,8 +1,6 @@
-// `flood_fill` of tools.rs as makers hold it, which the crate struct_tools offers: the list of changes that it makes is
-// a lent slice of structs.
-// `replace_color`, `fill_global`, `remove_entry` and `merge_entries` as makers hold them: the list of changes is a lent
-// slice of structs. The flat calls take no scratch; these do, a place a pixel, and a shorter one is 16 after all
-// other checks.
+// `flood_fill`, `replace_color` and `fill_global` of tools.rs as makers hold them: the list of changes is a lent slice of
+// structs. The flat `replace_color` and `fill_global` take no scratch; these do, a place a pixel, and a shorter one is 16
+// after all other checks.
 mod flooding;
 mod index;
 

@@ -1,5 +1,3 @@
-// The drawing tools of tools.rs as makers hold them, which the crate struct_tools offers: the list of changes that a
-// tool makes is a lent slice of structs.
 // The tools of tools.rs as makers hold them: the list of changes that a tool makes is a lent slice of structs. Each
 // call is thin over the call of the same name in the flat core, and its contract is that call's own definition at
 // the numbers that the structs stand for.

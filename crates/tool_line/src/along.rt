@@ -1,7 +1,4 @@
-// The points of a line, one after the other and without a division: `bresenham` of tools.rs.
-//
-// A line goes as many steps as its longer side is long. Each axis is walked by itself: at every step its
-// side is added to what the closed form's division left, and where that makes a whole place, it moves.
+// The walk along a line, one point after the other and without a division.
 use crate::Axis;
 use crate::Walk;
 use base::max_usize;

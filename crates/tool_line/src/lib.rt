@@ -1,8 +1,7 @@
-// The points of a line, one after the other and without a division: `bresenham` of tools.rs.
+// The points of a line: `bresenham` of tools.rs, the walk along them, and the place of any step without a walk.
 //
 // A line goes as many steps as its longer side is long. Each axis is walked by itself: at every step its
 // side is added to what the closed form's division left, and where that makes a whole place, it moves.
-// The points of a line as a call: `bresenham` of tools.rs.
 mod along;
 mod line;
 mod reach;

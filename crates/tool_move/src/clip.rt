@@ -1,4 +1,4 @@
-// `paste` of tools.rs, which the crate tool_move offers: a clip put on the sheet.
+// `paste`: a clip put on the sheet.
 use base::BAD_CLIP;
 use base::Counted;
 use base::MAX_SIDE;

@@ -1,4 +1,3 @@
-// `paste` of tools.rs, which the crate tool_move offers: a clip put on the sheet.
 // `move_selection` and `paste` of tools.rs: a rectangle of indices put at another place of the sheet.
 //
 // The rows of the selection and of its landing are laid out in the scratch, cleared and painted there, row by row and
