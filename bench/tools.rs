@@ -311,14 +311,19 @@ fn snap() {
     }
 }
 
-/// Unique tiles and their map, at tolerance 0.
-fn tiles() {
-    use pixelforge::tiles::{extract, TileConfig};
+/// Sheets that are cut into tiles of 8 or 16: noise, 200 tiles, one tile.
+fn tile_sheets() -> [(&'static str, Sheet); 3] {
     let mut draw = Draw(13);
     let few: Vec<i16> = (0..200 * 256).map(|_| draw.below(16) as i16).collect();
     let one = Sheet::of(1024, 16, |x, y| (x % 16 + y % 16) as i16 / 2);
     let mixed = Sheet::of(1024, 16, |x, y| few[(x / 16 * 7 + y / 16 * 13) % 200 * 256 + y % 16 * 16 + x % 16]);
-    for (name, sheet) in [("noise", noise(1024, 16)), ("200 tiles", mixed), ("one tile", one)] {
+    [("noise", noise(1024, 16)), ("200 tiles", mixed), ("one tile", one)]
+}
+
+/// Unique tiles and their map, at tolerance 0.
+fn tiles() {
+    use pixelforge::tiles::{extract, TileConfig};
+    for (name, sheet) in tile_sheets() {
         let (s, document) = (&sheet, sheet.document());
         for t in [8, 16] {
             let (mut out, mut map) = (vec![0i16; 1 << 20], vec![0u32; 3 * (1 << 20) / (t * t)]);

@@ -5,7 +5,7 @@
 //! Tiles, and the Rust's far strokes, are timed by one call; all else as in tools.rs. The answers are compared.
 
 use crate::calls::{call_check, call_draw, call_extract, call_mirror_tiles, PENCIL};
-use crate::{figures, lines, noise, same, stray, Draw, Sheet, WHOLE};
+use crate::{figures, lines, noise, same, stray, tile_sheets, Draw, Sheet, WHOLE};
 use pixelforge::editor::document::Document;
 use pixelforge::editor::op::PixelChange;
 use pixelforge::editor::tools;
@@ -118,6 +118,9 @@ fn hostile_tiles(t: usize, count: usize) -> Distinct {
 }
 
 fn tiles() {
+    for (name, sheet) in tile_sheets() {
+        mirror_row(&format!("mirror_tiles, 1024 × 1024, t = 16, {name}"), &sheet, 16);
+    }
     for (t, side) in [(4, 1024), (3, 1023)] {
         let count = (side / t) * (side / t);
         for (name, tiles) in [("any tiles", any_tiles(t, count)), ("hostile", hostile_tiles(t, count))] {
@@ -160,7 +163,7 @@ fn mirror_row(name: &str, s: &Sheet, t: usize) {
     document.origin.config.tile_size = t as i64;
     let (x, y) = (s.side / 2, s.side / 2);
     let old: i64 = s.indices[y * s.side + x].into();
-    let change = PixelChange { x, y, old, new: (old + 1) % ENTRIES as i64 };
+    let change = PixelChange { x, y, old, new: (old + 1) % s.k as i64 };
     let list = [crate::packed(&change)];
     let (mut scratch, mut out, mut r) = (vec![0u64; places], vec![0u64; places], [0usize; 5]);
     let (w, (scratch, to)) = (s.side, (&mut scratch, &mut out));
