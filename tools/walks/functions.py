@@ -54,7 +54,7 @@ def words(text):
 LISTS = words('''
 base specs Lists over
 base specs Answer filled
-struct_change specs Struct packedOf least
+struct_change specs Struct packedOf
 change_list specs Listed countOf InScratch
 change_list proofs InScratch copy-fits copied
 struct_change specs Scratch needing
@@ -189,19 +189,19 @@ def packing(list, count, flat, why):
                 asked='({1} ≤ length {0}) × ({1} ≤ length {2}-now)'.format(now, count, flat), why=why)
 
 
-def lesser(a, b, said, to):
-    return Call('Lesser', 'struct_change::lesser', '%s, %s' % (a, b), USIZE, said, to=to)
+def min_usize(a, b, said, to):
+    return Call('Lesser', 'base::min_usize', '%s, %s' % (a, b), USIZE, said, to=to)
 
 
 def fits(flat):
     return '''
-  fits : (m : ℕ) → m ≡ least (length list) (length {0}) → (m ≤ length list) × (m ≤ length {0})
-  fits m e = subst (λ (i : ℕ). (i ≤ length list) × (i ≤ length {0})) (sym e) (least-fits (length list) (length {0}))
+  fits : (m : ℕ) → m ≡ min (length list) (length {0}) → (m ≤ length list) × (m ≤ length {0})
+  fits m e = (omega arith, omega arith)
 '''.format(flat)
 
 
 OP = LISTS + words('''
-struct_change proofs Packing least-fits told
+struct_change proofs Packing told
 change_stroke specs Op normalizeCall made madeCount pixelsCall
 ''')
 
@@ -210,17 +210,17 @@ def normal(name, own, result, leaves, call):
     """`normalize` and `pixels`."""
     params = parameters(*own, '&[list], &mut [flat], &mut [scratch], &mut [out]')
     args = [p for p, _ in params[:-4]] + ['share flat', 'n', 'lend scratch', 'out.len()']
-    told = ('(told (λ i. %s (least i (length scratch))) (map packedOf list) flat %s %s (length list) r₁ e₃ (length-map'
+    told = ('(told (λ i. %s (min i (length scratch))) (map packedOf list) flat %s %s (length list) r₁ e₃ (length-map'
             ' list packedOf) e₁ l₂-flat e₂)' % (call, last(2, 2), last(3, len(args) - 2)))
     function(
         'struct_stroke::op::' + name, params, result,
-        '(%s r (map packedOf out′) ≡ %s (least (length flat) (length scratch)) (map packedOf list) (map packedOf out))'
+        '(%s r (map packedOf out′) ≡ %s (min (length flat) (length scratch)) (map packedOf list) (map packedOf out))'
         ' × (length flat′ ≡ length flat) × (length scratch′ ≡ length scratch)' % (leaves, call),
-        [Len('n', 'list'), lesser('n', 'flat.len()', 'r ≡ least n (length flat)', 'm'),
+        [Len('n', 'list'), min_usize('n', 'flat.len()', 'r ≡ min n (length flat)', 'm'),
          packing('list', 'm', 'flat', 'fits r₁ e₁'),
          Call('Core', 'struct_stroke::op::%s_packed' % name, ', '.join(args), result,
               '(l : List ℕ) → length l ≡ n → take n flat-now ≡ take (length flat-now) l → InScratch (%s r) (length out)'
-              ' scratch′ (%s r) (%s (least (length flat-now) (length scratch-now)) l)'
+              ' scratch′ (%s r) (%s (min (length flat-now) (length scratch-now)) l)'
               % (COUNTING[result.name][1], leaves, call), to='answer'),
          counting(result, 'count'), unpacking('count', 'out', 'copy-fits %s e₄' % told), Return('answer')],
         '%s, l₂-flat, l₃-scratch' % copied(told, '₄', '₅', 'out'), laws=fits('flat'), uses=OP,
@@ -239,9 +239,9 @@ function('struct_extend::strokes::extend',
          ' flat′ ≡ length flat) × (length more′ ≡ length more) × (length scratch′ ≡ length scratch)' % ROOM,
          [Len('n', 'list'),
           Call('Three', 'struct_extend::strokes::least_of', 'count, stroke.len(), flat.len()', USIZE,
-               'r ≡ least (least count (length stroke)) (length flat)', to='held'),
+               'r ≡ min (min count (length stroke)) (length flat)', to='held'),
           packing('stroke', 'held', 'flat', 'three-fit count (length stroke) (length flat) r₁ e₁'),
-          lesser('n', 'more.len()', 'r ≡ least n (length more)', 'm'), packing('list', 'm', 'more', 'fits r₃ e₃'),
+          min_usize('n', 'more.len()', 'r ≡ min n (length more)', 'm'), packing('list', 'm', 'more', 'fits r₃ e₃'),
           Call('Core', 'struct_extend::strokes::extend_packed', 'share flat, count, share more, n, stroke.len(), lend'
                ' scratch', COUNTED,
                '(stk l : List ℕ) → length stk ≡ length stroke → length l ≡ n → (count ≤ length stroke → count ≤ length'
@@ -261,20 +261,19 @@ function('struct_extend::strokes::extend',
       → ((stk l : List ℕ) → length stk ≡ length stroke → length l ≡ length list
       → (count ≤ length stroke → count ≤ length zs → take count zs ≡ take count stk) → (length list ≤ length ys → take (length list) ys ≡ l)
       → Left r ws stk l (roomFor (length zs) (length ys) (length scratch) count (length list)))
-      → h ≡ least (least count (length stroke)) (length flat) → length zs ≡ length flat → zs ≡ over (take h (map packedOf stroke)) flat
-      → m ≡ least (length list) (length more) → length ys ≡ length more → ys ≡ over (take m (map packedOf list)) more
+      → h ≡ min (min count (length stroke)) (length flat) → length zs ≡ length flat → zs ≡ over (take h (map packedOf stroke)) flat
+      → m ≡ min (length list) (length more) → length ys ≡ length more → ys ≡ over (take m (map packedOf list)) more
       → Left r ws (map packedOf stroke) (map packedOf list) {room}
   means r zs ys ws h m s e l d e′ l′ d′ =
       let k : length (map packedOf stroke) ≡ length stroke = length-map stroke packedOf in
       subst (λ (i : ℕ). Left r ws (map packedOf stroke) (map packedOf list) (roomFor (length flat) i (length scratch) count (length list))) l′
       (subst (λ (i : ℕ). Left r ws (map packedOf stroke) (map packedOf list) (roomFor i (length ys) (length scratch) count (length list))) l
       (s (map packedOf stroke) (map packedOf list) k (length-map list packedOf)
-      (λ x y. stroke-front (map packedOf stroke) flat zs count h (subst (λ (i : ℕ). h ≡ least (least count i) (length flat)) (sym k) e) l d
+      (λ x y. stroke-front (map packedOf stroke) flat zs count h (subst (λ (i : ℕ). h ≡ min (min count i) (length flat)) (sym k) e) l d
       (subst (λ (i : ℕ). count ≤ i) (sym k) x) y)
       (λ x. list-front (map packedOf list) more ys (length list) m (length-map list packedOf) e′ l′ d′ x)))
 '''.format(room=ROOM),
          uses=LISTS + words('''
-struct_change proofs Packing least-fits
 change_stroke specs Stroke extendCall
 struct_extend specs Places roomFor extendOver
 struct_extend proofs Joined over-own stroke-front list-front three-fit
@@ -299,7 +298,7 @@ function('struct_mirror::mirror_tiles', parameters(SHEET, 'area, on, t, &[list],
                'r ≡ some-of (outside w h) (map unpacked (take read (map packedOf list)))', to='off',
                asked='read ≤ length list',
                why='read-fits ' + JUDGED),
-          lesser('read', 'places', 'r ≡ least read places', 'm'), packing('list', 'm', 'flat', 'pack-fits %s flat r₄ e₄'
+          min_usize('read', 'places', 'r ≡ min read places', 'm'), packing('list', 'm', 'flat', 'pack-fits %s flat r₄ e₄'
               % JUDGED),
           Call('Core', 'struct_mirror::packed::mirror_packed',
                'w, h, k, palette, lab, indices, area, on, t, off, share flat, n, lend scratch, room', COUNTED,
@@ -334,7 +333,7 @@ function('struct_mirror::mirror_tiles', parameters(SHEET, 'area, on, t, &[list],
   means : (touched : Bool) (read : ℕ) (off : Bool) (m : ℕ) (r : Counted) (zs ws : List ℕ)
       → touched ≡ touching on (length list) t w h → read ≡ readOf touched (length list)
       → off ≡ some-of (outside w h) (map unpacked (take read (map packedOf list)))
-      → m ≡ least read (length flat) → length zs ≡ length flat → zs ≡ over (take m (map packedOf list)) flat
+      → m ≡ min read (length flat) → length zs ≡ length flat → zs ≡ over (take m (map packedOf list)) flat
       → ((l : List ℕ) → length l ≡ length list → off ≡ straying {0} w h l
       → (touching on (length list) t w h ≡ true → length list ≤ length zs → take (length list) zs ≡ l)
       → Laid (madeOf {0} r) (keptOf {0} r) (length out) ws l (filled r) (mirrorLent {1} area on t l (length zs) (length scratch)))
@@ -349,7 +348,7 @@ function('struct_mirror::mirror_tiles', parameters(SHEET, 'area, on, t, &[list],
 '''.format(TOUCHING, S),
          uses=words('''
 base specs Answer filled
-struct_change specs Struct packedOf least
+struct_change specs Struct packedOf
 sheet specs Sheet sheetOf
 base specs Lists over some_as_some-of
 edit specs Change outside unpacked

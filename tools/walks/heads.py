@@ -5,8 +5,9 @@ import re
 LIBRARY = '''
 mathlib.Core.Path _≡_ refl sym ap subst _∙_
 mathlib.Core.Bool Bool true false
-Prim.Native.Nat ℕ _<_ _≤_ _^_ _*_
+Prim.Native.Nat ℕ _<_ _≤_ _^_ _*_ min
 mathlib.Core.List [] _∷_ List map
+native.Mathlib.Omega arith
 lib.IntN ℤ
 lib.Dec T
 lib.ListN length take length-map

@@ -2,11 +2,11 @@
 use base::Edit;
 use base::Rgb;
 use base::lab_at;
+use base::put_lab;
 use base::rgb_at;
 use color::rgb8_to_lab;
 use edit_entries::close_lab_gap;
 use edit_entries::close_palette_gap;
-use edit_entries::store_lab;
 use edit_entries::store_rgb;
 use edit_pixels::paint_news;
 use edit_renumber::lower_above;
@@ -74,7 +74,7 @@ pub fn store_entry(palette: &mut [u8], lab: &mut [f64], i: usize, c: Rgb)
     ensures { λ _. ⌜ now (lab .exit) ≡ stored (3 * i) (numbersOf (labOf c)) (now (lab .entry)) ⌝ }
 {
     store_rgb(palette, i, c);
-    store_lab(lab, i, rgb8_to_lab(c));
+    put_lab(lab, i, rgb8_to_lab(c));
 }
 
 // Paints the remap, lowers every index above the entry by one, and takes the entry out of k.

@@ -1,13 +1,16 @@
 -- Entries stored, taken out and put back, where a callee did its part on `&mut l[at..]`. Assumes nothing.
 use mathlib.Core.Path.{_≡_, sym, ap, _∙_}
 use mathlib.Core.List.{List, [], _∷_, _++_, append-assoc, append-nil}
-use Prim.Native.Nat.{ℕ, _+_, _-_, _≤_}
+use Prim.Native.Nat.{ℕ, _+_, _*_, _-_, _≤_}
 use native.Mathlib.Omega.{arith}
 use native.Mathlib.Numerals.{add-one, add-two}
 use borrow.Rule.Slice.PartMut.{putMid}
+use lib.Ieee.{Float}
 use lib.ListN.{length, take, drop, set, length-drop, length-take, drop-of-length-le}
 use lib.Seq.{drop-drop, take-all, take-at, drop-at, drop-append-add, length-take-le, sets-eq}
-use Rattle.edit.specs.Storage.{stored, closed, reinserted}
+use Rattle.base.specs.declared.Lab.{Lab}
+use Rattle.base.specs.Triples.{withLab}
+use Rattle.edit.specs.Storage.{numbersOf, stored, closed, reinserted}
 use Rattle.edit_entries.proofs.Gaps.{drop-take}
 
 module _ {A : Type 0} where
@@ -51,3 +54,8 @@ module _ {A : Type 0} where
 
     pub three : at + 3 ≤ length l → length (take 3 (drop at l)) ≡ 3
     three k = simp (length-take, length-drop) (omega arith)
+
+-- the LAB of an entry, written
+pub lab-stored : (lab : List Float) (i : ℕ) (x : Lab) → 3 * i + 3 ≤ length lab → withLab lab i x ≡ stored (3 * i) (numbersOf x) lab
+unfolding withLab
+lab-stored lab i x h = stored-is lab (3 * i) (x .l) (x .a) (x .b) h

@@ -11,5 +11,4 @@ pub use storage::close_lab_gap;
 pub use storage::close_palette_gap;
 pub use storage::open_lab_gap;
 pub use storage::open_palette_gap;
-pub use storage::store_lab;
 pub use storage::store_rgb;

@@ -3,6 +3,7 @@
 // A shift works on the part from the entry on, so that it is compiled to one move of memory.
 use base::Lab;
 use base::Rgb;
+use base::put_lab;
 ghost use mathlib.Core.Path.{_≡_};
 ghost use Prim.Native.Nat.{_+_, _*_, _<_, _≤_};
 ghost use lib.ListN.{length, take};
@@ -92,17 +93,6 @@ fn numbers_up(p: &mut [f64], n: usize)
     }
 }
 
-// Gives entry i its LAB.
-pub fn store_lab(lab: &mut [f64], i: usize, v: Lab)
-    requires { ⌜ 3 * i + 3 ≤ length (now lab) ⌝ }
-    ensures { λ _. ⌜ now (lab .exit) ≡ stored (3 * i) (numbersOf v) (now (lab .entry)) ⌝ }
-{
-    let at = 3 * i;
-    lab[at] = v.l;
-    lab[at + 1] = v.a;
-    lab[at + 2] = v.b;
-}
-
 // Takes the LAB of entry i of k out. The last entry's old numbers stay.
 pub fn close_lab_gap(lab: &mut [f64], i: usize, k: usize)
     requires { ⌜ (i < k) × (3 * k ≤ length (now lab)) ⌝ }
@@ -119,5 +109,5 @@ pub fn open_lab_gap(lab: &mut [f64], i: usize, k: usize, v: Lab)
 {
     let at = 3 * i;
     numbers_up(&mut lab[at..], 3 * k - at);
-    store_lab(lab, i, v);
+    put_lab(lab, i, v);
 }

@@ -1,9 +1,9 @@
 // Undo of the record that lies in the journal, kind by kind: whether it is taken, and the sheet reverted.
 // The journal is only read, and nothing is copied out of it.
 use base::MAX_ENTRIES;
+use base::put_lab;
 use edit_entries::open_lab_gap;
 use edit_entries::open_palette_gap;
-use edit_entries::store_lab;
 use edit_entries::store_rgb;
 use edit_renumber::raise_from;
 use journal_olds::olds_stray;
@@ -178,7 +178,7 @@ fn undo_set(palette: &mut [u8], lab: &mut [f64], journal: &[u8], start: usize)
 {
     let index = entry_at(journal, start);
     store_rgb(palette, index, get_rgb(journal, start + 2));
-    store_lab(lab, index, lab_in(journal, start + 8));
+    put_lab(lab, index, lab_in(journal, start + 8));
 }
 
 // Puts an entry back in front of the later of k, as the record at `start` has it: raises the indices from

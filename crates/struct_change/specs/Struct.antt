@@ -1,7 +1,5 @@
 -- A change struct, and the change that it is. Definitions only. Assumes nothing.
 use Prim.Native.Nat.{ℕ}
-use mathlib.Core.Bool.{cond}
-use lib.Dec.{ltb}
 use Rattle.base.specs.declared.Change.{Change}
 use Rattle.edit.specs.Change as flat
 
@@ -15,7 +13,3 @@ packedOf c = flat.packed (changeOf c)
 
 abbrev pub structOf : ℕ → Change
 structOf n = record { x = flat.unpacked n .x; y = flat.unpacked n .y; old = flat.unpacked n .old; new = flat.unpacked n .new }
-
--- the lesser of two numbers
-unfoldable pub least : ℕ → ℕ → ℕ
-least a b = cond (ltb a b) a b

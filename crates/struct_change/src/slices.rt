@@ -11,17 +11,7 @@ ghost use Prim.Native.Nat.{_≤_};
 ghost use lib.ListN.{length, take};
 ghost use Rattle.base.specs.Lists.{over, some};
 ghost use Rattle.edit.specs.Change as flat;
-ghost use Rattle.struct_change.specs.Struct.{packedOf, least};
-
-// The lesser of two numbers.
-pub fn lesser(a: usize, b: usize) -> usize
-    ensures { λ r. ⌜ r ≡ least a b ⌝ }
-{
-    if a < b {
-        return a;
-    }
-    b
-}
+ghost use Rattle.struct_change.specs.Struct.{packedOf};
 
 // The first n changes of a list, packed, over the front of flat, which keeps its bits past them.
 pub fn pack(list: &[Change], n: usize, flat: &mut [u64])

@@ -1,5 +1,5 @@
 -- A stroke and a list packed into buffers of numbers, and what `extend` answers of them. Assumes nothing.
-use Prim.Native.Nat.{ℕ, _+_, _≤_, _<_, _^_}
+use Prim.Native.Nat.{ℕ, _+_, _≤_, _<_, _^_, min}
 use mathlib.Core.Path.{_≡_, refl, ap, _∙_}
 use mathlib.Core.List.{List, _++_, map, map-append}
 use native.Mathlib.Omega.{arith}
@@ -17,11 +17,10 @@ use Rattle.change_list.specs.Listed.{handed, InScratch}
 use Rattle.change_list.proofs.Handing.{listed-refused, listed-done}
 use Rattle.change_list.proofs.InScratch.{scratch-none, scratch-then}
 use Rattle.change_normal.specs.Normal.{normalPacked}
-use Rattle.struct_change.specs.Struct.{least}
 use Rattle.change_stroke.specs.Stroke.{extended, extendChecks, extendCall}
 use Rattle.change_stroke.proofs.Extending.{extend-fine}
 use Rattle.struct_extend.specs.Places.{roomFor, extendOver}
-use Rattle.struct_change.proofs.Packing.{least-fits, packed-front}
+use Rattle.struct_change.proofs.Packing.{packed-front}
 
 module _ (flat more room count n : ℕ) where
   pub room-flat : flat < count → 0 ≡ roomFor flat more room count n
@@ -91,23 +90,17 @@ unfolding extendOver extendCall
 over-own room count list stroke = refl
 
 -- ---- the lists in the buffers
-pub stroke-front : (stroke flat zs : List ℕ) (count m : ℕ) → m ≡ least (least count (length stroke)) (length flat) → length zs ≡ length flat → zs ≡ over (take m stroke) flat
+pub stroke-front : (stroke flat zs : List ℕ) (count m : ℕ) → m ≡ min (min count (length stroke)) (length flat) → length zs ≡ length flat → zs ≡ over (take m stroke) flat
     → count ≤ length stroke → count ≤ length zs → take count zs ≡ take count stroke
-unfolding over least
+unfolding over
 stroke-front stroke flat zs count m q l d h k =
-    let i : m ≡ count = q ∙ three in
+    let i : m ≡ count = omega arith in
     let t : length (take count stroke) ≡ count = length-take-le count stroke h in
     let is : zs ≡ take count stroke ++ drop (length (take count stroke)) flat = rw i at d in
     ap (take count) is ∙ take-append-le count (take count stroke) _ (omega arith) ∙ take-all count (take count stroke) (omega arith)
-  where
-    two : least count (length stroke) ≡ count
-    two = elim (decLt count (length stroke)) [ yes b ↦ rw (lt-ltb count (length stroke) b) | no b ↦ rw (le-ltb count (length stroke) (omega arith)) (let w : length stroke ≡ count = omega arith in w) ]
 
-    three : least (least count (length stroke)) (length flat) ≡ count
-    three = rw two (elim (decLt count (length flat)) [ yes b ↦ rw (lt-ltb count (length flat) b) | no b ↦ rw (le-ltb count (length flat) (omega arith)) (let w : length flat ≡ count = omega arith in w) ])
-
-pub list-front : (list more zs : List ℕ) (n m : ℕ) → length list ≡ n → m ≡ least n (length more) → length zs ≡ length more → zs ≡ over (take m list) more → n ≤ length zs → take n zs ≡ list
+pub list-front : (list more zs : List ℕ) (n m : ℕ) → length list ≡ n → m ≡ min n (length more) → length zs ≡ length more → zs ≡ over (take m list) more → n ≤ length zs → take n zs ≡ list
 list-front list more zs n m e q l d h = packed-front list more zs n m e q l d ∙ take-all (length zs) list (omega arith)
 
-pub three-fit : (a b c m : ℕ) → m ≡ least (least a b) c → (m ≤ b) × (m ≤ c)
-three-fit a b c m e = let f = least-fits (least a b) c in let g = least-fits a b in (omega (arith, e, f .0, g .1), omega (arith, e, f .1))
+pub three-fit : (a b c m : ℕ) → m ≡ min (min a b) c → (m ≤ b) × (m ≤ c)
+three-fit a b c m e = (omega arith, omega arith)

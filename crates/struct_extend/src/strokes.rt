@@ -2,20 +2,20 @@
 // another, and the structs are filled from there.
 use base::Change;
 use base::Counted;
+use base::min_usize;
 use change_list::count_of;
 use change_list::counted;
 use change_normal::normalize_joined;
 use change_stroke::extend_no;
-use struct_change::lesser;
 use struct_change::pack;
 use struct_change::unpack;
 ghost use mathlib.Core.Path.{_≡_};
 ghost use mathlib.Core.List.{List, map};
-ghost use Prim.Native.Nat.{ℕ, _≤_};
+ghost use Prim.Native.Nat.{ℕ, _≤_, min};
 ghost use lib.ListN.{length, take};
 ghost use Rattle.base.specs.Answer.{filled};
 ghost use Rattle.change_list.specs.Listed.{countOf, InScratch};
-ghost use Rattle.struct_change.specs.Struct.{packedOf, least};
+ghost use Rattle.struct_change.specs.Struct.{packedOf};
 ghost use Rattle.change_stroke.specs.Stroke.{extendCall};
 ghost use Rattle.struct_extend.specs.Places.{roomFor, extendOver};
 
@@ -34,9 +34,9 @@ fn room_for(flat: usize, more: usize, room: usize, count: usize, n: usize) -> us
 
 // The least of three numbers.
 fn least_of(a: usize, b: usize, c: usize) -> usize
-    ensures { λ r. ⌜ r ≡ least (least a b) c ⌝ }
+    ensures { λ r. ⌜ r ≡ min (min a b) c ⌝ }
 {
-    lesser(lesser(a, b), c)
+    min_usize(min_usize(a, b), c)
 }
 
 // The extended stroke, left in the scratch, where flat has the stroke's first `count` changes and more the n of the
@@ -89,7 +89,7 @@ pub fn extend(
     let n = list.len();
     let held = least_of(count, stroke.len(), flat.len());
     pack(stroke, held, flat);
-    let m = lesser(n, more.len());
+    let m = min_usize(n, more.len());
     pack(list, m, more);
     let r = extend_packed(flat, count, more, n, stroke.len(), scratch);
     let total = count_of(r);

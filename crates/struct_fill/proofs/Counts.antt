@@ -2,7 +2,7 @@
 use mathlib.Core.Path.{_≡_, refl, sym, ap, _∙_}
 use mathlib.Core.Bool.{Bool, true, false, not, cond, _&&_}
 use mathlib.Core.List.{List, [], _∷_, _++_, map}
-use Prim.Native.Nat.{ℕ, _+_, _*_, _<_, _≤_}
+use Prim.Native.Nat.{ℕ, _+_, _*_, _<_, _≤_, min}
 use native.Mathlib.Omega.{arith}
 use native.Mathlib.Nat.{mul-comm, mul-le-mul-right}
 use borrow.Author.Tests.{lt-ltb, le-ltb, leb-true}
@@ -31,7 +31,6 @@ use Rattle.sheet.proofs.Judging.{none-applied}
 use Rattle.edit.specs.Change.{Change, packed}
 use Rattle.change_list.specs.Listed.{InScratch}
 use Rattle.change_list.proofs.InScratch.{scratch-none, scratch-then}
-use Rattle.struct_change.specs.Struct.{least}
 use Rattle.tool_replace.specs.Fills.{hasIndex, replacing, replaced, fromPixel, global, listed, replaceColorOf, fillGlobalOf}
 use Rattle.struct_change.specs.Scratch.{noRoom, needing}
 use Rattle.struct_palette.proofs.Listing.{Lists, listed-in, none-same}
@@ -87,7 +86,7 @@ module _ (checks : List Check) (cs : List Change) {call : List ℕ → Filled �
       (scratch-none (λ out k. rw (lt-ltb room pixels h, is)
       (ap (λ (a : Told ℕ). leaving a out) (none-same leaving (λ f. f .answer) (λ f. f .buffer) (λ r f. refl) (λ r f. refl) countTold alone (λ k. refl) (listing checks cs) noRoom none-refused (none-done (length cs)) (rw is at d) out))))
 
-  pub in-scratch : {r : Told ℕ} {f : List ℕ} (s : List ℕ) (m places : ℕ) → pixels ≤ room → room ≡ length s → m ≡ least places (length s) → (firstOf checks ≡ 0 → length cs ≤ pixels) → leaving r f ≡ call (take m s)
+  pub in-scratch : {r : Told ℕ} {f : List ℕ} (s : List ℕ) (m places : ℕ) → pixels ≤ room → room ≡ length s → m ≡ min places (length s) → (firstOf checks ≡ 0 → length cs ≤ pixels) → leaving r f ≡ call (take m s)
       → InScratch (countTold r) places (f ++ drop m s) (leaving r) (needing room pixels call)
   unfolding needing
   in-scratch {r} {f} s m places h k q b d =

@@ -2,9 +2,9 @@
 use base::Change;
 use base::Counted;
 use base::NO_SPACE;
+use base::min_usize;
 use change_list::count_of;
 use selection::Area;
-use struct_change::lesser;
 use struct_change::unpack;
 ghost use mathlib.Core.Path.{_≡_};
 ghost use mathlib.Core.List.{map};
@@ -61,7 +61,7 @@ fn replace_color_in(
         );
         return no_room(r);
     }
-    let m = lesser(room, scratch.len());
+    let m = min_usize(room, scratch.len());
     tool_replace::replace_color(
         w,
         h,
@@ -152,7 +152,7 @@ fn fill_global_in(
         );
         return no_room(r);
     }
-    let m = lesser(room, scratch.len());
+    let m = min_usize(room, scratch.len());
     tool_replace::fill_global(
         w,
         h,

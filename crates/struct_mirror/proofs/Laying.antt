@@ -1,5 +1,5 @@
 -- What the call on a packed list leaves: where it is refused, where the list is handed back, and where its copies stand in the scratch. Assumes nothing.
-use Prim.Native.Nat.{ℕ, _≤_, _<_}
+use Prim.Native.Nat.{ℕ, _≤_, _<_, min}
 use mathlib.Core.Path.{_≡_, refl, sym, ap, _∙_}
 use mathlib.Core.Bool.{Bool, true, false, cond}
 use mathlib.Core.List.{List, [], _∷_, map}
@@ -26,9 +26,8 @@ use Rattle.edit.specs.Change.{outside, packed, unpacked}
 use Rattle.change_list.specs.Fronts.{Front}
 use Rattle.change_list.specs.Listed.{handed, InScratch}
 use Rattle.change_list.proofs.InScratch.{scratch-then}
-use Rattle.struct_change.specs.Struct.{least}
 use Rattle.struct_change.specs.Scratch.{noRoom, needing}
-use Rattle.struct_change.proofs.Packing.{least-fits, packed-front}
+use Rattle.struct_change.proofs.Packing.{packed-front}
 use Rattle.tile_copies.specs.Mirror.{mirrored, Mirrorable}
 use Rattle.tile_mirror_checks.specs.declared.Stage.the-variants as stage
 use Rattle.tile_mirror_checks.specs.Calls.{touching, straying, stageOf, mirrorList, mirrorCall}
@@ -159,15 +158,15 @@ module _ (w h t : ℕ) (on : Bool) (n : ℕ) (touched : Bool) (read : ℕ) (is :
       some-or-none true = omega arith
       some-or-none false = omega arith
 
-  pub pack-fits : (flat : List ℕ) (m : ℕ) → m ≡ least read (length flat) → (m ≤ n) × (m ≤ length flat)
-  pack-fits flat m q = let a = least-fits read (length flat) in let b = read-fits in (omega (arith, q, a .0, b), omega (arith, q, a .1))
+  pub pack-fits : (flat : List ℕ) (m : ℕ) → m ≡ min read (length flat) → (m ≤ n) × (m ≤ length flat)
+  pack-fits flat m q = let b = read-fits in (omega arith, omega arith)
 
   read-all : touching on n t w h ≡ true → read ≡ n
   read-all y = reads ∙ ap (λ (b : Bool). readOf b n) (is ∙ y)
 
   module _ (list : List ℕ) (e : length list ≡ n) where
-    pub read-front : (flat zs : List ℕ) (m : ℕ) → m ≡ least read (length flat) → length zs ≡ length flat → zs ≡ over (take m list) flat → touching on n t w h ≡ true → n ≤ length zs → take n zs ≡ list
-    read-front flat zs m q l d y enough = packed-front list flat zs n m e (q ∙ ap (λ (k : ℕ). least k (length flat)) (read-all y)) l d ∙ take-all (length zs) list (omega arith)
+    pub read-front : (flat zs : List ℕ) (m : ℕ) → m ≡ min read (length flat) → length zs ≡ length flat → zs ≡ over (take m list) flat → touching on n t w h ≡ true → n ≤ length zs → take n zs ≡ list
+    read-front flat zs m q l d y enough = packed-front list flat zs n m e (q ∙ ap (λ (k : ℕ). min k (length flat)) (read-all y)) l d ∙ take-all (length zs) list (omega arith)
 
     module _ (off : Bool) (j : off ≡ some (outside w h) (map unpacked (take read list))) where
       pub read-off : off ≡ straying (touching on n t w h) w h list
@@ -178,7 +177,7 @@ module _ (w h t : ℕ) (on : Bool) (n : ℕ) (touched : Bool) (read : ℕ) (is :
           either true y = j ∙ ap (λ (l : List ℕ). some (outside w h) (map unpacked l)) (ap (λ (k : ℕ). take k list) (read-all y) ∙ take-all n list (omega arith))
           either false y = j ∙ ap (λ (k : ℕ). some (outside w h) (map unpacked (take k list))) (reads ∙ ap (λ (b : Bool). readOf b n) (is ∙ y))
 
-      pub read-judged : (flat zs : List ℕ) (m : ℕ) → m ≡ least read (length flat) → length zs ≡ length flat → zs ≡ over (take m list) flat → touching on n t w h ≡ true → n ≤ length zs → off ≡ some (outside w h) (map unpacked (take n zs))
+      pub read-judged : (flat zs : List ℕ) (m : ℕ) → m ≡ min read (length flat) → length zs ≡ length flat → zs ≡ over (take m list) flat → touching on n t w h ≡ true → n ≤ length zs → off ≡ some (outside w h) (map unpacked (take n zs))
       read-judged flat zs m q l d y enough =
           j ∙ ap (λ (m′ : List ℕ). some (outside w h) (map unpacked m′)) (ap (λ (k : ℕ). take k list) (read-all y) ∙ take-all n list (omega arith) ∙ sym (read-front flat zs m q l d y enough))
 

@@ -7,6 +7,7 @@ mod packed;
 
 use base::Change;
 use base::Counted;
+use base::min_usize;
 use packed::kept_of;
 use packed::made_of;
 use packed::mirror_packed;
@@ -14,7 +15,6 @@ use packed::read_of;
 use selection::Area;
 use struct_change::any_outside;
 use struct_change::copy_front;
-use struct_change::lesser;
 use struct_change::pack;
 use struct_change::unpack;
 use tile_mirror_checks::is_touching;
@@ -59,7 +59,7 @@ pub fn mirror_tiles(
     let touched = is_touching(on, n, t, w, h);
     let read = read_of(touched, n);
     let off = any_outside(w, h, list, read);
-    let m = lesser(read, places);
+    let m = min_usize(read, places);
     pack(list, m, flat);
     let r = mirror_packed(
         w,

@@ -1,7 +1,7 @@
 -- A call that lists its changes over the front of a buffer, called with the front of the scratch for the buffer. Assumes nothing.
 use mathlib.Core.Path.{_≡_, refl, sym, ap, _∙_}
 use mathlib.Core.List.{List, _++_, append-assoc}
-use Prim.Native.Nat.{ℕ, _<_, _≤_}
+use Prim.Native.Nat.{ℕ, _<_, _≤_, min}
 use native.Mathlib.Omega.{arith}
 use native.Mathlib.Decide.{ℕ-discrete, decLt}
 use lib.ListN.{length, take, drop, length-append}
@@ -10,8 +10,6 @@ use Rattle.base.specs.Lists.{over}
 use Rattle.base.proofs.Over.{length-over}
 use Rattle.change_list.specs.Listed.{InScratch}
 use Rattle.change_list.proofs.InScratch.{scratch-none}
-use Rattle.struct_change.specs.Struct.{least}
-use Rattle.struct_change.proofs.Packing.{is-first, is-second, least-fits}
 
 -- the front of what a callee wrote over the front of a buffer
 front-is : (ns t : List ℕ) (l : List ℕ) → take (length ns) (over ns l ++ t) ≡ ns
@@ -31,9 +29,9 @@ module _ {B Ans : Type 0} (leaves : Ans → List ℕ → B) (ans : B → Ans) (b
     answers : {r : Ans} {f g : List ℕ} {r′ : Ans} {f′ : List ℕ} → leaves r f ≡ call g → leaves r′ f′ ≡ call g → r ≡ r′
     answers {r} {f} {g} {r′} {f′} d e = sym (ans-is r f) ∙ ap ans (d ∙ sym e) ∙ ans-is r′ f′
 
-    pub listed-in : (s f : List ℕ) (r : Ans) (m room : ℕ) → m ≡ least room (length s) → (n ≡ 0 → length ns ≤ length s) → leaves r f ≡ call (take m s) → InScratch (count r) room (f ++ drop m s) (leaves r) call
+    pub listed-in : (s f : List ℕ) (r : Ans) (m room : ℕ) → m ≡ min room (length s) → (n ≡ 0 → length ns ≤ length s) → leaves r f ≡ call (take m s) → InScratch (count r) room (f ++ drop m s) (leaves r) call
     listed-in s f r m room q h d =
-        let within : m ≤ length s = (let k = least-fits room (length s) .1 in omega arith) in
+        let within : m ≤ length s = omega arith in
         let size : length (take m s) ≡ m = length-take-le m s within in
         elim (ℕ-discrete n 0) [
           | no z ↦ rw (answers d (c .refuses z (take m s)), count-none n) (scratch-none (λ out k. c .refuses z out))
@@ -48,18 +46,15 @@ module _ {B Ans : Type 0} (leaves : Ans → List ℕ → B) (ans : B → Ans) (b
                 let long : length (over ns (take m s)) ≡ m = length-over ns (take m s) (omega arith) ∙ size in
                 rw (e, c .counts, w)
                 (record {
-                  fits = omega (arith, at-most);
+                  fits = omega arith;
                   held = omega (arith, length-append (over ns (take m s)) (drop m s));
-                  value = λ out j. ap (λ (l : List ℕ). leaves done (over l out)) (front-is ns (drop m s) (take m s)) ∙ c .lists z out (omega (arith, at-most));
+                  value = λ out j. ap (λ (l : List ℕ). leaves done (over l out)) (front-is ns (drop m s) (take m s)) ∙ c .lists z out (omega arith);
                 })
           ]
         ]
       where
-        at-most : m ≤ room
-        at-most = elim (decLt room (length s)) [ yes k ↦ let e = is-first room (length s) k in omega arith | no k ↦ let e = is-second room (length s) (omega arith) in omega arith ]
-
         few : n ≡ 0 → m < length ns → (out : List ℕ) → length out ≡ room → length out < length ns
-        few z k out j = elim (decLt room (length s)) [ yes l ↦ let e = is-first room (length s) l in omega arith | no l ↦ let e = is-second room (length s) (omega arith) in let b = h z in omega arith ]
+        few z k out j = let b = h z in omega arith
 
     -- with too little scratch: 16, where nothing else refuses the call
     module _ (none : Ans → Ans) (none-refused : (k : ℕ) → none (refused k) ≡ refused k) (none-done : none done ≡ refused 16) where

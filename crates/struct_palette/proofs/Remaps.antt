@@ -1,7 +1,7 @@
 -- `remove_entry` and `merge_entries` with scratch: what they list, that it is no more than the sheet has pixels, and what they answer. Assumes nothing.
 use mathlib.Core.Path.{_≡_, refl, sym, ap, _∙_}
 use mathlib.Core.List.{List, _++_, map}
-use Prim.Native.Nat.{ℕ, _<_, _≤_}
+use Prim.Native.Nat.{ℕ, _<_, _≤_, min}
 use native.Mathlib.Omega.{arith}
 use borrow.Author.Tests.{lt-ltb, le-ltb}
 use lib.IntN.{ℤ, pos}
@@ -14,7 +14,6 @@ use Rattle.base.specs.declared.Edit.the-variants.{PaletteRemove}
 use Rattle.edit.specs.Change.{packed}
 use Rattle.change_list.specs.Listed.{InScratch}
 use Rattle.change_list.proofs.InScratch.{scratch-none, scratch-then}
-use Rattle.struct_change.specs.Struct.{least}
 use Rattle.edit_pixels.specs.Listing.{placesFrom}
 use Rattle.edit_pixels.proofs.Places.{places-few}
 use Rattle.base.specs.Answer.{Told, Op, op, opCount}
@@ -70,7 +69,7 @@ module _ (checks : List Check) (w : ℕ) (palette : List ℕ) (l : List ℤ) (i 
         (scratch-none (λ out k. rw (lt-ltb room (length l) h, is)
         (ap (λ (a : Told Op). remapping a out) (none-same remapping (λ f. f .answer) (λ f. f .list) (λ r f. refl) (λ r f. refl) opCount alone (λ k. refl) listing noRemoval none-refused none-made (rw is at d) out))))
 
-    pub remap-in : {r : Told Op} {f : List ℕ} (s : List ℕ) (m places : ℕ) → length l ≤ room → room ≡ length s → m ≡ least places (length s) → remapping r f ≡ call (take m s)
+    pub remap-in : {r : Told Op} {f : List ℕ} (s : List ℕ) (m places : ℕ) → length l ≤ room → room ≡ length s → m ≡ min places (length s) → remapping r f ≡ call (take m s)
         → InScratch (opCount r) places (f ++ drop m s) (remapping r) (needingRemap room (length l) call)
     unfolding needingRemap
     remap-in {r} {f} s m places h k q d =

@@ -2,7 +2,7 @@
 use base::Change;
 use base::NO_SPACE;
 use base::Removal;
-use struct_change::lesser;
+use base::min_usize;
 use struct_change::unpack;
 ghost use mathlib.Core.Path.{_≡_};
 ghost use mathlib.Core.List.{map};
@@ -65,7 +65,7 @@ fn remove_entry_in(
         );
         return no_removal(r);
     }
-    let m = lesser(room, scratch.len());
+    let m = min_usize(room, scratch.len());
     palette_remove::remove_entry(w, h, k, palette, lab, indices, index, &mut scratch[..m])
 }
 
@@ -127,7 +127,7 @@ fn merge_entries_in(
         );
         return no_removal(r);
     }
-    let m = lesser(room, scratch.len());
+    let m = min_usize(room, scratch.len());
     palette_remove::merge_entries(
         w,
         h,

@@ -6,20 +6,20 @@ use base::LIST_TOO_LONG;
 use base::MAX_CHANGES;
 use base::MadeOp;
 use base::NO_SPACE;
+use base::min_usize;
 use change_list::count_of;
 use change_stroke::made_count;
 use change_stroke::normalize_in;
 use change_stroke::pixels_of;
-use struct_change::lesser;
 use struct_change::pack;
 use struct_change::unpack;
 ghost use mathlib.Core.Path.{_≡_};
 ghost use mathlib.Core.List.{List, map};
-ghost use Prim.Native.Nat.{ℕ};
+ghost use Prim.Native.Nat.{ℕ, min};
 ghost use lib.ListN.{length, take};
 ghost use Rattle.base.specs.Answer.{filled};
 ghost use Rattle.change_list.specs.Listed.{countOf, InScratch};
-ghost use Rattle.struct_change.specs.Struct.{packedOf, least};
+ghost use Rattle.struct_change.specs.Struct.{packedOf};
 ghost use Rattle.change_stroke.specs.Op.{normalizeCall, made, madeCount, pixelsCall};
 
 // The normal form of n changes, left in the scratch, where flat has their numbers as far as it has places; 16 where
@@ -28,7 +28,7 @@ fn normalize_packed(flat: &[u64], n: usize, scratch: &mut [u64], room: usize) ->
     ensures { λ r. ⌜
         ((list : List ℕ) → length list ≡ n → take n (now (flat .entry)) ≡ take (length (now (flat .entry))) list
         → InScratch (countOf r) room (now (scratch .exit)) (filled r)
-        (normalizeCall (least (length (now (flat .entry))) (length (now (scratch .entry)))) list))
+        (normalizeCall (min (length (now (flat .entry))) (length (now (scratch .entry)))) list))
         ⌝ }
 {
     if MAX_CHANGES < n {
@@ -45,7 +45,7 @@ fn pixels_packed(tool: u8, flat: &[u64], n: usize, scratch: &mut [u64], room: us
     ensures { λ r. ⌜
         ((list : List ℕ) → length list ≡ n → take n (now (flat .entry)) ≡ take (length (now (flat .entry))) list
         → InScratch (madeCount r) room (now (scratch .exit)) (made r)
-        (pixelsCall tool (least (length (now (flat .entry))) (length (now (scratch .entry)))) list))
+        (pixelsCall tool (min (length (now (flat .entry))) (length (now (scratch .entry)))) list))
         ⌝ }
 {
     pixels_of(tool, normalize_packed(flat, n, scratch, room))
@@ -60,14 +60,14 @@ pub fn normalize(
 ) -> Counted
     ensures { λ r. ⌜
         (filled r (map packedOf (now (out .exit)))
-        ≡ normalizeCall (least (length (now (flat .entry))) (length (now (scratch .entry))))
+        ≡ normalizeCall (min (length (now (flat .entry))) (length (now (scratch .entry))))
         (map packedOf (now (list .entry))) (map packedOf (now (out .entry))))
         × (length (now (flat .exit)) ≡ length (now (flat .entry)))
         × (length (now (scratch .exit)) ≡ length (now (scratch .entry)))
         ⌝ }
 {
     let n = list.len();
-    let m = lesser(n, flat.len());
+    let m = min_usize(n, flat.len());
     pack(list, m, flat);
     let r = normalize_packed(flat, n, scratch, out.len());
     let count = count_of(r);
@@ -85,14 +85,14 @@ pub fn pixels(
 ) -> MadeOp
     ensures { λ r. ⌜
         (made r (map packedOf (now (out .exit)))
-        ≡ pixelsCall tool (least (length (now (flat .entry))) (length (now (scratch .entry))))
+        ≡ pixelsCall tool (min (length (now (flat .entry))) (length (now (scratch .entry))))
         (map packedOf (now (list .entry))) (map packedOf (now (out .entry))))
         × (length (now (flat .exit)) ≡ length (now (flat .entry)))
         × (length (now (scratch .exit)) ≡ length (now (scratch .entry)))
         ⌝ }
 {
     let n = list.len();
-    let m = lesser(n, flat.len());
+    let m = min_usize(n, flat.len());
     pack(list, m, flat);
     let r = pixels_packed(tool, flat, n, scratch, out.len());
     let count = made_count(r);

@@ -223,18 +223,6 @@ pub fn fill_list(seed: u64, out: &mut [u64])
     }
 }
 
-pub fn fill_points(seed: u64, out: &mut [i32])
-    ensures { λ _. ⌜ length (now (out .exit)) ≡ length (now (out .entry)) ⌝ }
-{
-    let mut x = seed;
-    let mut i: usize = 0;
-    while i < out.len() {
-        x = next(x);
-        out[i] = near(x);
-        i += 1;
-    }
-}
-
 // The sides of a picture of six pixels; now and then its width is one more, which no picture of six pixels has.
 pub fn width(x: u64) -> usize {
     match pick(x, 16) {

@@ -157,11 +157,6 @@ pub fn mix_triple(h: u64, s: &[f64; 3]) -> u64 {
     mix(mix(mix(h, word_f64(s[0])), word_f64(s[1])), word_f64(s[2]))
 }
 
-// A number and five others.
-pub fn mix_answer(no: u8, r: &[usize; 5]) -> u64 {
-    mix_sizes(mix_number(no), r)
-}
-
 // An edit that is told.
 pub fn mix_edit(h: u64, bytes: &[u8; 8], doubles: &[f64; 3]) -> u64 {
     mix_triple(mix_bytes(h, bytes), doubles)

@@ -7,6 +7,7 @@ pub mod Flipping
 pub mod Positions
 pub mod Orders
 pub mod Corners
+pub mod Flips
 pub mod Firsts
 pub mod Ranks
 pub mod Agreeing

@@ -9,4 +9,6 @@ pub use keys::key;
 pub use keys::scale;
 pub use reading::copy_tile;
 pub use reading::corner_of;
+pub use reading::flips_h;
+pub use reading::flips_v;
 pub use reading::turn;

@@ -1,11 +1,24 @@
 // A tile read where it lies, from either side: t rows that are `stride` apart, from `corner` on; and the corner of a cell.
 ghost use mathlib.Core.Path.{_≡_};
-ghost use Prim.Native.Nat.{_+_, _*_, _≤_, _<_, _^_};
+ghost use Prim.Native.Nat.{_+_, _*_, _%_, _≤_, _<_, _^_};
 ghost use lib.ListN.{length};
 ghost use Rattle.base.specs.Lists.{over};
-ghost use Rattle.tile_cells.specs.Tile.{turned};
+ghost use Rattle.tile_cells.specs.Tile.{turned, flipAt};
 ghost use Rattle.tile_cells.specs.Cells.{cornerOf};
 ghost use Rattle.tile_cells.specs.Seen.{rowSeen, tileSeen, Lies};
+
+// The two flips of the order that a code ends with: none, h, v, both (0 to 3).
+pub fn flips_h(code: u64) -> bool
+    ensures { λ r. ⌜ r ≡ flipAt (code % 4) .h ⌝ }
+{
+    code % 2 == 1
+}
+
+pub fn flips_v(code: u64) -> bool
+    ensures { λ r. ⌜ r ≡ flipAt (code % 4) .v ⌝ }
+{
+    1 < code % 4
+}
 
 // i counted from the other side, where a flip asks for it.
 pub fn turn(flip: bool, t: usize, i: usize) -> usize

@@ -9,11 +9,13 @@ use borrow.Author.Tests.{ltb-true, ltb-false, le-ltb, ne-eqb}
 use lib.IntN.{ℤ, pos, negsuc}
 use lib.Signed.{ltZ}
 use lib.ListN.{length}
+use Rattle.base.specs.Checks.{orElse}
 use Rattle.base.specs.Lists.{range}
 use Rattle.base.proofs.Back.{never}
+use Rattle.base.proofs.First.{or-else-assoc, or-else-zero}
 use Rattle.tile_cells.proofs.Rows.{length-first, first-next, rows-more, length-rows}
 use Rattle.tile_cells.proofs.Positions.{cases}
-use Rattle.tile_least.specs.Least.{comparedZ, orElse, compared, lesser}
+use Rattle.tile_least.specs.Least.{comparedZ, compared, lesser}
 
 -- ---- two indices
 -- of two, one is less or they are the same
@@ -45,15 +47,15 @@ data Ways (l m : List ℤ) : Type 0 where
 
 -- an index that differs decides
 decided : (a b : ℤ) (l m : List ℤ) {n : ℕ} → comparedZ a b ≡ suc n → compared (a ∷ l) (b ∷ m) ≡ suc n
-unfolding compared orElse
-decided a b l m {n} e = rw e (rw (ne-eqb (suc n) 0 (λ z. omega arith)))
+unfolding compared
+decided a b l m {n} e = rw e
 
 equal-is : (a : ℤ) → comparedZ a a ≡ 0
 unfolding comparedZ
 equal-is a = cases (ltZ a a) (λ e. never (sym (less-not a a e) ∙ e)) (λ e. rw e)
 
 undecided : (a : ℤ) (l m : List ℤ) → compared (a ∷ l) (a ∷ m) ≡ compared l m
-unfolding compared orElse
+unfolding compared
 undecided a l m = rw (equal-is a)
 
 ways : (l m : List ℤ) → length l ≡ length m → Ways l m
@@ -84,49 +86,36 @@ module _ (l m : List ℤ) {n : ℕ} (e : n ≡ compared l m) where
   first-least h = rw (← e, ne-eqb n 2 h)
 
 -- ---- part by part
-else-assoc : (a b c : ℕ) → orElse (orElse a b) c ≡ orElse a (orElse b c)
-unfolding orElse
-else-assoc zero b c = refl
-else-assoc (suc a) b c = let n = ne-eqb (suc a) 0 (λ z. omega arith) in rw (n, n)
-
 compared-append : (k l m n : List ℤ) → length k ≡ length l → compared (k ++ m) (l ++ n) ≡ orElse (compared k l) (compared m n)
-unfolding compared orElse
+unfolding compared
 compared-append [] [] m n e = refl
 compared-append [] (b ∷ l) m n e = absurd (omega arith)
 compared-append (a ∷ k) [] m n e = absurd (omega arith)
 compared-append (a ∷ k) (b ∷ l) m n e =
-    ap (orElse (comparedZ a b)) (compared-append k l m n (omega arith)) ∙ sym (else-assoc (comparedZ a b) (compared k l) (compared m n))
+    ap (orElse (comparedZ a b)) (compared-append k l m n (omega arith)) ∙ or-else-assoc (comparedZ a b) (compared k l) (compared m n)
 
 -- ---- what the first y parts say, each `part` after those before it
 module _ (upTo part : ℕ → ℕ) (grow : (y : ℕ) → upTo (y + 1) ≡ orElse (upTo y) (part y)) where
   pub still-same : (y : ℕ) {r : ℕ} → upTo y ≡ 0 → r ≡ part y → r ≡ 0 → upTo (y + 1) ≡ 0
-  unfolding orElse
   still-same y p q e = rw (grow y, p, ← q, e)
 
   later : (y k : ℕ) {n : ℕ} → upTo y ≡ suc n → upTo (y + k) ≡ suc n
-  unfolding orElse
   later y zero p = rw (add-zero y) p
   later y (suc k) {n} p =
       let e : y + suc k ≡ y + k + 1 = omega arith in
-      rw (e, grow (y + k), later y k p, ne-eqb (suc n) 0 (λ z. omega arith))
+      rw (e, grow (y + k), later y k p)
 
   -- the first part that differs decides
   pub decides : (y n r : ℕ) → y + 1 ≤ n → upTo y ≡ 0 → r ≡ part y → 1 ≤ r → r ≡ upTo n
-  unfolding orElse
   decides y n zero h p q b = absurd (omega arith)
   decides y n (suc r) h p q b =
       let e : y + 1 + (n - (y + 1)) ≡ n = omega arith in
       let here : upTo (y + 1) ≡ suc r = rw (grow y, p, ← q) in
       sym (rw e at (later (y + 1) (n - (y + 1)) here))
 
-else-none : (n : ℕ) → orElse n 0 ≡ n
-unfolding orElse
-else-none zero = refl
-else-none (suc n) = rw (ne-eqb (suc n) 0 (λ z. omega arith))
-
 one : (a b : ℤ) → compared (a ∷ []) (b ∷ []) ≡ comparedZ a b
 unfolding compared
-one a b = else-none (comparedZ a b)
+one a b = or-else-zero (comparedZ a b)
 
 -- one index more
 pub row-grows : (f g : ℕ → ℤ) (x : ℕ)

@@ -1,4 +1,3 @@
-pub mod Flips
 pub mod Comparing
 pub mod Seeing
 pub mod Bits

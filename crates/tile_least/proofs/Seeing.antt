@@ -13,7 +13,8 @@ use Rattle.tile_cells.specs.Seen.{inRow, rowSeen, rowOf, tileSeen}
 use Rattle.tile_cells.proofs.Grids.{grid-at}
 use Rattle.tile_cells.proofs.Lying.{length-row-seen}
 use Rattle.tile_cells.proofs.Flipping.{seen-flipped}
-use Rattle.tile_least.specs.Least.{comparedZ, orElse, compared, seenIn}
+use Rattle.base.specs.Checks.{orElse}
+use Rattle.tile_least.specs.Least.{comparedZ, compared, seenIn}
 use Rattle.tile_least.proofs.Comparing.{still-same, decides, row-grows, rows-grow}
 
 -- ---- two rows, once their first x indices are the same
@@ -67,10 +68,12 @@ module _ (l : List ℤ) (corner stride t : ℕ) (ph pv qh qv : Bool) (y : ℕ) w
     row-decides h z = decides rows (λ y. compared (rf y) (rg y)) grow y t r (omega arith) s e z
 
 -- ---- a tile seen in an order, where it lies
-order-seen : (l : List ℤ) (corner stride t order : ℕ) {fh fv : Bool} → fh ≡ flipAt order .h → fv ≡ flipAt order .v
+order-seen : (l : List ℤ) (corner stride t order : ℕ) {fh fv : Bool} → order < 4 → fh ≡ flipAt (order % 4) .h → fv ≡ flipAt (order % 4) .v
     → seenIn l corner stride t order ≡ tileSeen l corner stride t fh fv
 unfolding turnedBy
-order-seen l corner stride t order {fh} {fv} a b = rw (← a, ← b) (seen-flipped t l corner stride fh fv)
+order-seen l corner stride t order {fh} {fv} o a b =
+    let e : order % 4 ≡ order = omega arith in
+    rw (← (rw e at a), ← (rw e at b)) (seen-flipped t l corner stride fh fv)
 
 -- ---- the index at place p
 seen-at : (l : List ℤ) (corner stride t : ℕ) (fh fv : Bool) (p : ℕ) → 0 < t → p < t * t
@@ -80,14 +83,15 @@ seen-at l corner stride t fh fv p side h =
     ap (λ (q : ℕ). getD (tileSeen l corner stride t fh fv) q (pos 0)) (sym (div-add-mod' p t))
     ∙ grid-at t (λ y x. getD l (corner + turned fv t y * stride + turned fh t x) (pos 0)) (pos 0) (div-lt-iff-lt-mul side .1 h) (mod-lt p side)
 
-pub index-at : (l : List ℤ) (corner stride t order p : ℕ) {fh fv : Bool} {y x : ℕ} → 0 < t → p < t * t → fh ≡ flipAt order .h → fv ≡ flipAt order .v
+pub index-at : (l : List ℤ) (corner stride t order p : ℕ) {fh fv : Bool} {y x : ℕ} → 0 < t → p < t * t → order < 4 → fh ≡ flipAt (order % 4) .h → fv ≡ flipAt (order % 4) .v
     → x ≡ turned fh t (p % t) → y ≡ turned fv t (p / t)
     → getD l (corner + y * stride + x) (pos 0) ≡ getD (seenIn l corner stride t order) p (pos 0)
-index-at l corner stride t order p {fh} {fv} side h a b u v =
-    rw (u, v, order-seen l corner stride t order a b) (sym (seen-at l corner stride t fh fv p side h))
+index-at l corner stride t order p {fh} {fv} side h o a b u v =
+    rw (u, v, order-seen l corner stride t order o a b) (sym (seen-at l corner stride t fh fv p side h))
 
 -- ---- the two orders that were compared
-pub orders-are : (l : List ℤ) (corner stride t o q : ℕ) {oh ov qh qv : Bool} {n : ℕ} → oh ≡ flipAt o .h → ov ≡ flipAt o .v → qh ≡ flipAt q .h → qv ≡ flipAt q .v
+pub orders-are : (l : List ℤ) (corner stride t o q : ℕ) {oh ov qh qv : Bool} {n : ℕ} → o < 4 → q < 4 → oh ≡ flipAt (o % 4) .h → ov ≡ flipAt (o % 4) .v
+    → qh ≡ flipAt (q % 4) .h → qv ≡ flipAt (q % 4) .v
     → n ≡ compared (tileSeen l corner stride t oh ov) (tileSeen l corner stride t qh qv)
     → n ≡ compared (seenIn l corner stride t o) (seenIn l corner stride t q)
-orders-are l corner stride t o q a b c d e = rw (order-seen l corner stride t o a b, order-seen l corner stride t q c d) e
+orders-are l corner stride t o q f g a b c d e = rw (order-seen l corner stride t o f a b, order-seen l corner stride t q g c d) e

@@ -8,16 +8,13 @@ use lib.IntN.{ℤ}
 use lib.Signed.{ltZ}
 use mir.Syntax.{w16}
 use mir.Val.{ofZ, SFits}
+use Rattle.base.specs.Checks.{orElse}
 use Rattle.tile_cells.specs.Tile.{turnedBy}
 use Rattle.tile_cells.specs.Seen.{tileAt}
 
 -- ---- two readings compared: 0 where they are the same, 1 where the first is less, 2 where the second is
 unfoldable pub comparedZ : ℤ → ℤ → ℕ
 comparedZ a b = cond (ltZ a b) 1 (cond (ltZ b a) 2 0)
-
--- what the first part says, unless it is the same
-unfoldable pub orElse : ℕ → ℕ → ℕ
-orElse n m = cond (eqb n 0) m n
 
 -- by the first index that differs
 unfoldable pub compared : List ℤ → List ℤ → ℕ

@@ -1,6 +1,6 @@
 // The flip in which a tile reads least, by three comparisons of two flips of the tile where it lies.
-use crate::digits::flip_h;
-use crate::digits::flip_v;
+use tile_cells::flips_h;
+use tile_cells::flips_v;
 use tile_cells::turn;
 ghost use mathlib.Core.Path.{_≡_};
 ghost use Prim.Native.Nat.{_+_, _≤_, _<_};
@@ -77,10 +77,10 @@ fn lesser_order(src: &[i16], corner: usize, stride: usize, t: usize, o: u64, q: 
         corner,
         stride,
         t,
-        flip_h(o),
-        flip_v(o),
-        flip_h(q),
-        flip_v(q),
+        flips_h(o),
+        flips_v(o),
+        flips_h(q),
+        flips_v(q),
     );
     if n == 2 { q } else { o }
 }

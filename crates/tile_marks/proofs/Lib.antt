@@ -1,4 +1,3 @@
-pub mod Flips
 pub mod Runs
 pub mod Spreading
 pub mod Landing

@@ -1,23 +1,11 @@
 // The class of each place, from the codes of the cells.
+use tile_cells::flips_h;
+use tile_cells::flips_v;
 use tile_cells::turn;
 ghost use mathlib.Core.Path.{_≡_};
 ghost use Prim.Native.Nat.{ℕ, _+_, _*_, _/_, _%_, _≤_, _<_, _^_};
 ghost use lib.ListN.{length, getD};
-ghost use Rattle.tile_cells.specs.Tile.{flipAt};
 ghost use Rattle.tile_marks.specs.Marks.{cellOfPlace, classBy, Coded};
-
-// The two flips of an order: none, h, v, both.
-fn flips_h(code: u64) -> bool
-    ensures { λ r. ⌜ r ≡ flipAt (code % 4) .h ⌝ }
-{
-    code % 2 == 1
-}
-
-fn flips_v(code: u64) -> bool
-    ensures { λ r. ⌜ r ≡ flipAt (code % 4) .v ⌝ }
-{
-    1 < code % 4
-}
 
 // The cell of place p.
 fn cell_of(w: usize, t: usize, p: usize) -> usize

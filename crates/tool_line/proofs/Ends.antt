@@ -2,7 +2,7 @@
 use mathlib.Core.Path.{_≡_, refl, sym, ap, _∙_}
 use mathlib.Core.Bool.{Bool, true, false, cond}
 use mathlib.Core.List.{List, [], _∷_, _++_, map}
-use Prim.Native.Nat.{ℕ, max}
+use Prim.Native.Nat.{ℕ, _≤_, max}
 use native.Mathlib.Numerals.{add-one}
 use native.Mathlib.Omega.{arith}
 use borrow.Author.Tests.{ltb-true, ltb-false}
@@ -13,13 +13,14 @@ use lib.Signed.{ltZ, pos-natAbs}
 use Rattle.base.specs.Lists.{range}
 use Rattle.tool_line.specs.Line.{Point, point, side, toward, offset, longer, pointAt, lineOf}
 use Rattle.tool_line.specs.Brush.{onward, pathOf}
-use Rattle.tool_line.proofs.Offsets.{offset-first, offset-last}
+use Rattle.tool_line.proofs.Offsets.{offset-first, offset-longer, offset-last}
 use Rattle.tool_line.proofs.Toward.{toward-none, from-less, not-back, side-back}
 
--- ---- the first point
-pub point-first : (a b : Point) → pointAt a b 0 ≡ a
-unfolding pointAt
-point-first a b = by (ltb w v)
+-- ---- a point by its two axes, each with its own offset along the longer side
+pub point-axes : (a b : Point) (j : ℕ) → j ≤ longer a b
+    → point (toward (a .x) (b .x) (offset (a .x) (b .x) (longer a b) j)) (toward (a .y) (b .y) (offset (a .y) (b .y) (longer a b) j)) ≡ pointAt a b j
+unfolding pointAt longer
+point-axes a b j h = by (ltb w v) refl
   where
     w : ℕ
     w = side (a .x) (b .x)
@@ -27,11 +28,21 @@ point-first a b = by (ltb w v)
     v : ℕ
     v = side (a .y) (b .y)
 
-    by : (t : Bool)
-        → cond t (point (toward (a .x) (b .x) (offset (a .x) (b .x) v 0)) (toward (a .y) (b .y) 0)) (point (toward (a .x) (b .x) 0) (toward (a .y) (b .y) (offset (a .y) (b .y) w 0)))
-        ≡ a
-    by true = rw (offset-first (a .x) (b .x) v, toward-none (a .x) (b .x), toward-none (a .y) (b .y))
-    by false = rw (offset-first (a .y) (b .y) w, toward-none (a .x) (b .x), toward-none (a .y) (b .y))
+    by : (t : Bool) → ltb w v ≡ t
+        → point (toward (a .x) (b .x) (offset (a .x) (b .x) (max w v) j)) (toward (a .y) (b .y) (offset (a .y) (b .y) (max w v) j))
+        ≡ cond t (point (toward (a .x) (b .x) (offset (a .x) (b .x) v j)) (toward (a .y) (b .y) j)) (point (toward (a .x) (b .x) j) (toward (a .y) (b .y) (offset (a .y) (b .y) w j)))
+    by true e =
+        let m : max w v ≡ v = omega (arith, ltb-true w v e) in
+        rw (m, offset-longer (a .y) (b .y) j (omega arith))
+    by false e =
+        let m : max w v ≡ w = omega (arith, ltb-false w v e) in
+        rw (m, offset-longer (a .x) (b .x) j (omega arith))
+
+-- ---- the first point
+pub point-first : (a b : Point) → pointAt a b 0 ≡ a
+point-first a b =
+    sym (point-axes a b 0 (omega arith))
+    ∙ rw (offset-first (a .x) (b .x) (longer a b), offset-first (a .y) (b .y) (longer a b), toward-none (a .x) (b .x), toward-none (a .y) (b .y))
 
 -- ---- the last
 pub toward-side : (a b : ℤ) → toward a b (side a b) ≡ b
@@ -48,25 +59,14 @@ toward-side a b = by (ltZ b a) refl
     by true e = ap (λ z. a -ℤ z) (ap pos (sym (side-back a b)) ∙ pos-natAbs (a -ℤ b) (from-less a b (not-back a b e))) ∙ back
     by false e = ap (λ z. a +ℤ z) (pos-natAbs (b -ℤ a) (from-less b a e)) ∙ forth
 
+longer-both : (a b : Point) → (side (a .x) (b .x) ≤ longer a b) × (side (a .y) (b .y) ≤ longer a b)
+unfolding longer
+longer-both a b = (omega arith, omega arith)
+
 pub point-last : (a b : Point) → pointAt a b (longer a b) ≡ b
-unfolding pointAt longer
-point-last a b = by (ltb w v) refl
-  where
-    w : ℕ
-    w = side (a .x) (b .x)
-
-    v : ℕ
-    v = side (a .y) (b .y)
-
-    by : (t : Bool) → ltb w v ≡ t
-        → cond t (point (toward (a .x) (b .x) (offset (a .x) (b .x) v (max w v))) (toward (a .y) (b .y) (max w v))) (point (toward (a .x) (b .x) (max w v)) (toward (a .y) (b .y) (offset (a .y) (b .y) w (max w v))))
-        ≡ b
-    by true e =
-        let m : max w v ≡ v = omega (arith, ltb-true w v e) in
-        rw (m, offset-last (a .x) (b .x) v (omega (arith, ltb-true w v e)), toward-side (a .x) (b .x), toward-side (a .y) (b .y))
-    by false e =
-        let m : max w v ≡ w = omega (arith, ltb-false w v e) in
-        rw (m, offset-last (a .y) (b .y) w (ltb-false w v e), toward-side (a .x) (b .x), toward-side (a .y) (b .y))
+point-last a b =
+    sym (point-axes a b (longer a b) (omega arith))
+    ∙ rw (offset-last (a .x) (b .x) (longer a b) (longer-both a b .0), offset-last (a .y) (b .y) (longer a b) (longer-both a b .1), toward-side (a .x) (b .x), toward-side (a .y) (b .y))
 
 -- ---- a path, point by point
 pub line-after : (a b : Point) → drop 1 (lineOf a b) ≡ map (pointAt a b) (range 1 (longer a b))

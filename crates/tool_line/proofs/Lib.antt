@@ -1,10 +1,10 @@
 pub mod Offsets
 pub mod Toward
 pub mod Walks
+pub mod Ends
 pub mod Points
 pub mod Order
 pub mod Reaching
-pub mod Ends
 pub mod Within
 pub mod Alike
 pub mod Examples

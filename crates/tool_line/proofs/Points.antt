@@ -1,11 +1,9 @@
 -- A walk stands at the line's points, one after the other; and their coordinates in a buffer. Assumes nothing.
 use mathlib.Core.Path.{_≡_, refl, sym, ap, _∙_}
-use mathlib.Core.Bool.{Bool, true, false, cond}
+use mathlib.Core.Bool.{false}
 use mathlib.Core.List.{List, [], _∷_, _++_, map, map-append}
-use Prim.Native.Nat.{ℕ, _+_, _*_, _^_, _<_, _≤_, max}
+use Prim.Native.Nat.{ℕ, _+_, _*_, _^_, _<_, _≤_}
 use native.Mathlib.Omega.{arith}
-use borrow.Author.Tests.{ltb-true, ltb-false}
-use lib.Dec.{ltb}
 use lib.IntN.{ℤ, natAbs}
 use lib.ListN.{length, set, length-map}
 use Rattle.base.specs.Lists.{range, over}
@@ -17,9 +15,10 @@ use Rattle.base.proofs.Back.{near-abs}
 use Rattle.tool_line.specs.declared.Walk.{Walk}
 use Rattle.tool_line.specs.Line.{Point, point, Near, farPoint, side, toward, offset, longer, pointAt, lineOf, coordinates, flat}
 use Rattle.tool_line.specs.Walk.{axisAt, walkAt, standing, StandsAt}
-use Rattle.tool_line.proofs.Offsets.{offset-longer, offset-few}
+use Rattle.tool_line.proofs.Offsets.{offset-few}
 use Rattle.tool_line.proofs.Toward.{toward-abs}
 use Rattle.tool_line.proofs.Walks.{longer-near}
+use Rattle.tool_line.proofs.Ends.{point-axes}
 
 pub near : {p : Point} → farPoint p ≡ false → Near p
 unfolding farPoint
@@ -27,24 +26,8 @@ near {p} e = record { across = or-left (far (p .x)) (far (p .y)) e; down = or-ri
 
 -- ---- a walk's place is the closed form's
 pub point-by-axes : (a b : Point) (j : ℕ) → j ≤ longer a b → standing (walkAt a b j) ≡ pointAt a b j
-unfolding walkAt axisAt pointAt longer
-point-by-axes a b j h = by (ltb w v) refl
-  where
-    w : ℕ
-    w = side (a .x) (b .x)
-
-    v : ℕ
-    v = side (a .y) (b .y)
-
-    by : (t : Bool) → ltb w v ≡ t
-        → point (toward (a .x) (b .x) (offset (a .x) (b .x) (max w v) j)) (toward (a .y) (b .y) (offset (a .y) (b .y) (max w v) j))
-        ≡ cond t (point (toward (a .x) (b .x) (offset (a .x) (b .x) v j)) (toward (a .y) (b .y) j)) (point (toward (a .x) (b .x) j) (toward (a .y) (b .y) (offset (a .y) (b .y) w j)))
-    by true e =
-        let m : max w v ≡ v = omega (arith, ltb-true w v e) in
-        rw (m, offset-longer (a .y) (b .y) j (omega arith))
-    by false e =
-        let m : max w v ≡ w = omega (arith, ltb-false w v e) in
-        rw (m, offset-longer (a .x) (b .x) j (omega arith))
+unfolding walkAt axisAt
+point-by-axes = point-axes
 
 pub stands-point : {a b : Point} {j : ℕ} {w : Walk} → StandsAt a b j w → standing w ≡ pointAt a b j
 stands-point {a} {b} {j} s = ap (λ (v : Walk). standing v) (s .is) ∙ point-by-axes a b j (s .low)

@@ -3,7 +3,7 @@
 -- All that the proof knows of the functions that it calls is that they meet their contracts. Assumes nothing.
 use mathlib.Core.Path.{_≡_, refl, sym, ap, subst, _∙_}
 use mathlib.Core.Bool.{Bool, true}
-use Prim.Native.Nat.{ℕ, _<_, _≤_, _^_}
+use Prim.Native.Nat.{ℕ, _<_, _≤_, _^_, min}
 use mathlib.Core.List.{[], _∷_, List, map}
 use lib.IntN.{ℤ}
 use lib.Dec.{T}
@@ -53,7 +53,7 @@ use Rattle.base.specs.declared.Counted.{Counted}
 use Rattle.base.proofs.Counted as Counted-T
 use Rattle.base.proofs.Counted.Laws as Counted-T′
 use Rattle.base.specs.Answer.{filled}
-use Rattle.struct_change.specs.Struct.{packedOf, least}
+use Rattle.struct_change.specs.Struct.{packedOf}
 use Rattle.sheet.specs.Sheet.{sheetOf}
 use Rattle.base.specs.Lists.{over, some as some-of}
 use Rattle.edit.specs.Change.{outside, unpacked}
@@ -72,10 +72,10 @@ use Rattle.struct_change.proofs.any_outside as Scanning-f
 use Rattle.struct_change.proofs.any_outside.Symbol as Scanning-def
 use Rattle.struct_change.proofs.any_outside.Symbol.{name as #struct_change·any-outside}
 use Rattle.struct_change.proofs.any_outside.Met as Scanning-thm
-use Rattle.struct_change.proofs.lesser as Lesser-f
-use Rattle.struct_change.proofs.lesser.Symbol as Lesser-def
-use Rattle.struct_change.proofs.lesser.Symbol.{name as #struct_change·lesser}
-use Rattle.struct_change.proofs.lesser.Met as Lesser-thm
+use Rattle.base.proofs.min_usize as Lesser-f
+use Rattle.base.proofs.min_usize.Symbol as Lesser-def
+use Rattle.base.proofs.min_usize.Symbol.{name as #base·min-usize}
+use Rattle.base.proofs.min_usize.Met as Lesser-thm
 use Rattle.struct_change.proofs.pack as Packing-f
 use Rattle.struct_change.proofs.pack.Symbol as Packing-def
 use Rattle.struct_change.proofs.pack.Symbol.{name as #struct_change·pack}
@@ -196,7 +196,7 @@ module _ {M : Type 1} (𝓤 : URA M) (H : Heap 𝓤) (A : Atoms 𝓤) (W : Given
   goes₃ : (read : ℕ) (read-fits′ : read < 2 ^ 64) → Asked₃ read → ent 𝓤 (⋆ 𝓤 H A (‵ (flft (κ₃) q₃) ∷ ‵ (ShrSlice (named 3) (κ₃) Change-T.the-row .own (record { ptr = (list-b, list-o); name = list-γ; now = list }) (sliceVal (list-b, list-o) (length list) ∷ [])) ∷ [])) (Scanning 𝓤 H A at-mem run .pre (to₃ read))
   goes₃ read read-fits′ asked = qed W (‵ (flft (κ₃) q₃) ∷ ‵ (ShrSlice (named 3) (κ₃) Change-T.the-row .own (record { ptr = (list-b, list-o); name = list-γ; now = list }) (sliceVal (list-b, list-o) (length list) ∷ [])) ∷ []) ∵ says ! asked $ nothing ! $ move ! (1 ∷ 0 ∷ []) $ join ! $ frame ! $ nothing ! $ owned ! usize (Is usize) (uint-makes 𝓤 H A W w64) read _ (refl, read-fits′) $ fjoin ! $ move ! (1 ∷ 0 ∷ []) $ fjoin ! $ owned ! usize (Is usize) (uint-makes 𝓤 H A W w64) h _ (refl, h-fits) $ fjoin ! $ owned ! usize (Is usize) (uint-makes 𝓤 H A W w64) w _ (refl, w-fits) $ fjoin ! $ done !
 
-  -- `lesser`: what its triple binds, what it ensures
+  -- `min_usize`: what its triple binds, what it ensures
   abbrev passed₄ : (read : ℕ) (places : ℕ) → ℕ × (ℕ × Unit {0})
   passed₄ read places = (read, (places, tt))
 
@@ -204,7 +204,7 @@ module _ {M : Type 1} (𝓤 : URA M) (H : Heap 𝓤) (A : Atoms 𝓤) (W : Given
   to₄ read places = ((tt, tt, tt, passed₄ read places, (vint w64 read ∷ [], (vint w64 places ∷ [], tt))), tt)
 
   abbrev Said₄ : (read : ℕ) (places : ℕ) (r : ℕ) → Type 0
-  Said₄ read places r = r ≡ least read places
+  Said₄ read places r = r ≡ min read places
 
   goes₄ : (read : ℕ) (places : ℕ) (read-fits′ : read < 2 ^ 64) (places-fits′ : places < 2 ^ 64) → ent 𝓤 (⋆ 𝓤 H A ([])) (Lesser 𝓤 H A at-mem run .pre (to₄ read places))
   goes₄ read places read-fits′ places-fits′ = qed W ([]) ∵ nothing ! $ nothing ! $ owned ! usize (Is usize) (uint-makes 𝓤 H A W w64) places _ (refl, places-fits′) $ fjoin ! $ owned ! usize (Is usize) (uint-makes 𝓤 H A W w64) read _ (refl, read-fits′) $ fjoin ! $ move ! (1 ∷ 0 ∷ []) $ join ! $ frame ! $ done !
@@ -309,7 +309,7 @@ module _ {M : Type 1} (𝓤 : URA M) (H : Heap 𝓤) (A : Atoms 𝓤) (W : Given
   means : (touched : Bool) (read : ℕ) (off : Bool) (m : ℕ) (r : Counted) (zs ws : List ℕ)
       → touched ≡ touching on (length list) t w h → read ≡ readOf touched (length list)
       → off ≡ some-of (outside w h) (map unpacked (take read (map packedOf list)))
-      → m ≡ least read (length flat) → length zs ≡ length flat → zs ≡ over (take m (map packedOf list)) flat
+      → m ≡ min read (length flat) → length zs ≡ length flat → zs ≡ over (take m (map packedOf list)) flat
       → ((l : List ℕ) → length l ≡ length list → off ≡ straying (touching on (length list) t w h) w h l
       → (touching on (length list) t w h ≡ true → length list ≤ length zs → take (length list) zs ≡ l)
       → Laid (madeOf (touching on (length list) t w h) r) (keptOf (touching on (length list) t w h) r) (length out) ws l (filled r) (mirrorLent (sheetOf w h k palette lab indices) area on t l (length zs) (length scratch)))
@@ -322,7 +322,7 @@ module _ {M : Type 1} (𝓤 : URA M) (H : Heap 𝓤) (A : Atoms 𝓤) (W : Given
       (said (map packedOf list) e (read-off w h t on (length list) touched read is reads (map packedOf list) e off j)
       (read-front w h t on (length list) touched read is reads (map packedOf list) e flat zs m q l d))
 
-  module _ (C : Calls 𝓤 H) (Λ : Loops 𝓤 H) (fm : FmC 𝓤 H (W .laws) C) (known-Touching : Triple 𝓤 (C #tile_mirror_checks·is-touching) (Touching 𝓤 H A at-mem run)) (known-Reading : Triple 𝓤 (C #struct_mirror·packed·read-of) (Reading 𝓤 H A at-mem run)) (known-Scanning : Triple 𝓤 (C #struct_change·any-outside) (Scanning 𝓤 H A at-mem run)) (known-Lesser : Triple 𝓤 (C #struct_change·lesser) (Lesser 𝓤 H A at-mem run)) (known-Packing : Triple 𝓤 (C #struct_change·pack) (Packing 𝓤 H A at-mem run)) (known-Core : Triple 𝓤 (C #struct_mirror·packed·mirror-packed) (Core 𝓤 H A at-mem run)) (known-Made : Triple 𝓤 (C #struct_mirror·packed·made-of) (Made 𝓤 H A at-mem run)) (known-Unpacking : Triple 𝓤 (C #struct_change·unpack) (Unpacking 𝓤 H A at-mem run)) (known-Kept : Triple 𝓤 (C #struct_mirror·packed·kept-of) (Kept 𝓤 H A at-mem run)) (known-Copying : Triple 𝓤 (C #struct_change·copy-front) (Copying 𝓤 H A at-mem run)) where
+  module _ (C : Calls 𝓤 H) (Λ : Loops 𝓤 H) (fm : FmC 𝓤 H (W .laws) C) (known-Touching : Triple 𝓤 (C #tile_mirror_checks·is-touching) (Touching 𝓤 H A at-mem run)) (known-Reading : Triple 𝓤 (C #struct_mirror·packed·read-of) (Reading 𝓤 H A at-mem run)) (known-Scanning : Triple 𝓤 (C #struct_change·any-outside) (Scanning 𝓤 H A at-mem run)) (known-Lesser : Triple 𝓤 (C #base·min-usize) (Lesser 𝓤 H A at-mem run)) (known-Packing : Triple 𝓤 (C #struct_change·pack) (Packing 𝓤 H A at-mem run)) (known-Core : Triple 𝓤 (C #struct_mirror·packed·mirror-packed) (Core 𝓤 H A at-mem run)) (known-Made : Triple 𝓤 (C #struct_mirror·packed·made-of) (Made 𝓤 H A at-mem run)) (known-Unpacking : Triple 𝓤 (C #struct_change·unpack) (Unpacking 𝓤 H A at-mem run)) (known-Kept : Triple 𝓤 (C #struct_mirror·packed·kept-of) (Kept 𝓤 H A at-mem run)) (known-Copying : Triple 𝓤 (C #struct_change·copy-front) (Copying 𝓤 H A at-mem run)) where
     walk : ent 𝓤 (onEntry 𝓤 H A f.signature (κ₀, (κ₁, (κ₂, (κ₃, (κ₄, (κ₅, (κ₆, tt))))))) (q₀, (q₁, (q₂, (q₃, (q₄, (q₅, (q₆, tt))))))) a vals) (WpFn 𝓤 H C Λ code.function (vint w64 w ∷ vint w64 h ∷ vint w64 k ∷ sliceVal (palette-b, palette-o) (length palette) ∷ sliceVal (lab-b, lab-o) (length lab) ∷ sliceVal (indices-b, indices-o) (length indices) ∷ EL.val Area-T.the-type Area-T′.the-laws area ∷ vbool on ∷ vint w64 t ∷ sliceVal (list-b, list-o) (length list) ∷ sliceVal (flat-b, flat-o) (length flat) ∷ sliceVal (scratch-b, scratch-o) (length scratch) ∷ sliceVal (out-b, out-o) (length out) ∷ []) Post)
     walk =
         qed W ((‵ (flft κ₀ q₀) ⊛ ‵ (flft κ₁ q₁) ⊛ ‵ (flft κ₂ q₂) ⊛ ‵ (flft κ₃ q₃) ⊛ ‵ (flft κ₄ q₄) ⊛ ‵ (flft κ₅ q₅) ⊛ ‵ (flft κ₆ q₆) ⊛ ‵ ftrue) ∷ ‵ (owns (usize ∷ usize ∷ usize ∷ ShrSlice (named 0) κ₀ u8 ∷ ShrSlice (named 1) κ₁ f64 ∷ ShrSlice (named 2) κ₂ i16 ∷ Area-T.the-row ∷ bool ∷ usize ∷ ShrSlice (named 3) κ₃ Change-T.the-row ∷ MutSlice (named 4) κ₄ u64 ∷ MutSlice (named 5) κ₅ u64 ∷ MutSlice (named 6) κ₆ Change-T.the-row ∷ []) a vals) ∷ []) ∵ enter ! C Λ code.function (vint w64 w ∷ vint w64 h ∷ vint w64 k ∷ sliceVal (palette-b, palette-o) (length palette) ∷ sliceVal (lab-b, lab-o) (length lab) ∷ sliceVal (indices-b, indices-o) (length indices) ∷ EL.val Area-T.the-type Area-T′.the-laws area ∷ vbool on ∷ vint w64 t ∷ sliceVal (list-b, list-o) (length list) ∷ sliceVal (flat-b, flat-o) (length flat) ∷ sliceVal (scratch-b, scratch-o) (length scratch) ∷ sliceVal (out-b, out-o) (length out) ∷ []) _ $
@@ -364,7 +364,7 @@ module _ {M : Type 1} (𝓤 : URA M) (H : Heap 𝓤) (A : Atoms 𝓤) (W : Given
         move ! (2 ∷ []) $ peeks ! bool (Is bool) (shows 𝓤 H A bool) r₃ (v₃ ∷ []) (λ is₃.
         land ! (from ! (stop !)) (init ! 56 refl (bool-lawful 𝓤 H A W .typed r₃ _ is₃ .0)) $ rewrite ! 56 (λ (u : Val). ‵ (fat fullShare tyBool l₁₉ 0 u)) (ap only is₃) refl $ drop ! $
         move ! (1 ∷ []) $ split ! $
-        -- `lesser`
+        -- `min_usize`
         use0 W (raw (Lesser 𝓤 H A at-mem run .pre (to₄ (r₂) (length flat)))) (goes₄ (r₂) (length flat) (is₂ .1) (flat-room .0)) $
         calls-at ! fm (Lesser 𝓤 H A at-mem run) known-Lesser (to₄ (r₂) (length flat)) (and-then ! (load ! (from ! (stop !)) (look ! 59 refl)) (and-then ! (load ! (from ! (stop !)) (look ! 65 refl)) (no-more !))) (λ v₄.
         use1 W (later (some (λ (r₄ : ℕ). ((‵ ftrue) ⊛ ‵ (usize .own r₄ (v₄ ∷ []))) ⊛ raw (ensured 𝓤 H A Lesser-f.ended (Lesser-f.clauses 𝓤 H A at-mem run) tt (passed₄ (r₂) (length flat)) tt r₄)))) (id⊢ 𝓤 _) $ await ! tt $ pick ! (λ r₄.
@@ -482,13 +482,13 @@ module _ {M : Type 1} (𝓤 : URA M) (H : Heap 𝓤) (A : Atoms 𝓤) (W : Given
         keep ! (23 ∷ 19 ∷ 22 ∷ 18 ∷ 21 ∷ 17 ∷ 5 ∷ 2 ∷ 14 ∷ 15 ∷ 8 ∷ 9 ∷ 3 ∷ 0 ∷ []) $ by ! (exits (r₆) (z₅ .1 .1 .0) (z₆ .1 .1 .1 .1 .1 .1 .1 .1 .1 .1 .1 .1 .0) (z₁₀ .1 .1 .0) (laid-all r₁ _ e₁ r₆ (means r₁ r₂ r₃ r₄ r₆ (z₅ .1 .1 .0) (z₆ .1 .1 .1 .1 .1 .1 .1 .1 .1 .1 .1 .1 .0) e₁ e₂ e₃ e₄ l₅-flat e₅ e₆) r₇ r₉ e₇ e₉ (map packedOf out) (map packedOf (z₈ .1 .1 .0)) (map packedOf (z₁₀ .1 .1 .0)) (length-map out packedOf) e₈ e₁₀, l₅-flat, l₆-scratch) (l₅-flat) (l₆-scratch) (l₁₀-out ∙ l₈-out) (subst (λ (u : List Val). Is Counted-T.the-row r₆ u) (EL.tells Counted-T.the-type Counted-T′.the-laws r₆ _ is₆) is₆)))))))))))))))))))))))))))))))))))))))))))))))))))))))))))))))))))))))))))))))))))))))))))))))))))))))
 
 module _ {M : Type 1} (𝓤 : URA M) (H : Heap 𝓤) (A : Atoms 𝓤) (W : Given 𝓤 H A) (mem : Memory → SProp 𝓤) (run : Routine → Fun 𝓤) where
-  mirror-tiles-walks : (C : Calls 𝓤 H) (Λ : Loops 𝓤 H) → FmC 𝓤 H (W .laws) C → Triple 𝓤 (C #tile_mirror_checks·is-touching) (Touching 𝓤 H A mem run) → Triple 𝓤 (C #struct_mirror·packed·read-of) (Reading 𝓤 H A mem run) → Triple 𝓤 (C #struct_change·any-outside) (Scanning 𝓤 H A mem run) → Triple 𝓤 (C #struct_change·lesser) (Lesser 𝓤 H A mem run) → Triple 𝓤 (C #struct_change·pack) (Packing 𝓤 H A mem run) → Triple 𝓤 (C #struct_mirror·packed·mirror-packed) (Core 𝓤 H A mem run) → Triple 𝓤 (C #struct_mirror·packed·made-of) (Made 𝓤 H A mem run) → Triple 𝓤 (C #struct_change·unpack) (Unpacking 𝓤 H A mem run) → Triple 𝓤 (C #struct_mirror·packed·kept-of) (Kept 𝓤 H A mem run) → Triple 𝓤 (C #struct_change·copy-front) (Copying 𝓤 H A mem run) → Walks 𝓤 H A f.ended stayed (WpFn 𝓤 H C Λ code.function) (f.clauses 𝓤 H A mem run)
+  mirror-tiles-walks : (C : Calls 𝓤 H) (Λ : Loops 𝓤 H) → FmC 𝓤 H (W .laws) C → Triple 𝓤 (C #tile_mirror_checks·is-touching) (Touching 𝓤 H A mem run) → Triple 𝓤 (C #struct_mirror·packed·read-of) (Reading 𝓤 H A mem run) → Triple 𝓤 (C #struct_change·any-outside) (Scanning 𝓤 H A mem run) → Triple 𝓤 (C #base·min-usize) (Lesser 𝓤 H A mem run) → Triple 𝓤 (C #struct_change·pack) (Packing 𝓤 H A mem run) → Triple 𝓤 (C #struct_mirror·packed·mirror-packed) (Core 𝓤 H A mem run) → Triple 𝓤 (C #struct_mirror·packed·made-of) (Made 𝓤 H A mem run) → Triple 𝓤 (C #struct_change·unpack) (Unpacking 𝓤 H A mem run) → Triple 𝓤 (C #struct_mirror·packed·kept-of) (Kept 𝓤 H A mem run) → Triple 𝓤 (C #struct_change·copy-front) (Copying 𝓤 H A mem run) → Walks 𝓤 H A f.ended stayed (WpFn 𝓤 H C Λ code.function) (f.clauses 𝓤 H A mem run)
   mirror-tiles-walks C Λ fm known-Touching known-Reading known-Scanning known-Lesser known-Packing known-Core known-Made known-Unpacking known-Kept known-Copying = walked 𝓤 H A f.ended stayed (f.clauses 𝓤 H A mem run) (WpFn 𝓤 H C Λ code.function)
       (λ κs. (uint-vals w64, (uint-vals w64, (uint-vals w64, (slice-vals, (slice-vals, (slice-vals, (EL.vals Area-T.the-type Area-T′.the-laws, (bool-vals, (uint-vals w64, (slice-vals, (slice-vals, (slice-vals, (slice-vals, tt)))))))))))))) (λ κs. (uint-tells w64, (uint-tells w64, (uint-tells w64, (shr-slice-tells (named 0) (κs .0) u8, (shr-slice-tells (named 1) (κs .1 .0) f64, (shr-slice-tells (named 2) (κs .1 .1 .0) i16, (EL.tells Area-T.the-type Area-T′.the-laws, (bool-tells, (uint-tells w64, (shr-slice-tells (named 3) (κs .1 .1 .1 .0) Change-T.the-row, (mut-slice-tells (named 4) (κs .1 .1 .1 .1 .0) u64, (mut-slice-tells (named 5) (κs .1 .1 .1 .1 .1 .0) u64, (mut-slice-tells (named 6) (κs .1 .1 .1 .1 .1 .1 .0) Change-T.the-row, tt))))))))))))))
       (λ κs qs bounds a g are. via 𝓤 _ (fst∗ 𝓤 _ (emp 𝓤))
       (walk 𝓤 H A W mem run (κs .0) (κs .1 .0) (κs .1 .1 .0) (κs .1 .1 .1 .0) (κs .1 .1 .1 .1 .0) (κs .1 .1 .1 .1 .1 .0) (κs .1 .1 .1 .1 .1 .1 .0) (qs .0) (qs .1 .0) (qs .1 .1 .0) (qs .1 .1 .1 .0) (qs .1 .1 .1 .1 .0) (qs .1 .1 .1 .1 .1 .0) (qs .1 .1 .1 .1 .1 .1 .0) (a .0) (a .1 .0) (a .1 .1 .0) (a .1 .1 .1 .0 .ptr .0) (a .1 .1 .1 .0 .ptr .1) (a .1 .1 .1 .0 .name) (a .1 .1 .1 .0 .now) (a .1 .1 .1 .1 .0 .ptr .0) (a .1 .1 .1 .1 .0 .ptr .1) (a .1 .1 .1 .1 .0 .name) (a .1 .1 .1 .1 .0 .now) (a .1 .1 .1 .1 .1 .0 .ptr .0) (a .1 .1 .1 .1 .1 .0 .ptr .1) (a .1 .1 .1 .1 .1 .0 .name) (a .1 .1 .1 .1 .1 .0 .now) (a .1 .1 .1 .1 .1 .1 .0) (a .1 .1 .1 .1 .1 .1 .1 .0) (a .1 .1 .1 .1 .1 .1 .1 .1 .0) (a .1 .1 .1 .1 .1 .1 .1 .1 .1 .0 .ptr .0) (a .1 .1 .1 .1 .1 .1 .1 .1 .1 .0 .ptr .1) (a .1 .1 .1 .1 .1 .1 .1 .1 .1 .0 .name) (a .1 .1 .1 .1 .1 .1 .1 .1 .1 .0 .now) (a .1 .1 .1 .1 .1 .1 .1 .1 .1 .1 .0 .ptr .0) (a .1 .1 .1 .1 .1 .1 .1 .1 .1 .1 .0 .ptr .1) (a .1 .1 .1 .1 .1 .1 .1 .1 .1 .1 .0 .name) (a .1 .1 .1 .1 .1 .1 .1 .1 .1 .1 .0 .now) (a .1 .1 .1 .1 .1 .1 .1 .1 .1 .1 .1 .0 .ptr .0) (a .1 .1 .1 .1 .1 .1 .1 .1 .1 .1 .1 .0 .ptr .1) (a .1 .1 .1 .1 .1 .1 .1 .1 .1 .1 .1 .0 .name) (a .1 .1 .1 .1 .1 .1 .1 .1 .1 .1 .1 .0 .now) (a .1 .1 .1 .1 .1 .1 .1 .1 .1 .1 .1 .1 .0 .ptr .0) (a .1 .1 .1 .1 .1 .1 .1 .1 .1 .1 .1 .1 .0 .ptr .1) (a .1 .1 .1 .1 .1 .1 .1 .1 .1 .1 .1 .1 .0 .name) (a .1 .1 .1 .1 .1 .1 .1 .1 .1 .1 .1 .1 .0 .now) (are .0 .1) (are .1 .0 .1) (are .1 .1 .0 .1) (are .1 .1 .1 .0 .0 .1) (are .1 .1 .1 .1 .0 .0 .1) (are .1 .1 .1 .1 .1 .0 .0 .1) (are .1 .1 .1 .1 .1 .1 .0) (are .1 .1 .1 .1 .1 .1 .1 .1 .0 .1) (are .1 .1 .1 .1 .1 .1 .1 .1 .1 .0 .0 .1) (are .1 .1 .1 .1 .1 .1 .1 .1 .1 .1 .0 .0 .1) (are .1 .1 .1 .1 .1 .1 .1 .1 .1 .1 .1 .0 .0 .1) (are .1 .1 .1 .1 .1 .1 .1 .1 .1 .1 .1 .1 .0 .0 .1) C Λ fm known-Touching known-Reading known-Scanning known-Lesser known-Packing known-Core known-Made known-Unpacking known-Kept known-Copying))
 
-mirror-tiles-meets : {M : Type 1} (𝓤 : URA M) (H : Heap 𝓤) (A : Atoms 𝓤) → Given 𝓤 H A → (mem : Memory → SProp 𝓤) (run : Routine → Fun 𝓤) (𝓣 : Tables 𝓤 H) → Triple 𝓤 (𝓣 .C #tile_mirror_checks·is-touching) (Touching 𝓤 H A mem run) → Triple 𝓤 (𝓣 .C #struct_mirror·packed·read-of) (Reading 𝓤 H A mem run) → Triple 𝓤 (𝓣 .C #struct_change·any-outside) (Scanning 𝓤 H A mem run) → Triple 𝓤 (𝓣 .C #struct_change·lesser) (Lesser 𝓤 H A mem run) → Triple 𝓤 (𝓣 .C #struct_change·pack) (Packing 𝓤 H A mem run) → Triple 𝓤 (𝓣 .C #struct_mirror·packed·mirror-packed) (Core 𝓤 H A mem run) → Triple 𝓤 (𝓣 .C #struct_mirror·packed·made-of) (Made 𝓤 H A mem run) → Triple 𝓤 (𝓣 .C #struct_change·unpack) (Unpacking 𝓤 H A mem run) → Triple 𝓤 (𝓣 .C #struct_mirror·packed·kept-of) (Kept 𝓤 H A mem run) → Triple 𝓤 (𝓣 .C #struct_change·copy-front) (Copying 𝓤 H A mem run) → Meets 𝓤 H A f.signature (WpFn 𝓤 H (𝓣 .C) (𝓣 .Λ) code.function) (f.spec 𝓤 H A mem run)
+mirror-tiles-meets : {M : Type 1} (𝓤 : URA M) (H : Heap 𝓤) (A : Atoms 𝓤) → Given 𝓤 H A → (mem : Memory → SProp 𝓤) (run : Routine → Fun 𝓤) (𝓣 : Tables 𝓤 H) → Triple 𝓤 (𝓣 .C #tile_mirror_checks·is-touching) (Touching 𝓤 H A mem run) → Triple 𝓤 (𝓣 .C #struct_mirror·packed·read-of) (Reading 𝓤 H A mem run) → Triple 𝓤 (𝓣 .C #struct_change·any-outside) (Scanning 𝓤 H A mem run) → Triple 𝓤 (𝓣 .C #base·min-usize) (Lesser 𝓤 H A mem run) → Triple 𝓤 (𝓣 .C #struct_change·pack) (Packing 𝓤 H A mem run) → Triple 𝓤 (𝓣 .C #struct_mirror·packed·mirror-packed) (Core 𝓤 H A mem run) → Triple 𝓤 (𝓣 .C #struct_mirror·packed·made-of) (Made 𝓤 H A mem run) → Triple 𝓤 (𝓣 .C #struct_change·unpack) (Unpacking 𝓤 H A mem run) → Triple 𝓤 (𝓣 .C #struct_mirror·packed·kept-of) (Kept 𝓤 H A mem run) → Triple 𝓤 (𝓣 .C #struct_change·copy-front) (Copying 𝓤 H A mem run) → Meets 𝓤 H A f.signature (WpFn 𝓤 H (𝓣 .C) (𝓣 .Λ) code.function) (f.spec 𝓤 H A mem run)
 mirror-tiles-meets 𝓤 H A W mem run 𝓣 known-Touching known-Reading known-Scanning known-Lesser known-Packing known-Core known-Made known-Unpacking known-Kept known-Copying =
     walk-meets 𝓤 H A f.ended stayed W (goes-none 𝓤 H A W 7 (λ _. usize) yes (λ κs x f. refl), (goes-none 𝓤 H A W 7 (λ _. usize) yes (λ κs x f. refl), (goes-none 𝓤 H A W 7 (λ _. usize) yes (λ κs x f. refl), (goes-none-slice 𝓤 H A W 7 (0 ∷ []) tt (plain (λ _. u8)) yes, (goes-none-slice 𝓤 H A W 7 (1 ∷ []) tt (plain (λ _. f64)) yes, (goes-none-slice 𝓤 H A W 7 (2 ∷ []) tt (plain (λ _. i16)) yes, (goes-none 𝓤 H A W 7 (λ _. Area-T.the-row) yes (λ κs x f. refl), (goes-none 𝓤 H A W 7 (λ _. bool) yes (λ κs x f. refl), (goes-none 𝓤 H A W 7 (λ _. usize) yes (λ κs x f. refl), (goes-none-slice 𝓤 H A W 7 (3 ∷ []) tt (plain (λ _. Change-T.the-row)) yes, (goes-slice 𝓤 H A W 7 4 tt (plain (λ _. u64)), (goes-slice 𝓤 H A W 7 5 tt (plain (λ _. u64)), (goes-gave-slice 𝓤 H A W 7 6 tt (plain (λ _. Change-T.the-row)), tt))))))))))))) (f.clauses 𝓤 H A mem run)
     (WpFn 𝓤 H (𝓣 .C) (𝓣 .Λ) code.function) (WpFn-mono 𝓤 H (W .laws) 𝓣 code.function) (mirror-tiles-walks 𝓤 H A W mem run (𝓣 .C) (𝓣 .Λ) (fmOf 𝓤 H (W .laws) 𝓣) known-Touching known-Reading known-Scanning known-Lesser known-Packing known-Core known-Made known-Unpacking known-Kept known-Copying)
@@ -502,7 +502,7 @@ mirror-tiles-spec 𝓤 H 𝓜 𝓖 𝓡 =
     (cited 𝓤 H (Touching 𝓤 H (𝓖 .A) (𝓜 .mem) (𝓡 .run)) 𝓜 𝓡 code.env #tile_mirror_checks·is-touching Touching-def.routine code.calls-tile-mirror-checks·is-touching (Touching-thm.met 𝓤 H 𝓜 𝓖 𝓡))
     (cited 𝓤 H (Reading 𝓤 H (𝓖 .A) (𝓜 .mem) (𝓡 .run)) 𝓜 𝓡 code.env #struct_mirror·packed·read-of Reading-def.routine code.calls-struct-mirror·packed·read-of (Reading-thm.met 𝓤 H 𝓜 𝓖 𝓡))
     (cited 𝓤 H (Scanning 𝓤 H (𝓖 .A) (𝓜 .mem) (𝓡 .run)) 𝓜 𝓡 code.env #struct_change·any-outside Scanning-def.routine code.calls-struct-change·any-outside (Scanning-thm.met 𝓤 H 𝓜 𝓖 𝓡))
-    (cited 𝓤 H (Lesser 𝓤 H (𝓖 .A) (𝓜 .mem) (𝓡 .run)) 𝓜 𝓡 code.env #struct_change·lesser Lesser-def.routine code.calls-struct-change·lesser (Lesser-thm.met 𝓤 H 𝓜 𝓖 𝓡))
+    (cited 𝓤 H (Lesser 𝓤 H (𝓖 .A) (𝓜 .mem) (𝓡 .run)) 𝓜 𝓡 code.env #base·min-usize Lesser-def.routine code.calls-base·min-usize (Lesser-thm.met 𝓤 H 𝓜 𝓖 𝓡))
     (cited 𝓤 H (Packing 𝓤 H (𝓖 .A) (𝓜 .mem) (𝓡 .run)) 𝓜 𝓡 code.env #struct_change·pack Packing-def.routine code.calls-struct-change·pack (Packing-thm.met 𝓤 H 𝓜 𝓖 𝓡))
     (cited 𝓤 H (Core 𝓤 H (𝓖 .A) (𝓜 .mem) (𝓡 .run)) 𝓜 𝓡 code.env #struct_mirror·packed·mirror-packed Core-def.routine code.calls-struct-mirror·packed·mirror-packed (Core-thm.met 𝓤 H 𝓜 𝓖 𝓡))
     (cited 𝓤 H (Made 𝓤 H (𝓖 .A) (𝓜 .mem) (𝓡 .run)) 𝓜 𝓡 code.env #struct_mirror·packed·made-of Made-def.routine code.calls-struct-mirror·packed·made-of (Made-thm.met 𝓤 H 𝓜 𝓖 𝓡))

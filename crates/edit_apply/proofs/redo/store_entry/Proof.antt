@@ -1,5 +1,8 @@
 -- `store_entry`: two stores. Assumes nothing.
+use mathlib.Core.Path.{_∙_}
+use native.Mathlib.Omega.{arith}
 use borrow.Author.Needs.{needs}
+use Rattle.edit_entries.proofs.Entries.{lab-stored}
 use Rattle.edit_apply.proofs.redo.store_entry.Statement.{statement}
 use Rattle.edit_apply.proofs.redo.store_entry.Tie as tie
 
@@ -9,8 +12,8 @@ store-rgb-requires c κs = search needs
 rgb8-to-lab-requires : tie.Need-rgb8-to-lab-requires
 rgb8-to-lab-requires c κs = search needs
 
-store-lab-requires : tie.Need-store-lab-requires
-store-lab-requires c κs = search needs
+put-lab-requires : tie.Need-put-lab-requires
+put-lab-requires c κs = search needs
 
 same-length : tie.Need-same-length
 same-length c = search needs
@@ -21,7 +24,7 @@ same-length-2 c = search needs
 returns : tie.Need-returns
 returns c =
     let lab = c .before .before in
-    (lab .before .before .before .before .before .store-rgb .ensures, rw (lab .before .rgb8-to-lab .ensures .value) at (lab .store-lab .ensures))
+    (lab .before .before .before .before .before .store-rgb .ensures, rw (lab .before .rgb8-to-lab .ensures .value) at (lab .put-lab .ensures ∙ lab-stored _ _ _ (omega arith)))
 
 pub store-entry-spec : {M : Type 1} → statement M
 store-entry-spec =
@@ -29,7 +32,7 @@ store-entry-spec =
     (tie.spec
     store-rgb-requires
     rgb8-to-lab-requires
-    store-lab-requires
+    put-lab-requires
     same-length
     same-length-2
     returns)

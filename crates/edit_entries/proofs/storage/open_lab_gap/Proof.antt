@@ -3,7 +3,7 @@ use mathlib.Core.Path.{_∙_}
 use Prim.Native.Nat.{_*_}
 use native.Mathlib.Omega.{arith}
 use borrow.Author.Needs.{needs}
-use Rattle.edit_entries.proofs.Entries.{stored-opened, opened-part, three}
+use Rattle.edit_entries.proofs.Entries.{lab-stored, stored-opened, opened-part, three}
 use Rattle.edit_entries.proofs.storage.open_lab_gap.Statement.{statement}
 use Rattle.edit_entries.proofs.storage.open_lab_gap.Tie as tie
 
@@ -31,8 +31,8 @@ sub-numbers-up-2 c = search needs
 numbers-up-requires : tie.Need-numbers-up-requires
 numbers-up-requires c κs = search needs
 
-store-lab-requires : tie.Need-store-lab-requires
-store-lab-requires c κs = search needs
+put-lab-requires : tie.Need-put-lab-requires
+put-lab-requires c κs = search needs
 
 same-length : tie.Need-same-length
 same-length c = search needs
@@ -41,7 +41,8 @@ returns : tie.Need-returns
 returns c =
     let a = c .before .before .before .before .before .before .before .before .before .args in
     let l = a .lab .now in
-    c .before .before .store-lab .ensures
+    c .before .before .put-lab .ensures
+    ∙ lab-stored _ _ _ (omega arith)
     ∙ stored-opened l _ _ _ (3 * a .i) (3 * a .k) (omega arith) (three l (3 * a .i) (omega arith) (omega arith)) (opened-part l (3 * a .i) (omega arith) (3 * a .k) _ (omega arith) (c .before .before .before .before .before .before .numbers-up .ensures))
 
 pub open-lab-gap-spec : {M : Type 1} → statement M
@@ -56,6 +57,6 @@ open-lab-gap-spec =
     mul-numbers-up-2
     sub-numbers-up-2
     numbers-up-requires
-    store-lab-requires
+    put-lab-requires
     same-length
     returns)

@@ -5,7 +5,6 @@ use lib.ListN.{length}
 use lib.Seq.{length-take-le}
 use mir.Facts.{toZ-ofZ}
 use Rattle.sheet.specs.Sheet.{Sheet, sheetOf}
-use Rattle.struct_change.proofs.Packing.{least-fits}
 use Rattle.struct_fill.proofs.Counts.{short-scratch, in-scratch, global-is, global-few}
 use borrow.Author.Needs.{needs}
 use Rattle.struct_fill.proofs.index.fill_global_in.Statement.{statement}
@@ -35,14 +34,14 @@ returns c =
     let s = sheet (c .before .before .before .before .before .before .before .before .before) in
     short-scratch _ _ (global-is s (a .area) (a .x) (a .y) (a .index)) _ _ (c .before .before .before .before .before .if1 .taken) (rw (toZ-ofZ (c .before .before .before .before .before .before .before .before .before .fits .x), toZ-ofZ (c .before .before .before .before .before .before .before .before .before .fits .y), toZ-ofZ (c .before .before .before .before .before .before .before .before .before .fits .index)) at (c .before .before .before .fill-global .ensures)) (c .no-room .ensures)
 
-lesser-requires : tie.Need-lesser-requires
-lesser-requires c κs = search needs
+min-usize-requires : tie.Need-min-usize-requires
+min-usize-requires c κs = search needs
 
 slice-relend-prefix-fill-global-2 : tie.Need-slice-relend-prefix-fill-global-2
-slice-relend-prefix-fill-global-2 c = let k = least-fits (c .before .before .before .before .before .args .room) (length (c .before .before .before .before .before .args .scratch .now)) .1 in omega (arith, c .lesser .ensures, k)
+slice-relend-prefix-fill-global-2 c = omega (arith, c .min-usize .ensures)
 
 slice-aggregate-fill-global-2 : tie.Need-slice-aggregate-fill-global-2
-slice-aggregate-fill-global-2 c = let k = least-fits (c .before .before .before .before .before .before .args .room) (length (c .before .before .before .before .before .before .args .scratch .now)) .1 in sym (length-take-le _ _ (omega (arith, c .before .lesser .ensures, k)))
+slice-aggregate-fill-global-2 c = sym (length-take-le _ _ (omega (arith, c .before .min-usize .ensures)))
 
 fill-global-requires-2 : tie.Need-fill-global-requires-2
 fill-global-requires-2 c κs = search needs
@@ -54,7 +53,7 @@ returns-2 : tie.Need-returns-2
 returns-2 c =
     let a = c .before .before .before .before .before .before .before .before .before .args in
     let s = sheet (c .before .before .before .before .before .before .before .before .before) in
-    in-scratch _ _ (global-is s (a .area) (a .x) (a .y) (a .index)) _ _ (a .scratch .now) _ _ (c .before .before .before .before .before .if1 .left) refl (c .before .before .before .before .lesser .ensures) (global-few s (a .area) (a .x) (a .y) (a .index)) (rw (toZ-ofZ (c .before .before .before .before .before .before .before .before .before .fits .x), toZ-ofZ (c .before .before .before .before .before .before .before .before .before .fits .y), toZ-ofZ (c .before .before .before .before .before .before .before .before .before .fits .index)) at (c .before .before .fill-global2 .ensures))
+    in-scratch _ _ (global-is s (a .area) (a .x) (a .y) (a .index)) _ _ (a .scratch .now) _ _ (c .before .before .before .before .before .if1 .left) refl (c .before .before .before .before .min-usize .ensures) (global-few s (a .area) (a .x) (a .y) (a .index)) (rw (toZ-ofZ (c .before .before .before .before .before .before .before .before .before .fits .x), toZ-ofZ (c .before .before .before .before .before .before .before .before .before .fits .y), toZ-ofZ (c .before .before .before .before .before .before .before .before .before .fits .index)) at (c .before .before .fill-global2 .ensures))
 
 pub fill-global-in-spec : {M : Type 1} → statement M
 fill-global-in-spec =
@@ -66,7 +65,7 @@ fill-global-in-spec =
     no-room-requires
     same-length
     returns
-    lesser-requires
+    min-usize-requires
     slice-relend-prefix-fill-global-2
     slice-aggregate-fill-global-2
     fill-global-requires-2

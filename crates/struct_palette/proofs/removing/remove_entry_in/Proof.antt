@@ -4,7 +4,6 @@ use native.Mathlib.Omega.{arith}
 use lib.ListN.{length}
 use lib.Seq.{length-take-le}
 use Rattle.sheet.specs.Sheet.{Sheet, sheetOf}
-use Rattle.struct_change.proofs.Packing.{least-fits}
 use Rattle.struct_palette.proofs.Remaps.{short-remap, remap-in, remove-is}
 use borrow.Author.Needs.{needs}
 use Rattle.struct_palette.proofs.removing.remove_entry_in.Statement.{statement}
@@ -34,14 +33,14 @@ returns c =
     let s = sheet (c .before .before .before .before .before .before .before .before .before) in
     short-remap _ _ _ _ _ _ (remove-is s (a .index)) _ (c .before .before .before .before .before .if1 .taken) (c .before .before .before .remove-entry .ensures) (c .no-removal .ensures)
 
-lesser-requires : tie.Need-lesser-requires
-lesser-requires c κs = search needs
+min-usize-requires : tie.Need-min-usize-requires
+min-usize-requires c κs = search needs
 
 slice-relend-prefix-remove-entry-2 : tie.Need-slice-relend-prefix-remove-entry-2
-slice-relend-prefix-remove-entry-2 c = let k = least-fits (c .before .before .before .before .before .args .room) (length (c .before .before .before .before .before .args .scratch .now)) .1 in omega (arith, c .lesser .ensures, k)
+slice-relend-prefix-remove-entry-2 c = omega (arith, c .min-usize .ensures)
 
 slice-aggregate-remove-entry-2 : tie.Need-slice-aggregate-remove-entry-2
-slice-aggregate-remove-entry-2 c = let k = least-fits (c .before .before .before .before .before .before .args .room) (length (c .before .before .before .before .before .before .args .scratch .now)) .1 in sym (length-take-le _ _ (omega (arith, c .before .lesser .ensures, k)))
+slice-aggregate-remove-entry-2 c = sym (length-take-le _ _ (omega (arith, c .before .min-usize .ensures)))
 
 remove-entry-requires-2 : tie.Need-remove-entry-requires-2
 remove-entry-requires-2 c κs = search needs
@@ -53,7 +52,7 @@ returns-2 : tie.Need-returns-2
 returns-2 c =
     let a = c .before .before .before .before .before .before .before .before .before .args in
     let s = sheet (c .before .before .before .before .before .before .before .before .before) in
-    remap-in _ _ _ _ _ _ (remove-is s (a .index)) _ (a .scratch .now) _ _ (c .before .before .before .before .before .if1 .left) refl (c .before .before .before .before .lesser .ensures) (c .before .before .remove-entry2 .ensures)
+    remap-in _ _ _ _ _ _ (remove-is s (a .index)) _ (a .scratch .now) _ _ (c .before .before .before .before .before .if1 .left) refl (c .before .before .before .before .min-usize .ensures) (c .before .before .remove-entry2 .ensures)
 
 pub remove-entry-in-spec : {M : Type 1} → statement M
 remove-entry-in-spec =
@@ -65,7 +64,7 @@ remove-entry-in-spec =
     no-removal-requires
     same-length
     returns
-    lesser-requires
+    min-usize-requires
     slice-relend-prefix-remove-entry-2
     slice-aggregate-remove-entry-2
     remove-entry-requires-2

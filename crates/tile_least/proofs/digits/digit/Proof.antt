@@ -17,8 +17,8 @@ side c = right-positive (c .args .t) (c .args .t) (c .args .p) (c .pre .2)
 row : (c : tie.After-turn) → let a = c .before .before .args in a .corner + c .turn .result * a .stride + a .t ≤ length (a .src .now)
 row c = let a = c .before .before .args in row-lies (length (a .src .now)) (a .corner) (a .stride) (a .t) (c .before .before .pre .0) (c .turn .ensures .1)
 
-flip-v-requires : tie.Need-flip-v-requires
-flip-v-requires c κs = search needs
+flips-v-requires : tie.Need-flips-v-requires
+flips-v-requires c κs = search needs
 
 div-turn : tie.Need-div-turn
 div-turn c = side (c .before)
@@ -26,8 +26,8 @@ div-turn c = side (c .before)
 turn-requires : tie.Need-turn-requires
 turn-requires c κs = div-lt-iff-lt-mul (side (c .before)) .1 (c .before .pre .2)
 
-flip-h-requires : tie.Need-flip-h-requires
-flip-h-requires c κs = search needs
+flips-h-requires : tie.Need-flips-h-requires
+flips-h-requires c κs = search needs
 
 rem-turn : tie.Need-rem-turn
 rem-turn c = search needs
@@ -62,17 +62,17 @@ returns c =
     let s = f .before .before .before in
     let a = s .args in
     digit-is (c .before .bits-of-arg .given) (c .bits-of .ensures)
-    (index-at (a .src .now) (a .corner) (a .stride) (a .t) (a .order) (a .p) (side s) (s .pre .2) (f .flip-h .ensures) (f .before .before .flip-v .ensures)
+    (index-at (a .src .now) (a .corner) (a .stride) (a .t) (a .order) (a .p) (side s) (s .pre .2) (s .pre .1) (f .flips-h .ensures) (f .before .before .flips-v .ensures)
     (c .before .before .turn2 .ensures .0) (f .before .turn .ensures .0))
 
 pub digit-spec : {M : Type 1} → statement M
 digit-spec =
     tie.close
     (tie.spec
-    flip-v-requires
+    flips-v-requires
     div-turn
     turn-requires
-    flip-h-requires
+    flips-h-requires
     rem-turn
     turn-requires-2
     mul-bits-of

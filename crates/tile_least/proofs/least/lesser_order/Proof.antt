@@ -9,17 +9,17 @@ use Rattle.tile_least.proofs.Comparing.{second-less, first-least}
 use Rattle.tile_least.proofs.least.lesser_order.Statement.{statement}
 use Rattle.tile_least.proofs.least.lesser_order.Tie as tie
 
-flip-h-requires : tie.Need-flip-h-requires
-flip-h-requires c κs = search needs
+flips-h-requires : tie.Need-flips-h-requires
+flips-h-requires c κs = search needs
 
-flip-v-requires : tie.Need-flip-v-requires
-flip-v-requires c κs = search needs
+flips-v-requires : tie.Need-flips-v-requires
+flips-v-requires c κs = search needs
 
-flip-h-requires-2 : tie.Need-flip-h-requires-2
-flip-h-requires-2 c κs = search needs
+flips-h-requires-2 : tie.Need-flips-h-requires-2
+flips-h-requires-2 c κs = search needs
 
-flip-v-requires-2 : tie.Need-flip-v-requires-2
-flip-v-requires-2 c κs = search needs
+flips-v-requires-2 : tie.Need-flips-v-requires-2
+flips-v-requires-2 c κs = search needs
 
 compare-flips-requires : tie.Need-compare-flips-requires
 compare-flips-requires c κs = search needs
@@ -34,10 +34,11 @@ other c = let a = c .args in seenIn (a .src .now) (a .corner) (a .stride) (a .t)
 said : (c : tie.After-compare-flips)
     → c .compare-flips .result ≡ compared (one (c .before .before .before .before .before)) (other (c .before .before .before .before .before))
 said c =
-    let a = c .before .before .before .before .before .args in
+    let s = c .before .before .before .before .before in
+    let a = s .args in
     let f = c .before .before in
-    orders-are (a .src .now) (a .corner) (a .stride) (a .t) (a .o) (a .q) (f .before .before .flip-h .ensures) (f .before .flip-v .ensures)
-    (f .flip-h2 .ensures) (c .before .flip-v2 .ensures) (c .compare-flips .ensures)
+    orders-are (a .src .now) (a .corner) (a .stride) (a .t) (a .o) (a .q) (s .pre .1) (s .pre .2) (f .before .before .flips-h .ensures) (f .before .flips-v .ensures)
+    (f .flips-h2 .ensures) (c .before .flips-v2 .ensures) (c .compare-flips .ensures)
 
 returns : tie.Need-returns
 returns c = let s = c .before .before .before .before .before .before in (second-less (one s) (other s) (said (c .before)) (search needs), s .pre .2)
@@ -49,10 +50,10 @@ pub lesser-order-spec : {M : Type 1} → statement M
 lesser-order-spec =
     tie.close
     (tie.spec
-    flip-h-requires
-    flip-v-requires
-    flip-h-requires-2
-    flip-v-requires-2
+    flips-h-requires
+    flips-v-requires
+    flips-h-requires-2
+    flips-v-requires-2
     compare-flips-requires
     returns
     returns-2)

@@ -1,7 +1,7 @@
 -- `flips_v`: by the four orders. Assumes nothing.
-use Rattle.tile_marks.proofs.Flips.{flip-v}
-use Rattle.tile_marks.proofs.classes.flips_v.Statement.{statement}
-use Rattle.tile_marks.proofs.classes.flips_v.Tie as tie
+use Rattle.tile_cells.proofs.Flips.{flip-v}
+use Rattle.tile_cells.proofs.reading.flips_v.Statement.{statement}
+use Rattle.tile_cells.proofs.reading.flips_v.Tie as tie
 
 returns : tie.Need-returns
 returns c = flip-v (c .args .code)

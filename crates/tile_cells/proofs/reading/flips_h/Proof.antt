@@ -1,7 +1,7 @@
 -- `flips_h`: by the four orders. Assumes nothing.
-use Rattle.tile_marks.proofs.Flips.{flip-h}
-use Rattle.tile_marks.proofs.classes.flips_h.Statement.{statement}
-use Rattle.tile_marks.proofs.classes.flips_h.Tie as tie
+use Rattle.tile_cells.proofs.Flips.{flip-h}
+use Rattle.tile_cells.proofs.reading.flips_h.Statement.{statement}
+use Rattle.tile_cells.proofs.reading.flips_h.Tie as tie
 
 returns : tie.Need-returns
 returns c = flip-h (c .args .code)
