@@ -3,14 +3,14 @@ changed with it, so that what the prover refuses is the equation and not the wal
 
 # crate, name, which wrong program it is; source file, line and wrong line; function, right and wrong argument
 EDITS = [
-    ('struct_tools', 'clip_height_for_width', 'a pasted clip is taken to be as wide as it is high', 'place.rt',
+    ('struct_move', 'clip_height_for_width', 'a pasted clip is taken to be as wide as it is high', 'lib.rt',
      'clip_w,', 'clip_h,',
      'paste', 'clip-w', 'clip-h'),
-    ('struct_tools', 'pasted_across_at_y', 'a clip is pasted at y across, too', 'place.rt', 'x,', 'y,', 'paste', 'x',
+    ('struct_move', 'pasted_across_at_y', 'a clip is pasted at y across, too', 'lib.rt', 'x,', 'y,', 'paste', 'x',
      'y'),
-    ('struct_tools', 'moved_across_by_dy', 'a selection is moved by dy across, too', 'place.rt', 'dx,', 'dy,',
+    ('struct_move', 'moved_across_by_dy', 'a selection is moved by dy across, too', 'lib.rt', 'dx,', 'dy,',
      'move_selection', 'dx', 'dy'),
-    ('struct_tools', 'moved_down_by_dx', 'a selection is moved by dx down, too', 'place.rt', 'dy,', 'dx,',
+    ('struct_move', 'moved_down_by_dx', 'a selection is moved by dx down, too', 'lib.rt', 'dy,', 'dx,',
      'move_selection', 'dy', 'dx'),
 ]
 

@@ -141,13 +141,13 @@ def tool(path, core, own, result, leaves, does, keeps=True, using=''):
 
 
 def draw(name, own, args):
-    tool('struct_tools::draw::' + name, 'tool_draw::%s_in' % name, 'area, ' + own, COUNTED, 'leaves',
+    tool('struct_draw::' + name, 'tool_draw::%s_in' % name, 'area, ' + own, COUNTED, 'leaves',
          '%sCall %s area %s (length scratch)' % (name, S, args),
          using='tool_line specs Line point\ntool_draw specs Calls leaves %sCall' % name)
 
 
 def place(name, core, own, call):
-    tool('struct_tools::place::' + name, core, own, SHIFTED, 'left', '%s (length scratch)' % call,
+    tool('struct_move::' + name, core, own, SHIFTED, 'left', '%s (length scratch)' % call,
          using='tool_move specs Pasting pasteCall left shiftedCount\ntool_move specs Moves moveCall')
 
 

@@ -1,4 +1,8 @@
 // The calls over change structs: a list is `&[Change]`, and a history's palette count and handle are lent.
+pub use struct_draw::eraser;
+pub use struct_draw::line;
+pub use struct_draw::pencil;
+pub use struct_draw::rectangle;
 pub use struct_fill::fill_global;
 pub use struct_fill::flood_fill;
 pub use struct_fill::replace_color;
@@ -8,14 +12,10 @@ pub use struct_history::redo;
 pub use struct_history::replay;
 pub use struct_history::undo;
 pub use struct_mirror::mirror_tiles;
+pub use struct_move::move_selection;
+pub use struct_move::paste;
 pub use struct_palette::merge_entries;
 pub use struct_palette::remove_entry;
 pub use struct_stroke::extend;
 pub use struct_stroke::normalize;
 pub use struct_stroke::pixels;
-pub use struct_tools::eraser;
-pub use struct_tools::line;
-pub use struct_tools::move_selection;
-pub use struct_tools::paste;
-pub use struct_tools::pencil;
-pub use struct_tools::rectangle;

@@ -1,4 +1,4 @@
-// `move_selection` and `paste` of tools.rs.
+// `move_selection` and `paste` of tools.rs as makers hold them, as `struct_draw` has the drawing tools.
 use base::Change;
 use selection::Selection;
 use selection::Shifted;

@@ -1,4 +1,9 @@
-// The drawing tools of tools.rs. Each leaves its list as numbers in the scratch, and the structs are filled from there.
+// The drawing tools of tools.rs as makers hold them: the list of changes that a tool makes is a lent slice of structs.
+// Each call is thin over the call of the same name in the flat core, and its contract is that call's own definition at
+// the numbers that the structs stand for. The list is left as numbers in the scratch, and the structs are filled from
+// there.
+//
+// The scratch is lent as numbers, a place a pixel; what it holds after a call is free.
 use base::Change;
 use base::Counted;
 use change_list::count_of;
