@@ -293,7 +293,7 @@ function('struct_mirror::mirror_tiles', parameters(SHEET, 'area, on, t, &[list],
          [Len('n', 'list'), Len('places', 'flat'), Len('room', 'out'),
           Call('Touching', 'tile_mirror_checks::is_touching', 'on, n, t, w, h', Bool(), 'r ≡ touching on n t w h',
                to='touched'),
-          Call('Reading', 'struct_mirror::packed::read_of', 'touched, n', USIZE, 'r ≡ readOf touched n', to='read'),
+          Call('Reading', 'struct_mirror_list::read_of', 'touched, n', USIZE, 'r ≡ readOf touched n', to='read'),
           Call('Scanning', 'struct_change::any_outside', 'w, h, list, read', Bool(),
                'r ≡ some-of (outside w h) (map unpacked (take read (map packedOf list)))', to='off',
                asked='read ≤ length list',
@@ -310,13 +310,13 @@ function('struct_mirror::mirror_tiles', parameters(SHEET, 'area, on, t, &[list],
                ' (take n flat-now))',
                why='read-judged %s (map packedOf list) (length-map list packedOf) r₃ e₃ flat %s r₄ e₄ l₅-flat e₅'
                % (JUDGED, FLAT)),
-          Call('Made', 'struct_mirror::packed::made_of', 'touched, answer', USIZE, 'r ≡ madeOf touched answer',
+          Call('Made', 'struct_mirror_list::made_of', 'touched, answer', USIZE, 'r ≡ madeOf touched answer',
                to='made'),
           Call('Unpacking', 'struct_change::unpack', 'share scratch, made, lend out', Unit(),
                'map packedOf out′ ≡ over (take made scratch-now) (map packedOf out-now)',
                asked='(made ≤ length scratch-now) × (made ≤ length out-now)', why='unpack-fits r₁ _ e₁ r₆ %s r₇ e₇'
                % MEANS),
-          Call('Kept', 'struct_mirror::packed::kept_of', 'touched, answer', USIZE, 'r ≡ keptOf touched answer',
+          Call('Kept', 'struct_mirror_list::kept_of', 'touched, answer', USIZE, 'r ≡ keptOf touched answer',
                to='kept'),
           Call('Copying', 'struct_change::copy_front', 'list, kept, give out', Unit(),
                'map packedOf out′ ≡ over (take kept (map packedOf list)) (map packedOf out-now)',
@@ -353,7 +353,8 @@ sheet specs Sheet sheetOf
 base specs Lists over some_as_some-of
 edit specs Change outside unpacked
 tile_mirror_checks specs Calls touching straying
-struct_mirror specs Lent readOf mirrorLent madeOf keptOf Laid
+struct_mirror_list specs Laid readOf madeOf keptOf Laid
+struct_mirror specs Lent mirrorLent
 struct_mirror proofs Laying read-fits pack-fits read-front read-off read-judged unpack-fits copy-fits laid-all
 '''),
          story='A list that is touched is judged and packed into flat; `mirror_packed` leaves its result in the'

@@ -58,16 +58,17 @@ use Rattle.sheet.specs.Sheet.{sheetOf}
 use Rattle.base.specs.Lists.{over, some as some-of}
 use Rattle.edit.specs.Change.{outside, unpacked}
 use Rattle.tile_mirror_checks.specs.Calls.{touching, straying}
-use Rattle.struct_mirror.specs.Lent.{readOf, mirrorLent, madeOf, keptOf, Laid}
+use Rattle.struct_mirror_list.specs.Laid.{readOf, madeOf, keptOf, Laid}
+use Rattle.struct_mirror.specs.Lent.{mirrorLent}
 use Rattle.struct_mirror.proofs.Laying.{read-fits, pack-fits, read-front, read-off, read-judged, unpack-fits, copy-fits, laid-all}
 use Rattle.tile_mirror_checks.proofs.is_touching as Touching-f
 use Rattle.tile_mirror_checks.proofs.is_touching.Symbol as Touching-def
 use Rattle.tile_mirror_checks.proofs.is_touching.Symbol.{name as #tile_mirror_checks·is-touching}
 use Rattle.tile_mirror_checks.proofs.is_touching.Met as Touching-thm
-use Rattle.struct_mirror.proofs.packed.read_of as Reading-f
-use Rattle.struct_mirror.proofs.packed.read_of.Symbol as Reading-def
-use Rattle.struct_mirror.proofs.packed.read_of.Symbol.{name as #struct_mirror·packed·read-of}
-use Rattle.struct_mirror.proofs.packed.read_of.Met as Reading-thm
+use Rattle.struct_mirror_list.proofs.read_of as Reading-f
+use Rattle.struct_mirror_list.proofs.read_of.Symbol as Reading-def
+use Rattle.struct_mirror_list.proofs.read_of.Symbol.{name as #struct_mirror_list·read-of}
+use Rattle.struct_mirror_list.proofs.read_of.Met as Reading-thm
 use Rattle.struct_change.proofs.any_outside as Scanning-f
 use Rattle.struct_change.proofs.any_outside.Symbol as Scanning-def
 use Rattle.struct_change.proofs.any_outside.Symbol.{name as #struct_change·any-outside}
@@ -84,18 +85,18 @@ use Rattle.struct_mirror.proofs.packed.mirror_packed as Core-f
 use Rattle.struct_mirror.proofs.packed.mirror_packed.Symbol as Core-def
 use Rattle.struct_mirror.proofs.packed.mirror_packed.Symbol.{name as #struct_mirror·packed·mirror-packed}
 use Rattle.struct_mirror.proofs.packed.mirror_packed.Met as Core-thm
-use Rattle.struct_mirror.proofs.packed.made_of as Made-f
-use Rattle.struct_mirror.proofs.packed.made_of.Symbol as Made-def
-use Rattle.struct_mirror.proofs.packed.made_of.Symbol.{name as #struct_mirror·packed·made-of}
-use Rattle.struct_mirror.proofs.packed.made_of.Met as Made-thm
+use Rattle.struct_mirror_list.proofs.made_of as Made-f
+use Rattle.struct_mirror_list.proofs.made_of.Symbol as Made-def
+use Rattle.struct_mirror_list.proofs.made_of.Symbol.{name as #struct_mirror_list·made-of}
+use Rattle.struct_mirror_list.proofs.made_of.Met as Made-thm
 use Rattle.struct_change.proofs.unpack as Unpacking-f
 use Rattle.struct_change.proofs.unpack.Symbol as Unpacking-def
 use Rattle.struct_change.proofs.unpack.Symbol.{name as #struct_change·unpack}
 use Rattle.struct_change.proofs.unpack.Met as Unpacking-thm
-use Rattle.struct_mirror.proofs.packed.kept_of as Kept-f
-use Rattle.struct_mirror.proofs.packed.kept_of.Symbol as Kept-def
-use Rattle.struct_mirror.proofs.packed.kept_of.Symbol.{name as #struct_mirror·packed·kept-of}
-use Rattle.struct_mirror.proofs.packed.kept_of.Met as Kept-thm
+use Rattle.struct_mirror_list.proofs.kept_of as Kept-f
+use Rattle.struct_mirror_list.proofs.kept_of.Symbol as Kept-def
+use Rattle.struct_mirror_list.proofs.kept_of.Symbol.{name as #struct_mirror_list·kept-of}
+use Rattle.struct_mirror_list.proofs.kept_of.Met as Kept-thm
 use Rattle.struct_change.proofs.copy_front as Copying-f
 use Rattle.struct_change.proofs.copy_front.Symbol as Copying-def
 use Rattle.struct_change.proofs.copy_front.Symbol.{name as #struct_change·copy-front}
@@ -322,7 +323,7 @@ module _ {M : Type 1} (𝓤 : URA M) (H : Heap 𝓤) (A : Atoms 𝓤) (W : Given
       (said (map packedOf list) e (read-off w h t on (length list) touched read is reads (map packedOf list) e off j)
       (read-front w h t on (length list) touched read is reads (map packedOf list) e flat zs m q l d))
 
-  module _ (C : Calls 𝓤 H) (Λ : Loops 𝓤 H) (fm : FmC 𝓤 H (W .laws) C) (known-Touching : Triple 𝓤 (C #tile_mirror_checks·is-touching) (Touching 𝓤 H A at-mem run)) (known-Reading : Triple 𝓤 (C #struct_mirror·packed·read-of) (Reading 𝓤 H A at-mem run)) (known-Scanning : Triple 𝓤 (C #struct_change·any-outside) (Scanning 𝓤 H A at-mem run)) (known-Lesser : Triple 𝓤 (C #base·min-usize) (Lesser 𝓤 H A at-mem run)) (known-Packing : Triple 𝓤 (C #struct_change·pack) (Packing 𝓤 H A at-mem run)) (known-Core : Triple 𝓤 (C #struct_mirror·packed·mirror-packed) (Core 𝓤 H A at-mem run)) (known-Made : Triple 𝓤 (C #struct_mirror·packed·made-of) (Made 𝓤 H A at-mem run)) (known-Unpacking : Triple 𝓤 (C #struct_change·unpack) (Unpacking 𝓤 H A at-mem run)) (known-Kept : Triple 𝓤 (C #struct_mirror·packed·kept-of) (Kept 𝓤 H A at-mem run)) (known-Copying : Triple 𝓤 (C #struct_change·copy-front) (Copying 𝓤 H A at-mem run)) where
+  module _ (C : Calls 𝓤 H) (Λ : Loops 𝓤 H) (fm : FmC 𝓤 H (W .laws) C) (known-Touching : Triple 𝓤 (C #tile_mirror_checks·is-touching) (Touching 𝓤 H A at-mem run)) (known-Reading : Triple 𝓤 (C #struct_mirror_list·read-of) (Reading 𝓤 H A at-mem run)) (known-Scanning : Triple 𝓤 (C #struct_change·any-outside) (Scanning 𝓤 H A at-mem run)) (known-Lesser : Triple 𝓤 (C #base·min-usize) (Lesser 𝓤 H A at-mem run)) (known-Packing : Triple 𝓤 (C #struct_change·pack) (Packing 𝓤 H A at-mem run)) (known-Core : Triple 𝓤 (C #struct_mirror·packed·mirror-packed) (Core 𝓤 H A at-mem run)) (known-Made : Triple 𝓤 (C #struct_mirror_list·made-of) (Made 𝓤 H A at-mem run)) (known-Unpacking : Triple 𝓤 (C #struct_change·unpack) (Unpacking 𝓤 H A at-mem run)) (known-Kept : Triple 𝓤 (C #struct_mirror_list·kept-of) (Kept 𝓤 H A at-mem run)) (known-Copying : Triple 𝓤 (C #struct_change·copy-front) (Copying 𝓤 H A at-mem run)) where
     walk : ent 𝓤 (onEntry 𝓤 H A f.signature (κ₀, (κ₁, (κ₂, (κ₃, (κ₄, (κ₅, (κ₆, tt))))))) (q₀, (q₁, (q₂, (q₃, (q₄, (q₅, (q₆, tt))))))) a vals) (WpFn 𝓤 H C Λ code.function (vint w64 w ∷ vint w64 h ∷ vint w64 k ∷ sliceVal (palette-b, palette-o) (length palette) ∷ sliceVal (lab-b, lab-o) (length lab) ∷ sliceVal (indices-b, indices-o) (length indices) ∷ EL.val Area-T.the-type Area-T′.the-laws area ∷ vbool on ∷ vint w64 t ∷ sliceVal (list-b, list-o) (length list) ∷ sliceVal (flat-b, flat-o) (length flat) ∷ sliceVal (scratch-b, scratch-o) (length scratch) ∷ sliceVal (out-b, out-o) (length out) ∷ []) Post)
     walk =
         qed W ((‵ (flft κ₀ q₀) ⊛ ‵ (flft κ₁ q₁) ⊛ ‵ (flft κ₂ q₂) ⊛ ‵ (flft κ₃ q₃) ⊛ ‵ (flft κ₄ q₄) ⊛ ‵ (flft κ₅ q₅) ⊛ ‵ (flft κ₆ q₆) ⊛ ‵ ftrue) ∷ ‵ (owns (usize ∷ usize ∷ usize ∷ ShrSlice (named 0) κ₀ u8 ∷ ShrSlice (named 1) κ₁ f64 ∷ ShrSlice (named 2) κ₂ i16 ∷ Area-T.the-row ∷ bool ∷ usize ∷ ShrSlice (named 3) κ₃ Change-T.the-row ∷ MutSlice (named 4) κ₄ u64 ∷ MutSlice (named 5) κ₅ u64 ∷ MutSlice (named 6) κ₆ Change-T.the-row ∷ []) a vals) ∷ []) ∵ enter ! C Λ code.function (vint w64 w ∷ vint w64 h ∷ vint w64 k ∷ sliceVal (palette-b, palette-o) (length palette) ∷ sliceVal (lab-b, lab-o) (length lab) ∷ sliceVal (indices-b, indices-o) (length indices) ∷ EL.val Area-T.the-type Area-T′.the-laws area ∷ vbool on ∷ vint w64 t ∷ sliceVal (list-b, list-o) (length list) ∷ sliceVal (flat-b, flat-o) (length flat) ∷ sliceVal (scratch-b, scratch-o) (length scratch) ∷ sliceVal (out-b, out-o) (length out) ∷ []) _ $
@@ -482,13 +483,13 @@ module _ {M : Type 1} (𝓤 : URA M) (H : Heap 𝓤) (A : Atoms 𝓤) (W : Given
         keep ! (23 ∷ 19 ∷ 22 ∷ 18 ∷ 21 ∷ 17 ∷ 5 ∷ 2 ∷ 14 ∷ 15 ∷ 8 ∷ 9 ∷ 3 ∷ 0 ∷ []) $ by ! (exits (r₆) (z₅ .1 .1 .0) (z₆ .1 .1 .1 .1 .1 .1 .1 .1 .1 .1 .1 .1 .0) (z₁₀ .1 .1 .0) (laid-all r₁ _ e₁ r₆ (means r₁ r₂ r₃ r₄ r₆ (z₅ .1 .1 .0) (z₆ .1 .1 .1 .1 .1 .1 .1 .1 .1 .1 .1 .1 .0) e₁ e₂ e₃ e₄ l₅-flat e₅ e₆) r₇ r₉ e₇ e₉ (map packedOf out) (map packedOf (z₈ .1 .1 .0)) (map packedOf (z₁₀ .1 .1 .0)) (length-map out packedOf) e₈ e₁₀, l₅-flat, l₆-scratch) (l₅-flat) (l₆-scratch) (l₁₀-out ∙ l₈-out) (subst (λ (u : List Val). Is Counted-T.the-row r₆ u) (EL.tells Counted-T.the-type Counted-T′.the-laws r₆ _ is₆) is₆)))))))))))))))))))))))))))))))))))))))))))))))))))))))))))))))))))))))))))))))))))))))))))))))))))))))
 
 module _ {M : Type 1} (𝓤 : URA M) (H : Heap 𝓤) (A : Atoms 𝓤) (W : Given 𝓤 H A) (mem : Memory → SProp 𝓤) (run : Routine → Fun 𝓤) where
-  mirror-tiles-walks : (C : Calls 𝓤 H) (Λ : Loops 𝓤 H) → FmC 𝓤 H (W .laws) C → Triple 𝓤 (C #tile_mirror_checks·is-touching) (Touching 𝓤 H A mem run) → Triple 𝓤 (C #struct_mirror·packed·read-of) (Reading 𝓤 H A mem run) → Triple 𝓤 (C #struct_change·any-outside) (Scanning 𝓤 H A mem run) → Triple 𝓤 (C #base·min-usize) (Lesser 𝓤 H A mem run) → Triple 𝓤 (C #struct_change·pack) (Packing 𝓤 H A mem run) → Triple 𝓤 (C #struct_mirror·packed·mirror-packed) (Core 𝓤 H A mem run) → Triple 𝓤 (C #struct_mirror·packed·made-of) (Made 𝓤 H A mem run) → Triple 𝓤 (C #struct_change·unpack) (Unpacking 𝓤 H A mem run) → Triple 𝓤 (C #struct_mirror·packed·kept-of) (Kept 𝓤 H A mem run) → Triple 𝓤 (C #struct_change·copy-front) (Copying 𝓤 H A mem run) → Walks 𝓤 H A f.ended stayed (WpFn 𝓤 H C Λ code.function) (f.clauses 𝓤 H A mem run)
+  mirror-tiles-walks : (C : Calls 𝓤 H) (Λ : Loops 𝓤 H) → FmC 𝓤 H (W .laws) C → Triple 𝓤 (C #tile_mirror_checks·is-touching) (Touching 𝓤 H A mem run) → Triple 𝓤 (C #struct_mirror_list·read-of) (Reading 𝓤 H A mem run) → Triple 𝓤 (C #struct_change·any-outside) (Scanning 𝓤 H A mem run) → Triple 𝓤 (C #base·min-usize) (Lesser 𝓤 H A mem run) → Triple 𝓤 (C #struct_change·pack) (Packing 𝓤 H A mem run) → Triple 𝓤 (C #struct_mirror·packed·mirror-packed) (Core 𝓤 H A mem run) → Triple 𝓤 (C #struct_mirror_list·made-of) (Made 𝓤 H A mem run) → Triple 𝓤 (C #struct_change·unpack) (Unpacking 𝓤 H A mem run) → Triple 𝓤 (C #struct_mirror_list·kept-of) (Kept 𝓤 H A mem run) → Triple 𝓤 (C #struct_change·copy-front) (Copying 𝓤 H A mem run) → Walks 𝓤 H A f.ended stayed (WpFn 𝓤 H C Λ code.function) (f.clauses 𝓤 H A mem run)
   mirror-tiles-walks C Λ fm known-Touching known-Reading known-Scanning known-Lesser known-Packing known-Core known-Made known-Unpacking known-Kept known-Copying = walked 𝓤 H A f.ended stayed (f.clauses 𝓤 H A mem run) (WpFn 𝓤 H C Λ code.function)
       (λ κs. (uint-vals w64, (uint-vals w64, (uint-vals w64, (slice-vals, (slice-vals, (slice-vals, (EL.vals Area-T.the-type Area-T′.the-laws, (bool-vals, (uint-vals w64, (slice-vals, (slice-vals, (slice-vals, (slice-vals, tt)))))))))))))) (λ κs. (uint-tells w64, (uint-tells w64, (uint-tells w64, (shr-slice-tells (named 0) (κs .0) u8, (shr-slice-tells (named 1) (κs .1 .0) f64, (shr-slice-tells (named 2) (κs .1 .1 .0) i16, (EL.tells Area-T.the-type Area-T′.the-laws, (bool-tells, (uint-tells w64, (shr-slice-tells (named 3) (κs .1 .1 .1 .0) Change-T.the-row, (mut-slice-tells (named 4) (κs .1 .1 .1 .1 .0) u64, (mut-slice-tells (named 5) (κs .1 .1 .1 .1 .1 .0) u64, (mut-slice-tells (named 6) (κs .1 .1 .1 .1 .1 .1 .0) Change-T.the-row, tt))))))))))))))
       (λ κs qs bounds a g are. via 𝓤 _ (fst∗ 𝓤 _ (emp 𝓤))
       (walk 𝓤 H A W mem run (κs .0) (κs .1 .0) (κs .1 .1 .0) (κs .1 .1 .1 .0) (κs .1 .1 .1 .1 .0) (κs .1 .1 .1 .1 .1 .0) (κs .1 .1 .1 .1 .1 .1 .0) (qs .0) (qs .1 .0) (qs .1 .1 .0) (qs .1 .1 .1 .0) (qs .1 .1 .1 .1 .0) (qs .1 .1 .1 .1 .1 .0) (qs .1 .1 .1 .1 .1 .1 .0) (a .0) (a .1 .0) (a .1 .1 .0) (a .1 .1 .1 .0 .ptr .0) (a .1 .1 .1 .0 .ptr .1) (a .1 .1 .1 .0 .name) (a .1 .1 .1 .0 .now) (a .1 .1 .1 .1 .0 .ptr .0) (a .1 .1 .1 .1 .0 .ptr .1) (a .1 .1 .1 .1 .0 .name) (a .1 .1 .1 .1 .0 .now) (a .1 .1 .1 .1 .1 .0 .ptr .0) (a .1 .1 .1 .1 .1 .0 .ptr .1) (a .1 .1 .1 .1 .1 .0 .name) (a .1 .1 .1 .1 .1 .0 .now) (a .1 .1 .1 .1 .1 .1 .0) (a .1 .1 .1 .1 .1 .1 .1 .0) (a .1 .1 .1 .1 .1 .1 .1 .1 .0) (a .1 .1 .1 .1 .1 .1 .1 .1 .1 .0 .ptr .0) (a .1 .1 .1 .1 .1 .1 .1 .1 .1 .0 .ptr .1) (a .1 .1 .1 .1 .1 .1 .1 .1 .1 .0 .name) (a .1 .1 .1 .1 .1 .1 .1 .1 .1 .0 .now) (a .1 .1 .1 .1 .1 .1 .1 .1 .1 .1 .0 .ptr .0) (a .1 .1 .1 .1 .1 .1 .1 .1 .1 .1 .0 .ptr .1) (a .1 .1 .1 .1 .1 .1 .1 .1 .1 .1 .0 .name) (a .1 .1 .1 .1 .1 .1 .1 .1 .1 .1 .0 .now) (a .1 .1 .1 .1 .1 .1 .1 .1 .1 .1 .1 .0 .ptr .0) (a .1 .1 .1 .1 .1 .1 .1 .1 .1 .1 .1 .0 .ptr .1) (a .1 .1 .1 .1 .1 .1 .1 .1 .1 .1 .1 .0 .name) (a .1 .1 .1 .1 .1 .1 .1 .1 .1 .1 .1 .0 .now) (a .1 .1 .1 .1 .1 .1 .1 .1 .1 .1 .1 .1 .0 .ptr .0) (a .1 .1 .1 .1 .1 .1 .1 .1 .1 .1 .1 .1 .0 .ptr .1) (a .1 .1 .1 .1 .1 .1 .1 .1 .1 .1 .1 .1 .0 .name) (a .1 .1 .1 .1 .1 .1 .1 .1 .1 .1 .1 .1 .0 .now) (are .0 .1) (are .1 .0 .1) (are .1 .1 .0 .1) (are .1 .1 .1 .0 .0 .1) (are .1 .1 .1 .1 .0 .0 .1) (are .1 .1 .1 .1 .1 .0 .0 .1) (are .1 .1 .1 .1 .1 .1 .0) (are .1 .1 .1 .1 .1 .1 .1 .1 .0 .1) (are .1 .1 .1 .1 .1 .1 .1 .1 .1 .0 .0 .1) (are .1 .1 .1 .1 .1 .1 .1 .1 .1 .1 .0 .0 .1) (are .1 .1 .1 .1 .1 .1 .1 .1 .1 .1 .1 .0 .0 .1) (are .1 .1 .1 .1 .1 .1 .1 .1 .1 .1 .1 .1 .0 .0 .1) C Λ fm known-Touching known-Reading known-Scanning known-Lesser known-Packing known-Core known-Made known-Unpacking known-Kept known-Copying))
 
-mirror-tiles-meets : {M : Type 1} (𝓤 : URA M) (H : Heap 𝓤) (A : Atoms 𝓤) → Given 𝓤 H A → (mem : Memory → SProp 𝓤) (run : Routine → Fun 𝓤) (𝓣 : Tables 𝓤 H) → Triple 𝓤 (𝓣 .C #tile_mirror_checks·is-touching) (Touching 𝓤 H A mem run) → Triple 𝓤 (𝓣 .C #struct_mirror·packed·read-of) (Reading 𝓤 H A mem run) → Triple 𝓤 (𝓣 .C #struct_change·any-outside) (Scanning 𝓤 H A mem run) → Triple 𝓤 (𝓣 .C #base·min-usize) (Lesser 𝓤 H A mem run) → Triple 𝓤 (𝓣 .C #struct_change·pack) (Packing 𝓤 H A mem run) → Triple 𝓤 (𝓣 .C #struct_mirror·packed·mirror-packed) (Core 𝓤 H A mem run) → Triple 𝓤 (𝓣 .C #struct_mirror·packed·made-of) (Made 𝓤 H A mem run) → Triple 𝓤 (𝓣 .C #struct_change·unpack) (Unpacking 𝓤 H A mem run) → Triple 𝓤 (𝓣 .C #struct_mirror·packed·kept-of) (Kept 𝓤 H A mem run) → Triple 𝓤 (𝓣 .C #struct_change·copy-front) (Copying 𝓤 H A mem run) → Meets 𝓤 H A f.signature (WpFn 𝓤 H (𝓣 .C) (𝓣 .Λ) code.function) (f.spec 𝓤 H A mem run)
+mirror-tiles-meets : {M : Type 1} (𝓤 : URA M) (H : Heap 𝓤) (A : Atoms 𝓤) → Given 𝓤 H A → (mem : Memory → SProp 𝓤) (run : Routine → Fun 𝓤) (𝓣 : Tables 𝓤 H) → Triple 𝓤 (𝓣 .C #tile_mirror_checks·is-touching) (Touching 𝓤 H A mem run) → Triple 𝓤 (𝓣 .C #struct_mirror_list·read-of) (Reading 𝓤 H A mem run) → Triple 𝓤 (𝓣 .C #struct_change·any-outside) (Scanning 𝓤 H A mem run) → Triple 𝓤 (𝓣 .C #base·min-usize) (Lesser 𝓤 H A mem run) → Triple 𝓤 (𝓣 .C #struct_change·pack) (Packing 𝓤 H A mem run) → Triple 𝓤 (𝓣 .C #struct_mirror·packed·mirror-packed) (Core 𝓤 H A mem run) → Triple 𝓤 (𝓣 .C #struct_mirror_list·made-of) (Made 𝓤 H A mem run) → Triple 𝓤 (𝓣 .C #struct_change·unpack) (Unpacking 𝓤 H A mem run) → Triple 𝓤 (𝓣 .C #struct_mirror_list·kept-of) (Kept 𝓤 H A mem run) → Triple 𝓤 (𝓣 .C #struct_change·copy-front) (Copying 𝓤 H A mem run) → Meets 𝓤 H A f.signature (WpFn 𝓤 H (𝓣 .C) (𝓣 .Λ) code.function) (f.spec 𝓤 H A mem run)
 mirror-tiles-meets 𝓤 H A W mem run 𝓣 known-Touching known-Reading known-Scanning known-Lesser known-Packing known-Core known-Made known-Unpacking known-Kept known-Copying =
     walk-meets 𝓤 H A f.ended stayed W (goes-none 𝓤 H A W 7 (λ _. usize) yes (λ κs x f. refl), (goes-none 𝓤 H A W 7 (λ _. usize) yes (λ κs x f. refl), (goes-none 𝓤 H A W 7 (λ _. usize) yes (λ κs x f. refl), (goes-none-slice 𝓤 H A W 7 (0 ∷ []) tt (plain (λ _. u8)) yes, (goes-none-slice 𝓤 H A W 7 (1 ∷ []) tt (plain (λ _. f64)) yes, (goes-none-slice 𝓤 H A W 7 (2 ∷ []) tt (plain (λ _. i16)) yes, (goes-none 𝓤 H A W 7 (λ _. Area-T.the-row) yes (λ κs x f. refl), (goes-none 𝓤 H A W 7 (λ _. bool) yes (λ κs x f. refl), (goes-none 𝓤 H A W 7 (λ _. usize) yes (λ κs x f. refl), (goes-none-slice 𝓤 H A W 7 (3 ∷ []) tt (plain (λ _. Change-T.the-row)) yes, (goes-slice 𝓤 H A W 7 4 tt (plain (λ _. u64)), (goes-slice 𝓤 H A W 7 5 tt (plain (λ _. u64)), (goes-gave-slice 𝓤 H A W 7 6 tt (plain (λ _. Change-T.the-row)), tt))))))))))))) (f.clauses 𝓤 H A mem run)
     (WpFn 𝓤 H (𝓣 .C) (𝓣 .Λ) code.function) (WpFn-mono 𝓤 H (W .laws) 𝓣 code.function) (mirror-tiles-walks 𝓤 H A W mem run (𝓣 .C) (𝓣 .Λ) (fmOf 𝓤 H (W .laws) 𝓣) known-Touching known-Reading known-Scanning known-Lesser known-Packing known-Core known-Made known-Unpacking known-Kept known-Copying)
@@ -500,12 +501,12 @@ mirror-tiles-spec 𝓤 H 𝓜 𝓖 𝓡 =
     (tables 𝓤 H 𝓜 𝓡 code.env .C) (tables 𝓤 H 𝓜 𝓡 code.env .Λ) #struct_mirror·mirror-tiles code.function (code.unfolded 𝓤 H 𝓜 𝓡)
     (mirror-tiles-meets 𝓤 H (𝓖 .A) (given-of 𝓤 H 𝓜 𝓖) (𝓜 .mem) (𝓡 .run) (tablesOf 𝓤 H 𝓜 (tables 𝓤 H 𝓜 𝓡 code.env))
     (cited 𝓤 H (Touching 𝓤 H (𝓖 .A) (𝓜 .mem) (𝓡 .run)) 𝓜 𝓡 code.env #tile_mirror_checks·is-touching Touching-def.routine code.calls-tile-mirror-checks·is-touching (Touching-thm.met 𝓤 H 𝓜 𝓖 𝓡))
-    (cited 𝓤 H (Reading 𝓤 H (𝓖 .A) (𝓜 .mem) (𝓡 .run)) 𝓜 𝓡 code.env #struct_mirror·packed·read-of Reading-def.routine code.calls-struct-mirror·packed·read-of (Reading-thm.met 𝓤 H 𝓜 𝓖 𝓡))
+    (cited 𝓤 H (Reading 𝓤 H (𝓖 .A) (𝓜 .mem) (𝓡 .run)) 𝓜 𝓡 code.env #struct_mirror_list·read-of Reading-def.routine code.calls-struct-mirror-list·read-of (Reading-thm.met 𝓤 H 𝓜 𝓖 𝓡))
     (cited 𝓤 H (Scanning 𝓤 H (𝓖 .A) (𝓜 .mem) (𝓡 .run)) 𝓜 𝓡 code.env #struct_change·any-outside Scanning-def.routine code.calls-struct-change·any-outside (Scanning-thm.met 𝓤 H 𝓜 𝓖 𝓡))
     (cited 𝓤 H (Lesser 𝓤 H (𝓖 .A) (𝓜 .mem) (𝓡 .run)) 𝓜 𝓡 code.env #base·min-usize Lesser-def.routine code.calls-base·min-usize (Lesser-thm.met 𝓤 H 𝓜 𝓖 𝓡))
     (cited 𝓤 H (Packing 𝓤 H (𝓖 .A) (𝓜 .mem) (𝓡 .run)) 𝓜 𝓡 code.env #struct_change·pack Packing-def.routine code.calls-struct-change·pack (Packing-thm.met 𝓤 H 𝓜 𝓖 𝓡))
     (cited 𝓤 H (Core 𝓤 H (𝓖 .A) (𝓜 .mem) (𝓡 .run)) 𝓜 𝓡 code.env #struct_mirror·packed·mirror-packed Core-def.routine code.calls-struct-mirror·packed·mirror-packed (Core-thm.met 𝓤 H 𝓜 𝓖 𝓡))
-    (cited 𝓤 H (Made 𝓤 H (𝓖 .A) (𝓜 .mem) (𝓡 .run)) 𝓜 𝓡 code.env #struct_mirror·packed·made-of Made-def.routine code.calls-struct-mirror·packed·made-of (Made-thm.met 𝓤 H 𝓜 𝓖 𝓡))
+    (cited 𝓤 H (Made 𝓤 H (𝓖 .A) (𝓜 .mem) (𝓡 .run)) 𝓜 𝓡 code.env #struct_mirror_list·made-of Made-def.routine code.calls-struct-mirror-list·made-of (Made-thm.met 𝓤 H 𝓜 𝓖 𝓡))
     (cited 𝓤 H (Unpacking 𝓤 H (𝓖 .A) (𝓜 .mem) (𝓡 .run)) 𝓜 𝓡 code.env #struct_change·unpack Unpacking-def.routine code.calls-struct-change·unpack (Unpacking-thm.met 𝓤 H 𝓜 𝓖 𝓡))
-    (cited 𝓤 H (Kept 𝓤 H (𝓖 .A) (𝓜 .mem) (𝓡 .run)) 𝓜 𝓡 code.env #struct_mirror·packed·kept-of Kept-def.routine code.calls-struct-mirror·packed·kept-of (Kept-thm.met 𝓤 H 𝓜 𝓖 𝓡))
+    (cited 𝓤 H (Kept 𝓤 H (𝓖 .A) (𝓜 .mem) (𝓡 .run)) 𝓜 𝓡 code.env #struct_mirror_list·kept-of Kept-def.routine code.calls-struct-mirror-list·kept-of (Kept-thm.met 𝓤 H 𝓜 𝓖 𝓡))
     (cited 𝓤 H (Copying 𝓤 H (𝓖 .A) (𝓜 .mem) (𝓡 .run)) 𝓜 𝓡 code.env #struct_change·copy-front Copying-def.routine code.calls-struct-change·copy-front (Copying-thm.met 𝓤 H 𝓜 𝓖 𝓡)))

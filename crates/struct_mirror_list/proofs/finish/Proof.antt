@@ -3,10 +3,10 @@ use mathlib.Core.Path.{sym}
 use borrow.Author.Tests.{not-true, not-false}
 use lib.Seq.{length-take-le}
 use Rattle.change_list.proofs.Fronts.{front-within}
-use Rattle.struct_mirror.proofs.Laying.{finish-kept, finish-short, finish-made}
+use Rattle.struct_mirror_list.proofs.Laying.{finish-kept, finish-short, finish-made}
 use borrow.Author.Needs.{needs}
-use Rattle.struct_mirror.proofs.packed.finish.Statement.{statement}
-use Rattle.struct_mirror.proofs.packed.finish.Tie as tie
+use Rattle.struct_mirror_list.proofs.finish.Statement.{statement}
+use Rattle.struct_mirror_list.proofs.finish.Tie as tie
 
 counted-requires : tie.Need-counted-requires
 counted-requires c κs = search needs
