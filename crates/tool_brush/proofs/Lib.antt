@@ -1,10 +1,2 @@
-pub mod Painted
-pub mod Clipping
 pub mod Edges
-pub mod Fitting
-pub mod Frames
-pub mod Stamps
-pub mod Touching
 pub mod Walked
-pub mod Paths
-pub mod Reached

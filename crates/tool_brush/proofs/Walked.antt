@@ -19,11 +19,11 @@ use Rattle.tool_line.specs.Line.{Point, longer, pointAt, lineOf}
 use Rattle.tool_line.specs.Walk.{standing, StandsAt}
 use Rattle.tool_line.specs.Steps.{among}
 use Rattle.tool_line.proofs.Ends.{line-after}
-use Rattle.tool_brush.specs.declared.Run.{Run}
-use Rattle.tool_brush.specs.Places.{setAll, rowPlaces, boxPlaces, stampPlaces, placesOf, Brush}
-use Rattle.tool_brush.specs.Touching.{touches, touchesRegion, Touched}
-use Rattle.tool_brush.proofs.Touching.{and-false}
-use Rattle.tool_brush.proofs.Stamps.{axis, one-stamp, stamps-append, Lining, lining-next}
+use Rattle.tool_stamp.specs.declared.Run.{Run}
+use Rattle.tool_stamp.specs.Places.{setAll, rowPlaces, boxPlaces, stampPlaces, placesOf, Brush}
+use Rattle.tool_reach.specs.Touching.{touches, touchesRegion, Touched}
+use Rattle.tool_reach.proofs.Touching.{and-false}
+use Rattle.tool_stamp.proofs.Stamps.{axis, one-stamp, stamps-append, Lining, lining-next}
 
 -- ---- a stamp that touches nothing
 no-places : (w : ℕ) (x y : Run) → x .count ≡ 0 → boxPlaces w x y ≡ []

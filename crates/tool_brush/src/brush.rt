@@ -1,11 +1,9 @@
-// Stamps of a square brush, one by one and along lines.
-use crate::Run;
-use crate::paint::clip;
-use crate::paint::paint_box;
-use crate::touch::touched_steps;
+// Stamps of a square brush along lines.
 use selection::Selection;
 use tool_line::stand_at;
 use tool_line::step;
+use tool_reach::touched_steps;
+use tool_stamp::paint_stamp;
 ghost use mathlib.Core.Path.{_≡_};
 ghost use mathlib.Core.Bool.{false};
 ghost use mathlib.Core.List.{[], _∷_};
@@ -17,43 +15,8 @@ ghost use Rattle.base.specs.Ints.{far};
 ghost use Rattle.selection.specs.Region.{Fits};
 ghost use Rattle.tool_line.specs.Line.{point, Near, lineOf};
 ghost use Rattle.tool_line.specs.Brush.{clamped, pathOf};
-ghost use Rattle.tool_brush.specs.Places.{setAll, clipped, stampPlaces, Brush, Close};
-ghost use Rattle.tool_brush.specs.Given.{pointsOf};
-
-// A brush's size: 1 to 8.
-pub fn clamp(size: usize) -> usize
-    ensures { λ r. ⌜ r ≡ clamped size ⌝ }
-{
-    if size < 1 {
-        return 1;
-    }
-    if 8 < size {
-        return 8;
-    }
-    size
-}
-
-// One axis of a brush of n places at z, which starts (n - 1) / 2 before it: what lies from `from` on and below
-// `end`.
-pub(crate) fn stamp_run(z: i32, n: usize, from: usize, end: usize) -> Run
-    requires { ⌜ Brush n × Close z ⌝ }
-    ensures { λ r. ⌜ r ≡ clipped (z -ℤ pos ((n - 1) / 2)) (z -ℤ pos ((n - 1) / 2) +ℤ pos (n - 1)) from end ⌝ }
-{
-    let first = z - ((n - 1) / 2) as i32;
-    clip(first, first + (n - 1) as i32, from, end)
-}
-
-// The brush at (x, y), as far as the region has it.
-fn paint_stamp(scratch: &mut [u64], w: usize, region: Selection, n: usize, x: i32, y: i32, v: u64)
-    requires { ⌜ Fits w (length (now scratch)) region × Brush n × Close x × Close y ⌝ }
-    ensures { λ _. ⌜ now (scratch .exit) ≡ setAll (stampPlaces region w n (point x y ∷ [])) v (now (scratch .entry)) ⌝ }
-{
-    let left = region.x as usize;
-    let above = region.y as usize;
-    let across = stamp_run(x, n, left, left + region.w as usize);
-    let down = stamp_run(y, n, above, above + region.h as usize);
-    paint_box(scratch, w, across, down, v);
-}
+ghost use Rattle.tool_stamp.specs.Places.{setAll, clipped, stampPlaces, Brush, Close};
+ghost use Rattle.tool_stamp.specs.Given.{pointsOf};
 
 // The brush at each point of the line from a to b but the first. Only the steps at which it touches the region are
 // walked, so a line costs what it paints, however far its ends are.

@@ -1,11 +1,11 @@
 // The rectangle.
-use crate::Columns;
-use crate::Run;
-use crate::paint::clip;
-use crate::paint::paint_run;
 use base::max_i32;
 use base::min_i32;
 use selection::Selection;
+use tool_stamp::Columns;
+use tool_stamp::Run;
+use tool_stamp::clip;
+use tool_stamp::paint_run;
 ghost use mathlib.Core.Path.{_≡_};
 ghost use mathlib.Core.Bool.{_||_};
 ghost use mathlib.Core.List.{flatMap};
@@ -16,8 +16,8 @@ ghost use Rattle.base.specs.Lists.{range};
 ghost use Rattle.base.specs.Ints.{eqZ};
 ghost use Rattle.selection.specs.Region.{Fits};
 ghost use Rattle.tool_line.specs.Line.{point};
-ghost use Rattle.tool_brush.specs.Points.{rectanglePoints};
-ghost use Rattle.tool_brush.specs.Places.{setAll, placesOf, columnsOf, partPlaces, framePlaces, Row, Rows, AllEnd};
+ghost use Rattle.tool_stamp.specs.Points.{rectanglePoints};
+ghost use Rattle.tool_stamp.specs.Places.{setAll, placesOf, columnsOf, partPlaces, framePlaces, Row, Rows, AllEnd};
 
 // Whether all columns of row y are drawn: in a filled rectangle, and in its top row and its bottom row.
 fn is_whole(filled: bool, y: usize, top: i32, bottom: i32) -> bool

@@ -21,11 +21,11 @@ use Rattle.change_list.proofs.Parts.{InRows}
 use Rattle.change_normal.specs.Laws.{On}
 use Rattle.change_normal.proofs.Shortest.{first-olds}
 use Rattle.change_normal.proofs.Pictures.{normal-between}
-use Rattle.tool_brush.specs.declared.Run.{Run}
-use Rattle.tool_brush.specs.Reached.{Holds}
-use Rattle.tool_brush.specs.Points.{changeAt, changesAt, drawn}
-use Rattle.tool_brush.specs.Places.{setAll, placesOf}
-use Rattle.tool_brush.proofs.Painted.{painted-places}
+use Rattle.tool_stamp.specs.declared.Run.{Run}
+use Rattle.tool_reach.specs.Reached.{Holds}
+use Rattle.tool_stamp.specs.Points.{changeAt, changesAt, drawn}
+use Rattle.tool_stamp.specs.Places.{setAll, placesOf}
+use Rattle.tool_stamp.proofs.Painted.{painted-places}
 
 module _ (w h : ℕ) (l : List ℤ) (region : Selection) (inside : Within region w h) (z : ℤ) where
   abbrev olds : Change → Type 0

@@ -30,12 +30,12 @@ use Rattle.change_list.specs.Between.{between, laidOut, rowsOf, betweenRows, Ha
 use Rattle.change_list.proofs.Parts.{has-rows, painted-rows}
 use Rattle.change_list.specs.Listed.{handed, listed}
 use Rattle.tool_draw.specs.declared.Stage.the-variants.{Canvas, Refused}
-use Rattle.tool_brush.specs.declared.Run.{Run}
-use Rattle.tool_brush.specs.Points.{changesAt, drawn}
-use Rattle.tool_brush.specs.Places.{setAll, placesOf}
-use Rattle.tool_brush.specs.Reached.{Holds}
+use Rattle.tool_stamp.specs.declared.Run.{Run}
+use Rattle.tool_stamp.specs.Points.{changesAt, drawn}
+use Rattle.tool_stamp.specs.Places.{setAll, placesOf}
+use Rattle.tool_reach.specs.Reached.{Holds}
 use Rattle.tool_draw.specs.Calls.{drawChecks, stageOf}
-use Rattle.tool_brush.proofs.Painted.{laid-all, painted-places}
+use Rattle.tool_stamp.proofs.Painted.{laid-all, painted-places}
 use Rattle.tool_draw.proofs.Drawn.{all-in, drawn-between}
 
 -- a region that is not refused is inside

@@ -15,8 +15,8 @@ use Rattle.sheet.specs.Sheet.{Sheet}
 use Rattle.sheet.specs.Checks.{sheetChecks}
 use Rattle.tool_line.specs.Line.{Point}
 use Rattle.change_list.specs.Listed.{listed}
-use Rattle.tool_brush.specs.Points.{pencilOf, rectangleOf}
-use Rattle.tool_brush.specs.Given.{cornerChecks, pointsOf, pointChecks}
+use Rattle.tool_stamp.specs.Points.{pencilOf, rectangleOf}
+use Rattle.tool_stamp.specs.Given.{cornerChecks, pointsOf, pointChecks}
 use Rattle.tool_draw.specs.declared.Stage.{Stage}
 use Rattle.tool_draw.specs.declared.Stage.the-variants.{Canvas, Refused}
 

@@ -37,8 +37,8 @@ use Rattle.edit.specs.Change.{Change, place, unpacked}
 use Rattle.change_normal.specs.Normal.{keyOf, changing, normalizeOf}
 use Rattle.change_normal.specs.Laws.{On, SheetOlds, Ordered}
 use Rattle.change_normal.proofs.Shortest.{first-olds}
-use Rattle.tool_brush.specs.Points.{changeAt, changesAt, drawn, pencilOf, rectangleOf}
-use Rattle.tool_brush.specs.Given.{cornerChecks, pointChecks}
+use Rattle.tool_stamp.specs.Points.{changeAt, changesAt, drawn, pencilOf, rectangleOf}
+use Rattle.tool_stamp.specs.Given.{cornerChecks, pointChecks}
 use Rattle.tool_draw.specs.Calls.{drawChecks, pencilCall, eraserCall, lineCall, rectangleCall}
 use Rattle.tool_draw.proofs.Drawn.{all-on, all-olds}
 use Rattle.tool_replace.specs.Fills.{hasIndex, replacing, replaced, fromPixel, global, replaceColorOf, fillGlobalOf}

@@ -7,7 +7,7 @@ use mir.Val.{toZ}
 use mir.Facts.{toZ-ofZ}
 use Rattle.tool_line.specs.Line.{point}
 use Rattle.tool_line.proofs.Walks.{walking, longer-near}
-use Rattle.tool_brush.proofs.Stamps.{Lining, Standing, stand-close}
+use Rattle.tool_stamp.proofs.Stamps.{Lining, Standing, stand-close}
 use Rattle.tool_brush.proofs.Walked.{walked-more, walked-none, walked-start, walked-next, walked-end}
 use borrow.Author.Needs.{needs}
 use Rattle.tool_brush.proofs.brush.paint_line.Statement.{statement}

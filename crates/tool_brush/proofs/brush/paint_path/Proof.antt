@@ -4,8 +4,8 @@ use mathlib.Core.Path.{_∙_}
 use native.Mathlib.Omega.{arith}
 use lib.ListN.{length}
 use mir.Facts.{toZ-ofZ}
-use Rattle.tool_brush.proofs.Stamps.{near-close}
-use Rattle.tool_brush.proofs.Paths.{Pathing, number-near, number-fits, point-near, path-short, path-start, path-whole, path-next, path-end}
+use Rattle.tool_stamp.proofs.Stamps.{near-close}
+use Rattle.tool_reach.proofs.Paths.{Pathing, number-near, number-fits, point-near, path-short, path-start, path-whole, path-next, path-end}
 use borrow.Author.Needs.{needs}
 use Rattle.tool_brush.proofs.brush.paint_path.Statement.{statement}
 use Rattle.tool_brush.proofs.brush.paint_path.Tie as tie

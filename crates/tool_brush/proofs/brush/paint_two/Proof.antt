@@ -1,7 +1,7 @@
 -- `paint_two`: the first point, then the line's others. Assumes nothing.
 use mir.Facts.{toZ-ofZ}
-use Rattle.tool_brush.proofs.Stamps.{near-close}
-use Rattle.tool_brush.proofs.Paths.{two-path}
+use Rattle.tool_stamp.proofs.Stamps.{near-close}
+use Rattle.tool_reach.proofs.Paths.{two-path}
 use borrow.Author.Needs.{needs}
 use Rattle.tool_brush.proofs.brush.paint_two.Statement.{statement}
 use Rattle.tool_brush.proofs.brush.paint_two.Tie as tie

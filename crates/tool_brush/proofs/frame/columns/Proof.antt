@@ -1,6 +1,6 @@
 -- `columns`: by the equations of its parts. Assumes nothing.
 use Rattle.base.proofs.Back.{by-values}
-use Rattle.tool_brush.specs.Places.{clipped, columnsOf}
+use Rattle.tool_stamp.specs.Places.{clipped, columnsOf}
 use borrow.Author.Needs.{needs}
 use Rattle.tool_brush.proofs.frame.columns.Statement.{statement}
 use Rattle.tool_brush.proofs.frame.columns.Tie as tie

@@ -1,6 +1,6 @@
 -- `last`: the two cases. Assumes nothing.
 use Rattle.base.proofs.Back.{by-values, ltZ-back}
-use Rattle.tool_brush.specs.Places.{clipped, columnsOf}
+use Rattle.tool_stamp.specs.Places.{clipped, columnsOf}
 use borrow.Author.Needs.{needs}
 use Rattle.tool_brush.proofs.frame.last.Statement.{statement}
 use Rattle.tool_brush.proofs.frame.last.Tie as tie

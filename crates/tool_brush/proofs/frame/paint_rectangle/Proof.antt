@@ -5,9 +5,9 @@ use mir.Syntax.{w32}
 use Rattle.base.specs.Ints.{minZ, maxZ}
 use Rattle.base.proofs.Back.{back, by-values}
 use Rattle.tool_line.specs.Line.{point}
-use Rattle.tool_brush.specs.Places.{setAll, clipped, columnsOf}
-use Rattle.tool_brush.proofs.Frames.{rectangle-places}
-use Rattle.tool_brush.proofs.Fitting.{columns-end, clipped-rows}
+use Rattle.tool_stamp.specs.Places.{setAll, clipped, columnsOf}
+use Rattle.tool_stamp.proofs.Frames.{rectangle-places}
+use Rattle.tool_stamp.proofs.Fitting.{columns-end, clipped-rows}
 use borrow.Author.Needs.{needs}
 use Rattle.tool_brush.proofs.frame.paint_rectangle.Statement.{statement}
 use Rattle.tool_brush.proofs.frame.paint_rectangle.Tie as tie

@@ -1,9 +1,9 @@
 -- `paint_row`: the whole run, or its two ends. Assumes nothing.
 use mathlib.Core.Path.{sym, ap, _∙_}
 use native.Mathlib.Omega.{arith}
-use Rattle.tool_brush.specs.Places.{setAll, rowPlaces, partPlaces}
-use Rattle.tool_brush.proofs.Painted.{set-append}
-use Rattle.tool_brush.proofs.Fitting.{row-start, row-run, run-start}
+use Rattle.tool_stamp.specs.Places.{setAll, rowPlaces, partPlaces}
+use Rattle.tool_stamp.proofs.Painted.{set-append}
+use Rattle.tool_stamp.proofs.Fitting.{row-start, row-run, run-start}
 use borrow.Author.Needs.{needs}
 use Rattle.tool_brush.proofs.frame.paint_row.Statement.{statement}
 use Rattle.tool_brush.proofs.frame.paint_row.Tie as tie

@@ -8,9 +8,9 @@ use mir.Facts.{toZ-ofZ}
 use mir.Syntax.{w32}
 use mir.Val.{toZ}
 use Rattle.base.specs.Lists.{range}
-use Rattle.tool_brush.specs.Places.{setAll, framePlaces, Row}
-use Rattle.tool_brush.proofs.Painted.{rows-step}
-use Rattle.tool_brush.proofs.Fitting.{row-of}
+use Rattle.tool_stamp.specs.Places.{setAll, framePlaces, Row}
+use Rattle.tool_stamp.proofs.Painted.{rows-step}
+use Rattle.tool_stamp.proofs.Fitting.{row-of}
 use borrow.Author.Needs.{needs}
 use Rattle.tool_brush.proofs.frame.paint_rows.Statement.{statement}
 use Rattle.tool_brush.proofs.frame.paint_rows.Tie as tie

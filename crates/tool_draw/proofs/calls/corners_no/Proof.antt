@@ -3,7 +3,7 @@ use mathlib.Core.Path.{_≡_, sym}
 use Rattle.base.specs.Checks.{firstOf}
 use Rattle.base.proofs.Back.{by-values}
 use Rattle.tool_line.specs.Line.{point, farPoint}
-use Rattle.tool_brush.specs.Given.{cornerChecks}
+use Rattle.tool_stamp.specs.Given.{cornerChecks}
 use borrow.Author.Needs.{needs}
 use Rattle.tool_draw.proofs.calls.corners_no.Statement.{statement}
 use Rattle.tool_draw.proofs.calls.corners_no.Tie as tie

@@ -10,13 +10,13 @@ use Rattle.base.proofs.Back.{by-value}
 use Rattle.sheet.specs.Sheet.{Sheet, sheetOf}
 use Rattle.tool_line.specs.Line.{point}
 use Rattle.tool_line.specs.Brush.{stamped}
-use Rattle.tool_brush.specs.Points.{pencilOf}
-use Rattle.tool_brush.specs.Given.{cornerChecks}
-use Rattle.tool_brush.specs.Reached.{Holds}
+use Rattle.tool_stamp.specs.Points.{pencilOf}
+use Rattle.tool_stamp.specs.Given.{cornerChecks}
+use Rattle.tool_reach.specs.Reached.{Holds}
 use Rattle.tool_draw.specs.Calls.{stageOf, lineCall}
-use Rattle.tool_brush.proofs.Stamps.{brush-clamped, near-close}
-use Rattle.tool_brush.proofs.Paths.{corners-near, stamped-places}
-use Rattle.tool_brush.proofs.Reached.{stamped-again}
+use Rattle.tool_stamp.proofs.Stamps.{brush-clamped, near-close}
+use Rattle.tool_reach.proofs.Paths.{corners-near, stamped-places}
+use Rattle.tool_reach.proofs.Reached.{stamped-again}
 use Rattle.tool_draw.proofs.Staging.{Ready, ready, ready-fits, ready-rows, refused, answered}
 use Rattle.change_list.proofs.InScratch.{scratch-none, scratch-then}
 use borrow.Author.Needs.{needs}

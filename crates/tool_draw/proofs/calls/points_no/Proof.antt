@@ -1,6 +1,6 @@
 -- `points_no`: each test is the check in its place. Assumes nothing.
 use mathlib.Core.Path.{sym, _∙_}
-use Rattle.tool_brush.proofs.Paths.{points-long, points-far, points-fine}
+use Rattle.tool_reach.proofs.Paths.{points-long, points-far, points-fine}
 use borrow.Author.Needs.{needs}
 use Rattle.tool_draw.proofs.calls.points_no.Statement.{statement}
 use Rattle.tool_draw.proofs.calls.points_no.Tie as tie

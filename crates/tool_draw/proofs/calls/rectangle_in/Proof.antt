@@ -8,9 +8,9 @@ use mir.Facts.{toZ-ofZ}
 use Rattle.base.proofs.Back.{by-value}
 use Rattle.sheet.specs.Sheet.{Sheet, sheetOf}
 use Rattle.tool_line.specs.Line.{point}
-use Rattle.tool_brush.specs.Points.{rectanglePoints, rectangleOf}
-use Rattle.tool_brush.specs.Given.{cornerChecks}
-use Rattle.tool_brush.specs.Reached.{Holds}
+use Rattle.tool_stamp.specs.Points.{rectanglePoints, rectangleOf}
+use Rattle.tool_stamp.specs.Given.{cornerChecks}
+use Rattle.tool_reach.specs.Reached.{Holds}
 use Rattle.tool_draw.specs.Calls.{stageOf, rectangleCall}
 use Rattle.tool_draw.proofs.Staging.{Ready, ready, ready-fits, ready-rows, refused, answered}
 use Rattle.change_list.proofs.InScratch.{scratch-none, scratch-then}

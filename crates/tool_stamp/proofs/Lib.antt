@@ -1,0 +1,5 @@
+pub mod Painted
+pub mod Clipping
+pub mod Fitting
+pub mod Frames
+pub mod Stamps
