@@ -100,7 +100,7 @@ COUNTING = {
     'Counted': ('change_list::count_of', 'countOf'),
     'Shifted': ('tool_move::shifted_count', 'shiftedCount'),
     'Removal': ('struct_palette::removing::removal_count', 'removalCount'),
-    'MadeOp': ('change_stroke::made_count', 'madeCount'),
+    'MadeOp': ('change_op::made_count', 'madeCount'),
 }
 
 
@@ -202,7 +202,7 @@ def fits(flat):
 
 OP = LISTS + words('''
 struct_change proofs Packing told
-change_stroke specs Op normalizeCall made madeCount pixelsCall
+change_op specs Op normalizeCall made madeCount pixelsCall
 ''')
 
 

@@ -1,4 +1,4 @@
-// The calls of `tool_line` and `change_stroke`.
+// The calls of `tool_line`, `change_op` and `change_stroke`.
 use crate::flat::NO_EDIT;
 use crate::flat::edit_of;
 use crate::flat::is_edit;
@@ -28,7 +28,7 @@ pub extern "C" fn call_normalize(
     out: &mut [u64],
     r: &mut [usize; 5],
 ) -> u8 {
-    tell_count(change_stroke::normalize(list, scratch, out), r)
+    tell_count(change_op::normalize(list, scratch, out), r)
 }
 
 // An edit and how many changes it has: r[1] is the count.
@@ -54,7 +54,7 @@ pub extern "C" fn call_pixels(
     r: &mut [usize; 5],
 ) -> u8 {
     tell_made(
-        change_stroke::pixels(tool, list, scratch, out),
+        change_op::pixels(tool, list, scratch, out),
         bytes,
         doubles,
         r,
@@ -72,7 +72,7 @@ pub extern "C" fn call_is_empty(
     if !is_edit(bytes) {
         return NO_EDIT;
     }
-    match change_stroke::is_empty(edit_of(bytes, index, doubles), list) {
+    match change_op::is_empty(edit_of(bytes, index, doubles), list) {
         Truth::Is(b) => {
             r[0] = if b { 1 } else { 0 };
             0
@@ -86,7 +86,7 @@ pub extern "C" fn call_kind(bytes: &[u8; 8], index: usize, doubles: &[f64; 3]) -
     if !is_edit(bytes) {
         return NO_EDIT;
     }
-    change_stroke::kind(edit_of(bytes, index, doubles))
+    change_op::kind(edit_of(bytes, index, doubles))
 }
 
 #[no_mangle]

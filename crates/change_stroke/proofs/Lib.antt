@@ -1,3 +1,2 @@
-pub mod Normalizing
 pub mod Extending
 pub mod Reading

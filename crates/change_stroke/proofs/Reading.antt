@@ -12,7 +12,7 @@ use Rattle.base.specs.Checks.{_when_, firstOf}
 use Rattle.base.specs.Answer.Told.{result, alone}
 use Rattle.base.proofs.First.{refused-first, result-first, past}
 use Rattle.base.specs.declared.MadeOp.the-variants as made-of
-use Rattle.change_stroke.specs.Op.{MadeList, made, pixelsCall}
+use Rattle.change_op.specs.Op.{MadeList, made, pixelsCall}
 use Rattle.change_stroke.specs.Stroke.{strokeChecks, changesOf, intoOpCall}
 
 module _ (count places : ℕ) where

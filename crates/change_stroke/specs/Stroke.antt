@@ -11,7 +11,7 @@ use Rattle.base.specs.Answer.Told.{result, alone}
 use Rattle.edit.specs.Change.{Change, unpacked}
 use Rattle.change_list.specs.Listed.{listed}
 use Rattle.change_normal.specs.Normal.{normalizeOf}
-use Rattle.change_stroke.specs.Op.{MadeList, making, pixelsCall}
+use Rattle.change_op.specs.Op.{MadeList, making, pixelsCall}
 
 -- `self.changes.extend(changes); self.changes = normalize(..)`
 unfoldable pub extended : List Change → List Change → List Change

@@ -1,8 +1,6 @@
 // `Stroke` of tools.rs: the changes of a drag, event by event, in a lent buffer. After each event the front of the
 // buffer is the normal form of what it was and then the event's list, so that normalising goes on step by step.
 use crate::Stroke;
-use crate::made_count;
-use crate::pixels_in;
 use base::Counted;
 use base::LIST_TOO_LONG;
 use base::MAX_CHANGES;
@@ -12,11 +10,13 @@ use change_list::copy_out;
 use change_list::count_of;
 use change_list::counted;
 use change_normal::normalize_joined;
+use change_op::made_count;
+use change_op::pixels_in;
 ghost use mathlib.Core.Path.{_≡_};
 ghost use lib.ListN.{length};
 ghost use Rattle.base.specs.Checks.{firstOf};
 ghost use Rattle.base.specs.Answer.{countedTold, filled};
-ghost use Rattle.change_stroke.specs.Op.{made};
+ghost use Rattle.change_op.specs.Op.{made};
 ghost use Rattle.change_stroke.specs.Stroke.{extendChecks, extendCall, strokeChecks, changesOf, intoOpCall};
 
 // The number of the first check of an extension that applies, or 0: 21 of either list, then 16 for a count that

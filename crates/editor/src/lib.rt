@@ -29,13 +29,13 @@ pub use palette::nearest_other;
 pub use palette::remove_entry;
 pub use palette::set_color;
 // op.rs, and tools.rs from a list to an edit; a stroke's other calls are methods of `Stroke`
+pub use change_op::is_empty;
+pub use change_op::kind;
+pub use change_op::normalize;
+pub use change_op::normalize_in;
+pub use change_op::pixels;
+pub use change_op::pixels_in;
 pub use change_stroke::extend;
-pub use change_stroke::is_empty;
-pub use change_stroke::kind;
-pub use change_stroke::normalize;
-pub use change_stroke::normalize_in;
-pub use change_stroke::pixels;
-pub use change_stroke::pixels_in;
 // tools.rs
 pub use tool_clip::clip_rgba;
 pub use tool_clip::copy;

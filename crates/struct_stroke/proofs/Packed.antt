@@ -13,8 +13,8 @@ use Rattle.base.specs.Answer.{filled, Told, leaving, countTold}
 use Rattle.base.specs.declared.Counted.the-variants.{Refused}
 use Rattle.change_list.specs.Listed.{InScratch}
 use Rattle.change_list.proofs.InScratch.{scratch-none, scratch-then}
-use Rattle.change_stroke.specs.Op.{normalizeChecks, normalizeCall}
-use Rattle.change_stroke.proofs.Normalizing.{normalize-long, normalize-short}
+use Rattle.change_op.specs.Op.{normalizeChecks, normalizeCall}
+use Rattle.change_op.proofs.Normalizing.{normalize-long, normalize-short}
 
 -- what has n places has them where the lesser has
 least-test : (a b n : ℕ) → n ≤ a → ltb b n ≡ ltb (min a b) n

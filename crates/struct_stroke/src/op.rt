@@ -8,9 +8,9 @@ use base::MadeOp;
 use base::NO_SPACE;
 use base::min_usize;
 use change_list::count_of;
-use change_stroke::made_count;
-use change_stroke::normalize_in;
-use change_stroke::pixels_of;
+use change_op::made_count;
+use change_op::normalize_in;
+use change_op::pixels_of;
 use struct_change::pack;
 use struct_change::unpack;
 ghost use mathlib.Core.Path.{_≡_};
@@ -20,7 +20,7 @@ ghost use lib.ListN.{length, take};
 ghost use Rattle.base.specs.Answer.{filled};
 ghost use Rattle.change_list.specs.Listed.{countOf, InScratch};
 ghost use Rattle.struct_change.specs.Struct.{packedOf};
-ghost use Rattle.change_stroke.specs.Op.{normalizeCall, made, madeCount, pixelsCall};
+ghost use Rattle.change_op.specs.Op.{normalizeCall, made, madeCount, pixelsCall};
 
 // The normal form of n changes, left in the scratch, where flat has their numbers as far as it has places; 16 where
 // it has fewer.
@@ -51,7 +51,7 @@ fn pixels_packed(tool: u8, flat: &[u64], n: usize, scratch: &mut [u64], room: us
     pixels_of(tool, normalize_packed(flat, n, scratch, room))
 }
 
-// `change_stroke::normalize`. Both buffers of numbers have a place a change; with fewer the answer is 16.
+// `change_op::normalize`. Both buffers of numbers have a place a change; with fewer the answer is 16.
 pub fn normalize(
     list: &[Change],
     flat: &mut [u64],
@@ -75,7 +75,7 @@ pub fn normalize(
     r
 }
 
-// `change_stroke::pixels`, likewise.
+// `change_op::pixels`, likewise.
 pub fn pixels(
     tool: u8,
     list: &[Change],

@@ -54,7 +54,7 @@ use Rattle.struct_change.specs.Struct.{packedOf}
 use Rattle.change_list.specs.Listed.{countOf, InScratch}
 use Rattle.change_list.proofs.InScratch.{copy-fits, copied}
 use Rattle.struct_change.proofs.Packing.{told}
-use Rattle.change_stroke.specs.Op.{normalizeCall}
+use Rattle.change_op.specs.Op.{normalizeCall}
 use Rattle.base.proofs.min_usize as Lesser-f
 use Rattle.base.proofs.min_usize.Symbol as Lesser-def
 use Rattle.base.proofs.min_usize.Symbol.{name as #base·min-usize}

@@ -53,7 +53,7 @@ use Rattle.struct_change.specs.Struct.{packedOf}
 use Rattle.change_list.specs.Listed.{InScratch}
 use Rattle.change_list.proofs.InScratch.{copy-fits, copied}
 use Rattle.struct_change.proofs.Packing.{told}
-use Rattle.change_stroke.specs.Op.{made, madeCount, pixelsCall}
+use Rattle.change_op.specs.Op.{made, madeCount, pixelsCall}
 use Rattle.base.proofs.min_usize as Lesser-f
 use Rattle.base.proofs.min_usize.Symbol as Lesser-def
 use Rattle.base.proofs.min_usize.Symbol.{name as #base·min-usize}
@@ -66,10 +66,10 @@ use Rattle.struct_stroke.proofs.op.pixels_packed as Core-f
 use Rattle.struct_stroke.proofs.op.pixels_packed.Symbol as Core-def
 use Rattle.struct_stroke.proofs.op.pixels_packed.Symbol.{name as #struct_stroke·op·pixels-packed}
 use Rattle.struct_stroke.proofs.op.pixels_packed.Met as Core-thm
-use Rattle.change_stroke.proofs.made_count as Counting-f
-use Rattle.change_stroke.proofs.made_count.Symbol as Counting-def
-use Rattle.change_stroke.proofs.made_count.Symbol.{name as #change_stroke·made-count}
-use Rattle.change_stroke.proofs.made_count.Met as Counting-thm
+use Rattle.change_op.proofs.made_count as Counting-f
+use Rattle.change_op.proofs.made_count.Symbol as Counting-def
+use Rattle.change_op.proofs.made_count.Symbol.{name as #change_op·made-count}
+use Rattle.change_op.proofs.made_count.Met as Counting-thm
 use Rattle.struct_change.proofs.unpack as Unpacking-f
 use Rattle.struct_change.proofs.unpack.Symbol as Unpacking-def
 use Rattle.struct_change.proofs.unpack.Symbol.{name as #struct_change·unpack}
@@ -193,7 +193,7 @@ module _ {M : Type 1} (𝓤 : URA M) (H : Heap 𝓤) (A : Atoms 𝓤) (W : Given
   fits : (m : ℕ) → m ≡ min (length list) (length flat) → (m ≤ length list) × (m ≤ length flat)
   fits m e = (omega arith, omega arith)
 
-  module _ (C : Calls 𝓤 H) (Λ : Loops 𝓤 H) (fm : FmC 𝓤 H (W .laws) C) (known-Lesser : Triple 𝓤 (C #base·min-usize) (Lesser 𝓤 H A at-mem run)) (known-Packing : Triple 𝓤 (C #struct_change·pack) (Packing 𝓤 H A at-mem run)) (known-Core : Triple 𝓤 (C #struct_stroke·op·pixels-packed) (Core 𝓤 H A at-mem run)) (known-Counting : Triple 𝓤 (C #change_stroke·made-count) (Counting 𝓤 H A at-mem run)) (known-Unpacking : Triple 𝓤 (C #struct_change·unpack) (Unpacking 𝓤 H A at-mem run)) where
+  module _ (C : Calls 𝓤 H) (Λ : Loops 𝓤 H) (fm : FmC 𝓤 H (W .laws) C) (known-Lesser : Triple 𝓤 (C #base·min-usize) (Lesser 𝓤 H A at-mem run)) (known-Packing : Triple 𝓤 (C #struct_change·pack) (Packing 𝓤 H A at-mem run)) (known-Core : Triple 𝓤 (C #struct_stroke·op·pixels-packed) (Core 𝓤 H A at-mem run)) (known-Counting : Triple 𝓤 (C #change_op·made-count) (Counting 𝓤 H A at-mem run)) (known-Unpacking : Triple 𝓤 (C #struct_change·unpack) (Unpacking 𝓤 H A at-mem run)) where
     walk : ent 𝓤 (onEntry 𝓤 H A f.signature (κ₀, (κ₁, (κ₂, (κ₃, tt)))) (q₀, (q₁, (q₂, (q₃, tt)))) a vals) (WpFn 𝓤 H C Λ code.function (vint w8 tool ∷ sliceVal (list-b, list-o) (length list) ∷ sliceVal (flat-b, flat-o) (length flat) ∷ sliceVal (scratch-b, scratch-o) (length scratch) ∷ sliceVal (out-b, out-o) (length out) ∷ []) Post)
     walk =
         qed W ((‵ (flft κ₀ q₀) ⊛ ‵ (flft κ₁ q₁) ⊛ ‵ (flft κ₂ q₂) ⊛ ‵ (flft κ₃ q₃) ⊛ ‵ ftrue) ∷ ‵ (owns (u8 ∷ ShrSlice (named 0) κ₀ Change-T.the-row ∷ MutSlice (named 1) κ₁ u64 ∷ MutSlice (named 2) κ₂ u64 ∷ MutSlice (named 3) κ₃ Change-T.the-row ∷ []) a vals) ∷ []) ∵ enter ! C Λ code.function (vint w8 tool ∷ sliceVal (list-b, list-o) (length list) ∷ sliceVal (flat-b, flat-o) (length flat) ∷ sliceVal (scratch-b, scratch-o) (length scratch) ∷ sliceVal (out-b, out-o) (length out) ∷ []) _ $
@@ -290,13 +290,13 @@ module _ {M : Type 1} (𝓤 : URA M) (H : Heap 𝓤) (A : Atoms 𝓤) (W : Given
         keep ! (15 ∷ 13 ∷ 8 ∷ 9 ∷ 0 ∷ 1 ∷ 4 ∷ 2 ∷ []) $ by ! (exits (r₃) (z₂ .1 .1 .0) (z₃ .1 .1 .1 .0) (z₅ .1 .1 .0) (copied (told (λ i. pixelsCall tool (min i (length scratch))) (map packedOf list) flat (z₂ .1 .1 .0) (z₃ .1 .1 .1 .0) (length list) r₁ e₃ (length-map list packedOf) e₁ l₂-flat e₂) e₄ (map packedOf out) (sym (length-map out packedOf)) e₅, l₂-flat, l₃-scratch) (l₂-flat) (l₃-scratch) (l₅-out) (subst (λ (u : List Val). Is MadeOp-T.the-row r₃ u) (EL.tells MadeOp-T.the-type MadeOp-T′.the-laws r₃ _ is₃) is₃))))))))))))))))))))))))))))))))))))))))))))))))))))))))))))
 
 module _ {M : Type 1} (𝓤 : URA M) (H : Heap 𝓤) (A : Atoms 𝓤) (W : Given 𝓤 H A) (mem : Memory → SProp 𝓤) (run : Routine → Fun 𝓤) where
-  pixels-walks : (C : Calls 𝓤 H) (Λ : Loops 𝓤 H) → FmC 𝓤 H (W .laws) C → Triple 𝓤 (C #base·min-usize) (Lesser 𝓤 H A mem run) → Triple 𝓤 (C #struct_change·pack) (Packing 𝓤 H A mem run) → Triple 𝓤 (C #struct_stroke·op·pixels-packed) (Core 𝓤 H A mem run) → Triple 𝓤 (C #change_stroke·made-count) (Counting 𝓤 H A mem run) → Triple 𝓤 (C #struct_change·unpack) (Unpacking 𝓤 H A mem run) → Walks 𝓤 H A f.ended stayed (WpFn 𝓤 H C Λ code.function) (f.clauses 𝓤 H A mem run)
+  pixels-walks : (C : Calls 𝓤 H) (Λ : Loops 𝓤 H) → FmC 𝓤 H (W .laws) C → Triple 𝓤 (C #base·min-usize) (Lesser 𝓤 H A mem run) → Triple 𝓤 (C #struct_change·pack) (Packing 𝓤 H A mem run) → Triple 𝓤 (C #struct_stroke·op·pixels-packed) (Core 𝓤 H A mem run) → Triple 𝓤 (C #change_op·made-count) (Counting 𝓤 H A mem run) → Triple 𝓤 (C #struct_change·unpack) (Unpacking 𝓤 H A mem run) → Walks 𝓤 H A f.ended stayed (WpFn 𝓤 H C Λ code.function) (f.clauses 𝓤 H A mem run)
   pixels-walks C Λ fm known-Lesser known-Packing known-Core known-Counting known-Unpacking = walked 𝓤 H A f.ended stayed (f.clauses 𝓤 H A mem run) (WpFn 𝓤 H C Λ code.function)
       (λ κs. (uint-vals w8, (slice-vals, (slice-vals, (slice-vals, (slice-vals, tt)))))) (λ κs. (uint-tells w8, (shr-slice-tells (named 0) (κs .0) Change-T.the-row, (mut-slice-tells (named 1) (κs .1 .0) u64, (mut-slice-tells (named 2) (κs .1 .1 .0) u64, (mut-slice-tells (named 3) (κs .1 .1 .1 .0) Change-T.the-row, tt))))))
       (λ κs qs bounds a g are. via 𝓤 _ (fst∗ 𝓤 _ (emp 𝓤))
       (walk 𝓤 H A W mem run (κs .0) (κs .1 .0) (κs .1 .1 .0) (κs .1 .1 .1 .0) (qs .0) (qs .1 .0) (qs .1 .1 .0) (qs .1 .1 .1 .0) (a .0) (a .1 .0 .ptr .0) (a .1 .0 .ptr .1) (a .1 .0 .name) (a .1 .0 .now) (a .1 .1 .0 .ptr .0) (a .1 .1 .0 .ptr .1) (a .1 .1 .0 .name) (a .1 .1 .0 .now) (a .1 .1 .1 .0 .ptr .0) (a .1 .1 .1 .0 .ptr .1) (a .1 .1 .1 .0 .name) (a .1 .1 .1 .0 .now) (a .1 .1 .1 .1 .0 .ptr .0) (a .1 .1 .1 .1 .0 .ptr .1) (a .1 .1 .1 .1 .0 .name) (a .1 .1 .1 .1 .0 .now) (are .0 .1) (are .1 .0 .0 .1) (are .1 .1 .0 .0 .1) (are .1 .1 .1 .0 .0 .1) (are .1 .1 .1 .1 .0 .0 .1) C Λ fm known-Lesser known-Packing known-Core known-Counting known-Unpacking))
 
-pixels-meets : {M : Type 1} (𝓤 : URA M) (H : Heap 𝓤) (A : Atoms 𝓤) → Given 𝓤 H A → (mem : Memory → SProp 𝓤) (run : Routine → Fun 𝓤) (𝓣 : Tables 𝓤 H) → Triple 𝓤 (𝓣 .C #base·min-usize) (Lesser 𝓤 H A mem run) → Triple 𝓤 (𝓣 .C #struct_change·pack) (Packing 𝓤 H A mem run) → Triple 𝓤 (𝓣 .C #struct_stroke·op·pixels-packed) (Core 𝓤 H A mem run) → Triple 𝓤 (𝓣 .C #change_stroke·made-count) (Counting 𝓤 H A mem run) → Triple 𝓤 (𝓣 .C #struct_change·unpack) (Unpacking 𝓤 H A mem run) → Meets 𝓤 H A f.signature (WpFn 𝓤 H (𝓣 .C) (𝓣 .Λ) code.function) (f.spec 𝓤 H A mem run)
+pixels-meets : {M : Type 1} (𝓤 : URA M) (H : Heap 𝓤) (A : Atoms 𝓤) → Given 𝓤 H A → (mem : Memory → SProp 𝓤) (run : Routine → Fun 𝓤) (𝓣 : Tables 𝓤 H) → Triple 𝓤 (𝓣 .C #base·min-usize) (Lesser 𝓤 H A mem run) → Triple 𝓤 (𝓣 .C #struct_change·pack) (Packing 𝓤 H A mem run) → Triple 𝓤 (𝓣 .C #struct_stroke·op·pixels-packed) (Core 𝓤 H A mem run) → Triple 𝓤 (𝓣 .C #change_op·made-count) (Counting 𝓤 H A mem run) → Triple 𝓤 (𝓣 .C #struct_change·unpack) (Unpacking 𝓤 H A mem run) → Meets 𝓤 H A f.signature (WpFn 𝓤 H (𝓣 .C) (𝓣 .Λ) code.function) (f.spec 𝓤 H A mem run)
 pixels-meets 𝓤 H A W mem run 𝓣 known-Lesser known-Packing known-Core known-Counting known-Unpacking =
     walk-meets 𝓤 H A f.ended stayed W (goes-none 𝓤 H A W 4 (λ _. u8) yes (λ κs x f. refl), (goes-none-slice 𝓤 H A W 4 (0 ∷ []) tt (plain (λ _. Change-T.the-row)) yes, (goes-slice 𝓤 H A W 4 1 tt (plain (λ _. u64)), (goes-slice 𝓤 H A W 4 2 tt (plain (λ _. u64)), (goes-gave-slice 𝓤 H A W 4 3 tt (plain (λ _. Change-T.the-row)), tt))))) (f.clauses 𝓤 H A mem run)
     (WpFn 𝓤 H (𝓣 .C) (𝓣 .Λ) code.function) (WpFn-mono 𝓤 H (W .laws) 𝓣 code.function) (pixels-walks 𝓤 H A W mem run (𝓣 .C) (𝓣 .Λ) (fmOf 𝓤 H (W .laws) 𝓣) known-Lesser known-Packing known-Core known-Counting known-Unpacking)
@@ -310,5 +310,5 @@ pixels-spec 𝓤 H 𝓜 𝓖 𝓡 =
     (cited 𝓤 H (Lesser 𝓤 H (𝓖 .A) (𝓜 .mem) (𝓡 .run)) 𝓜 𝓡 code.env #base·min-usize Lesser-def.routine code.calls-base·min-usize (Lesser-thm.met 𝓤 H 𝓜 𝓖 𝓡))
     (cited 𝓤 H (Packing 𝓤 H (𝓖 .A) (𝓜 .mem) (𝓡 .run)) 𝓜 𝓡 code.env #struct_change·pack Packing-def.routine code.calls-struct-change·pack (Packing-thm.met 𝓤 H 𝓜 𝓖 𝓡))
     (cited 𝓤 H (Core 𝓤 H (𝓖 .A) (𝓜 .mem) (𝓡 .run)) 𝓜 𝓡 code.env #struct_stroke·op·pixels-packed Core-def.routine code.calls-struct-stroke·op·pixels-packed (Core-thm.met 𝓤 H 𝓜 𝓖 𝓡))
-    (cited 𝓤 H (Counting 𝓤 H (𝓖 .A) (𝓜 .mem) (𝓡 .run)) 𝓜 𝓡 code.env #change_stroke·made-count Counting-def.routine code.calls-change-stroke·made-count (Counting-thm.met 𝓤 H 𝓜 𝓖 𝓡))
+    (cited 𝓤 H (Counting 𝓤 H (𝓖 .A) (𝓜 .mem) (𝓡 .run)) 𝓜 𝓡 code.env #change_op·made-count Counting-def.routine code.calls-change-op·made-count (Counting-thm.met 𝓤 H 𝓜 𝓖 𝓡))
     (cited 𝓤 H (Unpacking 𝓤 H (𝓖 .A) (𝓜 .mem) (𝓡 .run)) 𝓜 𝓡 code.env #struct_change·unpack Unpacking-def.routine code.calls-struct-change·unpack (Unpacking-thm.met 𝓤 H 𝓜 𝓖 𝓡)))

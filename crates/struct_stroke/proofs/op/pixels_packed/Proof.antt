@@ -1,5 +1,5 @@
 -- `pixels_packed`: by what `normalize_packed` answers. Assumes nothing.
-use Rattle.change_stroke.proofs.Normalizing.{pixels-in}
+use Rattle.change_op.proofs.Normalizing.{pixels-in}
 use borrow.Author.Needs.{needs}
 use Rattle.struct_stroke.proofs.op.pixels_packed.Statement.{statement}
 use Rattle.struct_stroke.proofs.op.pixels_packed.Tie as tie

@@ -1,4 +1,7 @@
 // `normalize` and what else op.rs asks of an edit and its list.
+//
+// A list of changes is lent as one number of 64 bits a change, and so is the scratch, whose contents are free
+// before and after the call.
 use base::Counted;
 use base::Edit;
 use base::LIST_TOO_LONG;
@@ -14,7 +17,7 @@ ghost use lib.ListN.{length};
 ghost use Rattle.base.specs.Answer.{countedTold, filled, truthTold, madeOpTold};
 ghost use Rattle.journal_record.specs.Found.{kindOf};
 ghost use Rattle.change_list.specs.Listed.{countOf, InScratch};
-ghost use Rattle.change_stroke.specs.Op.{normalizeCall, made, madeCount, pixelsOf, pixelsCall, isEmptyOf};
+ghost use Rattle.change_op.specs.Op.{normalizeCall, made, madeCount, pixelsOf, pixelsCall, isEmptyOf};
 
 // The normal form of a list, left at the front of the scratch for a buffer of `room` places: in order by y, then
 // x, with the first old and the last new of each place, and without what changes nothing.

@@ -1,8 +1,8 @@
 -- `pixels_of`: by what was counted. Assumes nothing.
-use Rattle.change_stroke.specs.Op.{pixelsOf}
+use Rattle.change_op.specs.Op.{pixelsOf}
 use borrow.Author.Needs.{needs}
-use Rattle.change_stroke.proofs.op.pixels_of.Statement.{statement}
-use Rattle.change_stroke.proofs.op.pixels_of.Tie as tie
+use Rattle.change_op.proofs.pixels_of.Statement.{statement}
+use Rattle.change_op.proofs.pixels_of.Tie as tie
 
 enum-known-counted : tie.Need-enum-known-counted
 enum-known-counted c = search needs

@@ -2,8 +2,8 @@
 use mathlib.Core.Path.{refl}
 use Rattle.change_list.proofs.InScratch.{copied}
 use borrow.Author.Needs.{needs}
-use Rattle.change_stroke.proofs.op.pixels.Statement.{statement}
-use Rattle.change_stroke.proofs.op.pixels.Tie as tie
+use Rattle.change_op.proofs.pixels.Statement.{statement}
+use Rattle.change_op.proofs.pixels.Tie as tie
 
 pixels-in-requires : tie.Need-pixels-in-requires
 pixels-in-requires c κs = search needs

@@ -1,8 +1,8 @@
 -- `pixels_in`: by what `normalize_in` answers. Assumes nothing.
-use Rattle.change_stroke.proofs.Normalizing.{pixels-in}
+use Rattle.change_op.proofs.Normalizing.{pixels-in}
 use borrow.Author.Needs.{needs}
-use Rattle.change_stroke.proofs.op.pixels_in.Statement.{statement}
-use Rattle.change_stroke.proofs.op.pixels_in.Tie as tie
+use Rattle.change_op.proofs.pixels_in.Statement.{statement}
+use Rattle.change_op.proofs.pixels_in.Tie as tie
 
 normalize-in-requires : tie.Need-normalize-in-requires
 normalize-in-requires c κs = search needs

@@ -1,8 +1,8 @@
 -- `kind`: by kinds. Assumes nothing.
 use Rattle.journal_record.specs.Found.{kindOf}
 use borrow.Author.Needs.{needs}
-use Rattle.change_stroke.proofs.op.kind.Statement.{statement}
-use Rattle.change_stroke.proofs.op.kind.Tie as tie
+use Rattle.change_op.proofs.kind.Statement.{statement}
+use Rattle.change_op.proofs.kind.Tie as tie
 
 enum-told : tie.Need-enum-told
 enum-told c = search needs

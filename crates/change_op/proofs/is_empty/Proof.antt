@@ -1,10 +1,10 @@
 -- `is_empty`: 21, then the edit's, at the list's length. Assumes nothing.
 use lib.ListN.{length-map}
 use Rattle.edit.specs.Change.{unpacked}
-use Rattle.change_stroke.proofs.Normalizing.{empty-long, empty-told}
+use Rattle.change_op.proofs.Normalizing.{empty-long, empty-told}
 use borrow.Author.Needs.{needs}
-use Rattle.change_stroke.proofs.op.is_empty.Statement.{statement}
-use Rattle.change_stroke.proofs.op.is_empty.Tie as tie
+use Rattle.change_op.proofs.is_empty.Statement.{statement}
+use Rattle.change_op.proofs.is_empty.Tie as tie
 
 returns : tie.Need-returns
 returns c = empty-long _ _ (c .if1 .taken)

@@ -2,8 +2,8 @@
 use mathlib.Core.Path.{refl}
 use Rattle.change_list.proofs.InScratch.{copied}
 use borrow.Author.Needs.{needs}
-use Rattle.change_stroke.proofs.op.normalize.Statement.{statement}
-use Rattle.change_stroke.proofs.op.normalize.Tie as tie
+use Rattle.change_op.proofs.normalize.Statement.{statement}
+use Rattle.change_op.proofs.normalize.Tie as tie
 
 normalize-in-requires : tie.Need-normalize-in-requires
 normalize-in-requires c κs = search needs

@@ -1,10 +1,10 @@
 -- `normalize_in`: 21 and 16; then the normal form, left in the scratch. Assumes nothing.
 use Rattle.change_list.proofs.Fronts.{front-within}
 use Rattle.change_list.proofs.InScratch.{scratch-none, scratch-then}
-use Rattle.change_stroke.proofs.Normalizing.{normalize-long, normalize-short, normalize-done}
+use Rattle.change_op.proofs.Normalizing.{normalize-long, normalize-short, normalize-done}
 use borrow.Author.Needs.{needs}
-use Rattle.change_stroke.proofs.op.normalize_in.Statement.{statement}
-use Rattle.change_stroke.proofs.op.normalize_in.Tie as tie
+use Rattle.change_op.proofs.normalize_in.Statement.{statement}
+use Rattle.change_op.proofs.normalize_in.Tie as tie
 
 returns : tie.Need-returns
 returns c = (scratch-none (λ out e. normalize-long _ _ out (c .if1 .taken)), search needs)

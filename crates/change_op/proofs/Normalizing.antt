@@ -22,7 +22,7 @@ use Rattle.change_list.specs.Listed.{handed, InScratch}
 use Rattle.change_list.proofs.Handing.{listed-refused, listed-done}
 use Rattle.change_list.proofs.InScratch.{scratch-then}
 use Rattle.change_normal.specs.Normal.{normalizeOf, normalPacked}
-use Rattle.change_stroke.specs.Op.{normalizeChecks, normalizeCall, making, pixelsOf, pixelsCall, isEmptyOf}
+use Rattle.change_op.specs.Op.{normalizeChecks, normalizeCall, making, pixelsOf, pixelsCall, isEmptyOf}
 
 module _ (room : ℕ) (list out : List ℕ) where
   pub normalize-long : maxChanges < length list → filled (Refused 21) out ≡ normalizeCall room list out
