@@ -1,6 +1,6 @@
 //! Times the proved calls beside the Rust original and prints three tables; `bench/run` builds and runs it.
 //!
-//! Ours is crates/c_exports, and crates/c_exports for loops over colours, as `rt staticlib` compiles them. `color_platform`
+//! Ours is crates/c_exports, which has the loops over colours, and crates/c_tools, as `rt staticlib` compiles them. `color_platform`
 //! and `color_exact` are one and the same color.rs of pixelforge, built over the two stand-ins for its `libm`;
 //! `pixelforge` has its editor. All get the same inputs, and the results are compared bit for bit: a difference from
 //! the exact build ends the run.

@@ -1,4 +1,4 @@
-//! Ours: crates/c_exports, as `rt staticlib` compiles it. A slice is handed over as its pointer and its length.
+//! Ours: crates/c_exports and crates/c_tools, as `rt staticlib` compiles them. A slice is handed over as its pointer and its length.
 
 /// Declares a C function and a safe function over slices. A pointer goes with its own slice's length, no two slices
 /// overlap, and the functions called are proved to stay inside.
@@ -21,6 +21,7 @@ macro_rules! ours {
         #[allow(clippy::too_many_arguments)]
         pub fn $name($($p)*) -> $ret {
             #[link(name = "c_exports", kind = "static")]
+            #[link(name = "c_tools", kind = "static")]
             extern "C" {
                 fn $name($($e)*) -> $ret;
             }
@@ -29,7 +30,7 @@ macro_rules! ours {
     };
 }
 
-/// Numbers of an answer; which they are stands at each call in crates/c_exports.
+/// Numbers of an answer; which they are stands at each call in crates/c_exports and crates/c_tools.
 pub type R<'a> = &'a mut [usize; 5];
 pub type S<'a> = &'a [u16; 4];
 pub type State<'a> = &'a mut [usize; 6];

@@ -1,9 +1,9 @@
 // The calls of `color`.
-use crate::flat::lab_of;
-use crate::flat::rgb_of;
-use crate::flat::tell_lab;
 use base::Found;
 use base::Root;
+use c_flat::lab_of;
+use c_flat::rgb_of;
+use c_flat::tell_lab;
 
 #[no_mangle]
 pub extern "C" fn call_linear(c: u8) -> f64 {

@@ -1,13 +1,13 @@
 // The calls of `history`. The palette count and the handle's five numbers go in and come back in a list of six.
-use crate::flat::NO_EDIT;
-use crate::flat::NONE;
-use crate::flat::edit_of;
-use crate::flat::is_edit;
-use crate::flat::tell_edit;
 use base::Handle;
 use base::Moved;
 use base::Next;
 use base::Truth;
+use c_flat::NO_EDIT;
+use c_flat::NONE;
+use c_flat::edit_of;
+use c_flat::is_edit;
+use c_flat::tell_edit;
 
 fn handle_of(state: &[usize; 6]) -> Handle {
     Handle {

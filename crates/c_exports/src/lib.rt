@@ -1,19 +1,15 @@
-// Every exported call of the repository under a plain C name, for compare/ and bench/. A wrapper makes one call, or one
-// of some of one shape, by a number: structs and enums come and go as numbers in small arrays, and what it returns is
-// document 01's number: 0 where there is an answer, 255 for "still", nothing or outside, else the refusal's own. What
-// the calls answer stands in their own contracts; of the wrappers it is proved that they are safe and end.
+// The calls of color.rs, document.rs, palette.rs and history.rs under plain C names, for compare/ and bench/; `c_tools` has
+// the others. A wrapper makes one call, or one of some of one shape, by a number: structs and enums come and go as numbers
+// in small arrays, and what it returns is document 01's number: 0 where there is an answer, 255 for "still", nothing or
+// outside, else the refusal's own. What the calls answer stands in their own contracts; of the wrappers it is proved that
+// they are safe and end.
 //
 // `bench` has what bench/driver.rs times of the colours: loops over slices, as many calls as there are inputs.
 mod bench;
 mod colours;
-mod drawn;
-mod flat;
 mod histories;
-mod listed;
 mod palettes;
-mod selections;
 mod sheets;
-mod tiled;
 
 pub use bench::bench_cbrt;
 pub use bench::bench_lab;
@@ -25,13 +21,6 @@ pub use colours::call_dist2;
 pub use colours::call_linear;
 pub use colours::call_nearest_index;
 pub use colours::call_rgb8_to_lab;
-pub use drawn::call_clip_rgba;
-pub use drawn::call_copy;
-pub use drawn::call_draw;
-pub use drawn::call_eyedropper;
-pub use drawn::call_move_selection;
-pub use drawn::call_paste;
-pub use drawn::call_snap_rgba;
 pub use histories::call_asked;
 pub use histories::call_fresh;
 pub use histories::call_mark_saved;
@@ -40,13 +29,6 @@ pub use histories::call_push;
 pub use histories::call_redo;
 pub use histories::call_replay;
 pub use histories::call_undo;
-pub use listed::call_bresenham;
-pub use listed::call_extend;
-pub use listed::call_is_empty;
-pub use listed::call_kind;
-pub use listed::call_normalize;
-pub use listed::call_pixels;
-pub use listed::call_stroke;
 pub use palettes::call_add_color;
 pub use palettes::call_check_color;
 pub use palettes::call_fixed_choices;
@@ -54,14 +36,6 @@ pub use palettes::call_merge_entries;
 pub use palettes::call_nearest_other;
 pub use palettes::call_remove_entry;
 pub use palettes::call_set_color;
-pub use selections::call_all;
-pub use selections::call_contains;
-pub use selections::call_contains_i;
-pub use selections::call_from_corners;
-pub use selections::call_grown;
-pub use selections::call_positions;
-pub use selections::call_region;
-pub use selections::call_translated;
 pub use sheets::call_any_stray_below;
 pub use sheets::call_check;
 pub use sheets::call_counts;
@@ -70,6 +44,3 @@ pub use sheets::call_get_at;
 pub use sheets::call_new;
 pub use sheets::call_permitted_no;
 pub use sheets::call_with_lab;
-pub use tiled::call_extract;
-pub use tiled::call_flip;
-pub use tiled::call_mirror_tiles;

@@ -1,11 +1,11 @@
 // The calls of `palette`. An edit that is made comes back as `tell_edit` writes it.
 use crate::colours::tell_found;
-use crate::flat::NONE;
-use crate::flat::rgb_of;
-use crate::flat::tell_edit;
 use base::Choices;
 use base::MadeEdit;
 use base::Removal;
+use c_flat::NONE;
+use c_flat::rgb_of;
+use c_flat::tell_edit;
 
 #[no_mangle]
 pub extern "C" fn call_check_color(limited: bool, permitted: &[u8], rgb: &[u8; 3]) -> u8 {

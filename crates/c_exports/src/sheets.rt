@@ -1,6 +1,6 @@
 // The calls of `sheet`, `sheet_counts` and `sheet_diff`.
-use crate::flat::tell_count;
-use crate::flat::tell_got;
+use c_flat::tell_count;
+use c_flat::tell_got;
 
 #[no_mangle]
 pub extern "C" fn call_check(

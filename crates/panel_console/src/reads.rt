@@ -8,11 +8,11 @@ use panel_input::GATHERED;
 use panel_input::HELD;
 use panel_input::Turn;
 use panel_streams::goes_on;
+use panel_streams::is_sound;
 use panel_streams::send;
 use std::num::wrapping_add_u64;
 ghost use mathlib.Core.Path.{_≡_};
 ghost use mathlib.Core.Bool.{true, false};
-ghost use lib.IntN.{pos};
 ghost use lib.ListN.{length, take};
 ghost use Rattle.panel_calls.specs.Lines.{chunkFed};
 ghost use Rattle.panel_calls.specs.Panel.{stepOf};
@@ -23,17 +23,6 @@ ghost use Rattle.panel_console.specs.Session.{Reads, Closed, Heard, Whol
 
 // Bytes that a read asks for.
 const CHUNK: usize = 4_096;
-
-// Whether a read that brought nothing did not fail: it is to be made again, or the input has ended.
-fn is_sound(got: isize, more: bool) -> bool
-    ensures { λ r. ⌜ (more ≡ true → r ≡ true) ⌝ }
-    ensures { λ r. ⌜ (more ≡ false → r ≡ true → got ≡ pos 0) ⌝ }
-{
-    if more {
-        return true;
-    }
-    got == 0
-}
 
 // Reads once, and answers what came, which stands at the front of `chunk` then. A read that failed for the moment only is
 // made again.

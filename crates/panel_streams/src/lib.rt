@@ -3,7 +3,7 @@ use libc::EAGAIN;
 use libc::EINTR;
 use libc::STDOUT_FILENO;
 ghost use mathlib.Core.Path.{_≡_};
-ghost use mathlib.Core.Bool.{false};
+ghost use mathlib.Core.Bool.{true, false};
 ghost use Prim.Native.Nat.{_+_, _≤_};
 ghost use lib.IntN.{pos};
 ghost use lib.ListN.{length};
@@ -33,6 +33,17 @@ pub fn goes_on(got: isize) -> bool
         return true;
     }
     error == EINTR
+}
+
+// Whether a read that brought nothing did not fail: it is to be made again, or the input has ended.
+pub fn is_sound(got: isize, more: bool) -> bool
+    ensures { λ r. ⌜ (more ≡ true → r ≡ true) ⌝ }
+    ensures { λ r. ⌜ (more ≡ false → r ≡ true → got ≡ pos 0) ⌝ }
+{
+    if more {
+        return true;
+    }
+    got == 0
 }
 
 // One write of the text's bytes from `from` on.

@@ -1,14 +1,4 @@
 // The calls that are given no sheet.
-use crate::answers::FREE;
-use crate::answers::of_chosen;
-use crate::answers::of_counted;
-use crate::answers::of_flag;
-use crate::answers::of_number;
-use crate::answers::of_op;
-use crate::answers::of_word;
-use crate::lists::extend;
-use crate::lists::normalize;
-use crate::lists::pixels;
 use base::Counted;
 use base::Edit;
 use base::Lab;
@@ -19,6 +9,13 @@ use change_stroke::Stroke;
 use selection::Chosen;
 use selection::Held;
 use selection::Selection;
+use test_answers::FREE;
+use test_answers::of_chosen;
+use test_answers::of_counted;
+use test_answers::of_flag;
+use test_answers::of_number;
+use test_answers::of_op;
+use test_answers::of_word;
 use test_inputs::Hand;
 use test_inputs::Outcome;
 use test_inputs::colour;
@@ -32,6 +29,9 @@ use test_inputs::mix_number;
 use test_inputs::mix_points;
 use test_inputs::mix_words;
 use test_inputs::told;
+use test_lists::extend;
+use test_lists::normalize;
+use test_lists::pixels;
 
 fn of_double(x: f64) -> Outcome {
     told(0, mix_doubles(mix_number(0), &[x]))
@@ -39,18 +39,18 @@ fn of_double(x: f64) -> Outcome {
 
 // The distance of two colours, which are now and then the same.
 fn dist2(a: Hand) -> f64 {
-    let p = editor::rgb8_to_lab(colour(a.seeds.colour));
-    let q = editor::rgb8_to_lab(colour(a.seeds.first));
-    editor::dist2(p, q)
+    let p = color::rgb8_to_lab(colour(a.seeds.colour));
+    let q = color::rgb8_to_lab(colour(a.seeds.first));
+    color::dist2(p, q)
 }
 
 fn rgb8_to_lab(a: Hand) -> Outcome {
-    let c = editor::rgb8_to_lab(colour(a.seeds.colour));
+    let c = color::rgb8_to_lab(colour(a.seeds.colour));
     told(0, mix_doubles(mix_number(0), &[c.l, c.a, c.b]))
 }
 
 fn cbrt(a: Hand) -> Outcome {
-    match editor::cbrt(a.choice.radicand) {
+    match color::cbrt(a.choice.radicand) {
         Root::Value(x) => told(0, mix_doubles(mix_number(0), &[x, 1.5, 1.5])),
         Root::Refused(no) => told(no, mix_doubles(mix_number(no), &[1.5, 1.5, 1.5])),
     }
@@ -73,7 +73,7 @@ fn permitted_no(a: Hand) -> u8 {
 
 fn check_color(a: Hand) -> u8 {
     let list = colours(a.seeds.listed);
-    editor::check_color(a.choice.limited, &list, colour(a.seeds.colour)).number()
+    palette::check_color(a.choice.limited, &list, colour(a.seeds.colour)).number()
 }
 
 fn any_stray_below(a: Hand) -> bool {
@@ -93,7 +93,7 @@ fn chosen(c: usize, a: Hand) -> Chosen {
         29 => Selection::from_corners(p.x, p.far_y, p.to_x, p.far_to_y, w, h),
         32 => p.part.translated(p.x, p.far_y, w, h),
         33 => p.part.grown(a.sides.margin, w, h),
-        _ => editor::region(area, w, h),
+        _ => selection::region(area, w, h),
     }
 }
 
@@ -115,7 +115,7 @@ fn positions(a: Hand) -> Outcome {
 fn bresenham(a: Hand) -> Outcome {
     let p = a.spot;
     let mut out = [0x5a5a_5a5ai32; 11];
-    let t = of_counted(editor::bresenham(p.x, p.y, p.to_x, p.to_y, &mut out));
+    let t = of_counted(tool_line::bresenham(p.x, p.y, p.to_x, p.to_y, &mut out));
     told(t.number, mix_points(t.print, &out))
 }
 
@@ -185,8 +185,8 @@ fn one_if(t: Truth) -> u64 {
 // Beside a list of one change, and of none.
 fn is_empty(a: Hand) -> Outcome {
     let e = edit(a);
-    let one = one_if(editor::is_empty(e, &[0]));
-    let none = one_if(editor::is_empty(e, &[]));
+    let one = one_if(change_op::is_empty(e, &[0]));
+    let none = one_if(change_op::is_empty(e, &[]));
     told(0, mix(mix(mix_number(0), one), none))
 }
 
@@ -239,7 +239,7 @@ fn flip(a: Hand) -> Outcome {
     let mut tile = [0i16; 4];
     let mut out = [0x5a5ai16; 5];
     fill_indices(a.seeds.seed, 3, &mut tile);
-    let flipped = editor::flip(
+    let flipped = tile_extract::flip(
         &tile,
         tile_side(a),
         a.spot.whole,
@@ -263,16 +263,16 @@ fn listed(c: usize, a: Hand) -> Outcome {
     }
 }
 
-pub(crate) fn bare_answer(c: usize, a: Hand) -> Outcome {
+pub fn bare_answer(c: usize, a: Hand) -> Outcome {
     match c {
         26 => rgb8_to_lab(a),
         27 => cbrt(a),
         28 | 29 | 32 | 33 | 35 => of_chosen(chosen(c, a)),
         30 => of_flag(a.spot.part.contains(a.spot.across, a.spot.down)),
         31 => contains_i(a),
-        40 => of_word(editor::kind(edit(a)) as u64),
+        40 => of_word(change_op::kind(edit(a)) as u64),
         43 => of_number(check_color(a)),
-        59 => of_double(editor::linear(a.choice.byte)),
+        59 => of_double(color::linear(a.choice.byte)),
         60 => of_double(dist2(a)),
         61 => of_number(permitted_no(a)),
         62 => of_flag(any_stray_below(a)),

@@ -1,17 +1,11 @@
 // The calls of a history in a journal. What a call moves on, the palette count and the handle, goes from call to call in
 // `base::Moved`.
-use crate::answers::of_next;
-use crate::answers::of_truth;
 use crate::bare::edit;
-use crate::lists::mark_saved;
-use crate::lists::push;
-use crate::lists::redo;
-use crate::lists::remove;
-use crate::lists::replay;
-use crate::lists::undo;
 use base::Handle;
 use base::Moved;
 use base::Removal;
+use test_answers::of_next;
+use test_answers::of_truth;
 use test_inputs::Hand;
 use test_inputs::Outcome;
 use test_inputs::colours;
@@ -22,6 +16,12 @@ use test_inputs::mix_indices;
 use test_inputs::mix_number;
 use test_inputs::mix_sizes;
 use test_inputs::told;
+use test_lists::mark_saved;
+use test_lists::push;
+use test_lists::redo;
+use test_lists::remove;
+use test_lists::replay;
+use test_lists::undo;
 
 // The number, and the palette count and the handle.
 pub fn told_state(no: u8, k: usize, s: Handle) -> Outcome {
@@ -202,12 +202,12 @@ pub fn change(
 // What is asked of the journal and the handle.
 pub fn look(c: usize, a: Hand, journal: &[u8], handle: Handle) -> Outcome {
     match c {
-        49 => of_truth(editor::is_dirty(journal, handle)),
-        50 => of_truth(editor::can_undo(journal, handle)),
-        51 => of_truth(editor::can_redo(journal, handle)),
-        52 => of_next(editor::next_undo(journal, handle)),
-        53 => of_next(editor::next_redo(journal, handle)),
-        _ => of_next(editor::applied(journal, handle, a.seeds.number)),
+        49 => of_truth(history_queries::is_dirty(journal, handle)),
+        50 => of_truth(history_queries::can_undo(journal, handle)),
+        51 => of_truth(history_queries::can_redo(journal, handle)),
+        52 => of_next(history_queries::next_undo(journal, handle)),
+        53 => of_next(history_queries::next_redo(journal, handle)),
+        _ => of_next(history_queries::applied(journal, handle, a.seeds.number)),
     }
 }
 

@@ -7,12 +7,11 @@
 mod names;
 
 use base::Moved;
-use test_calls::answer;
+use test_calls::bare_answer;
 use test_calls::change;
 use test_calls::damage;
 use test_calls::fresh;
 use test_calls::look;
-use test_calls::open;
 use test_calls::told_change;
 use test_calls::told_state;
 use test_inputs::Hand;
@@ -22,6 +21,8 @@ use test_inputs::deck;
 use test_inputs::fill_bytes;
 use test_inputs::fill_indices;
 use test_inputs::pick;
+use test_sheets::open;
+use test_sheets::over_sheet;
 
 // Inputs of each call, histories, and calls of each history.
 const EACH: u64 = 60;
@@ -38,6 +39,14 @@ fn print_line(c: usize, t: Outcome) {
     io::write_all(1, b" ");
     io::print_hex(1, t.print, 16);
     io::write_all(1, b"\n");
+}
+
+// A call that is no history's, by its number, on what is dealt.
+fn answer(c: usize, d: &[u64; 32]) -> Outcome {
+    match c {
+        26..=43 | 56 | 59..=62 => bare_answer(c, deal(d)),
+        _ => over_sheet(c, d),
+    }
 }
 
 // The line of a call on what is dealt from a seed.

@@ -1,11 +1,11 @@
 // The calls of `tool_draw`, `tool_flood_fill`, `tool_replace`, `tool_move` and `tool_clip`.
-use crate::flat::area_of;
-use crate::flat::part_of;
-use crate::flat::tell_chosen;
-use crate::flat::tell_count;
-use crate::flat::tell_got;
 use base::Copied;
 use base::Counted;
+use c_flat::area_of;
+use c_flat::part_of;
+use c_flat::tell_chosen;
+use c_flat::tell_count;
+use c_flat::tell_got;
 use selection::Area;
 use selection::Shifted;
 

@@ -1,9 +1,9 @@
 // The calls of `selection`.
-use crate::flat::NONE;
-use crate::flat::area_of;
-use crate::flat::part_of;
-use crate::flat::tell_chosen;
-use crate::flat::tell_count;
+use c_flat::NONE;
+use c_flat::area_of;
+use c_flat::part_of;
+use c_flat::tell_chosen;
+use c_flat::tell_count;
 use selection::Held;
 use selection::Selection;
 

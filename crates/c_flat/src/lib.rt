@@ -1,4 +1,5 @@
-// Structs and enums as numbers in small arrays, and back.
+// Structs and enums as numbers in small arrays, and back, for `c_exports` and `c_tools`. Of these functions it is proved that
+// they are safe and end.
 use base::Counted;
 use base::Edit;
 use base::Got;
@@ -9,9 +10,9 @@ use selection::Chosen;
 use selection::Selection;
 
 // No value: "still", nothing, outside, free.
-pub(crate) const NONE: u8 = 255;
+pub const NONE: u8 = 255;
 
-pub(crate) fn rgb_of(c: &[u8; 3]) -> Rgb {
+pub fn rgb_of(c: &[u8; 3]) -> Rgb {
     Rgb {
         r: c[0],
         g: c[1],
@@ -19,7 +20,7 @@ pub(crate) fn rgb_of(c: &[u8; 3]) -> Rgb {
     }
 }
 
-pub(crate) fn lab_of(c: &[f64; 3]) -> Lab {
+pub fn lab_of(c: &[f64; 3]) -> Lab {
     Lab {
         l: c[0],
         a: c[1],
@@ -27,7 +28,7 @@ pub(crate) fn lab_of(c: &[f64; 3]) -> Lab {
     }
 }
 
-pub(crate) fn part_of(s: &[u16; 4]) -> Selection {
+pub fn part_of(s: &[u16; 4]) -> Selection {
     Selection {
         x: s[0],
         y: s[1],
@@ -37,7 +38,7 @@ pub(crate) fn part_of(s: &[u16; 4]) -> Selection {
 }
 
 // All where the flag says so, else the part.
-pub(crate) fn area_of(whole: bool, s: &[u16; 4]) -> Area {
+pub fn area_of(whole: bool, s: &[u16; 4]) -> Area {
     if whole {
         Area::Whole
     } else {
@@ -46,16 +47,16 @@ pub(crate) fn area_of(whole: bool, s: &[u16; 4]) -> Area {
 }
 
 // What a wrapper returns for a kind that no edit has: none of document 01's numbers.
-pub(crate) const NO_EDIT: u8 = 254;
+pub const NO_EDIT: u8 = 254;
 
 // Whether the bytes are an edit's: of a kind from 1 to 4. Each wrapper asks it before `edit_of`.
-pub(crate) fn is_edit(bytes: &[u8; 8]) -> bool {
+pub fn is_edit(bytes: &[u8; 8]) -> bool {
     let kind = bytes[0];
     1 <= kind && kind <= 4
 }
 
 // An edit: kind, tool, old colour and new colour in bytes; its index; its LAB.
-pub(crate) fn edit_of(bytes: &[u8; 8], index: usize, doubles: &[f64; 3]) -> Edit {
+pub fn edit_of(bytes: &[u8; 8], index: usize, doubles: &[f64; 3]) -> Edit {
     let kind = bytes[0];
     let old = Rgb {
         r: bytes[2],
@@ -88,7 +89,7 @@ pub(crate) fn edit_of(bytes: &[u8; 8], index: usize, doubles: &[f64; 3]) -> Edit
     }
 }
 
-pub(crate) fn tell_lab(c: Lab, doubles: &mut [f64; 3]) {
+pub fn tell_lab(c: Lab, doubles: &mut [f64; 3]) {
     doubles[0] = c.l;
     doubles[1] = c.a;
     doubles[2] = c.b;
@@ -107,7 +108,7 @@ fn tell_new(c: Rgb, bytes: &mut [u8; 8]) {
 }
 
 // The edit as `edit_of` reads it, its index in r[0].
-pub(crate) fn tell_edit(e: Edit, bytes: &mut [u8; 8], doubles: &mut [f64; 3], r: &mut [usize; 5]) {
+pub fn tell_edit(e: Edit, bytes: &mut [u8; 8], doubles: &mut [f64; 3], r: &mut [usize; 5]) {
     match e {
         Edit::Pixels { tool } => {
             bytes[0] = 1;
@@ -138,14 +139,14 @@ pub(crate) fn tell_edit(e: Edit, bytes: &mut [u8; 8], doubles: &mut [f64; 3], r:
     }
 }
 
-pub(crate) fn tell_part(p: Selection, s: &mut [u16; 4]) {
+pub fn tell_part(p: Selection, s: &mut [u16; 4]) {
     s[0] = p.x;
     s[1] = p.y;
     s[2] = p.w;
     s[3] = p.h;
 }
 
-pub(crate) fn tell_chosen(c: Chosen, s: &mut [u16; 4]) -> u8 {
+pub fn tell_chosen(c: Chosen, s: &mut [u16; 4]) -> u8 {
     match c {
         Chosen::Part(p) => {
             tell_part(p, s);
@@ -156,7 +157,7 @@ pub(crate) fn tell_chosen(c: Chosen, s: &mut [u16; 4]) -> u8 {
     }
 }
 
-pub(crate) fn tell_count(c: Counted, r: &mut [usize; 5]) -> u8 {
+pub fn tell_count(c: Counted, r: &mut [usize; 5]) -> u8 {
     match c {
         Counted::Count(n) => {
             r[0] = n;
@@ -166,7 +167,7 @@ pub(crate) fn tell_count(c: Counted, r: &mut [usize; 5]) -> u8 {
     }
 }
 
-pub(crate) fn tell_got(g: Got, got: &mut [i16; 1]) -> u8 {
+pub fn tell_got(g: Got, got: &mut [i16; 1]) -> u8 {
     match g {
         Got::Index(i) => {
             got[0] = i;

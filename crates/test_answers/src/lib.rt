@@ -26,18 +26,18 @@ use test_inputs::told;
 // No value: "still", nothing, outside, free.
 const NONE: u8 = 255;
 
-pub(crate) const FREE: usize = 7777;
+pub const FREE: usize = 7777;
 
 // A number alone.
-pub(crate) fn of_number(no: u8) -> Outcome {
+pub fn of_number(no: u8) -> Outcome {
     told(no, mix_number(no))
 }
 
-pub(crate) fn of_word(word: u64) -> Outcome {
+pub fn of_word(word: u64) -> Outcome {
     told(0, mix(mix_number(0), word))
 }
 
-pub(crate) fn of_flag(b: bool) -> Outcome {
+pub fn of_flag(b: bool) -> Outcome {
     of_word(if b { 1 } else { 0 })
 }
 
@@ -51,21 +51,21 @@ fn of_none(no: u8) -> Outcome {
     of_two(no, FREE, FREE)
 }
 
-pub(crate) fn of_counted(c: Counted) -> Outcome {
+pub fn of_counted(c: Counted) -> Outcome {
     match c {
         Counted::Count(n) => of_two(0, n, FREE),
         Counted::Refused(no) => of_none(no),
     }
 }
 
-pub(crate) fn of_found(f: Found) -> Outcome {
+pub fn of_found(f: Found) -> Outcome {
     match f {
         Found::Entry(i) => of_two(0, i, FREE),
         Found::Refused(no) => of_none(no),
     }
 }
 
-pub(crate) fn of_choices(c: Choices) -> Outcome {
+pub fn of_choices(c: Choices) -> Outcome {
     match c {
         Choices::Free => of_none(NONE),
         Choices::Count(n) => of_two(0, n, FREE),
@@ -73,21 +73,21 @@ pub(crate) fn of_choices(c: Choices) -> Outcome {
     }
 }
 
-pub(crate) fn of_copied(c: Copied) -> Outcome {
+pub fn of_copied(c: Copied) -> Outcome {
     match c {
         Copied::Clip { w, h } => of_two(0, w, h),
         Copied::Refused(no) => of_none(no),
     }
 }
 
-pub(crate) fn of_extraction(e: Extraction) -> Outcome {
+pub fn of_extraction(e: Extraction) -> Outcome {
     match e {
         Extraction::Made { tiles, entries } => of_two(0, tiles, entries),
         Extraction::Refused(no) => of_none(no),
     }
 }
 
-pub(crate) fn of_truth(t: Truth) -> Outcome {
+pub fn of_truth(t: Truth) -> Outcome {
     match t {
         Truth::Is(b) => of_two(0, if b { 1 } else { 0 }, FREE),
         Truth::Refused(no) => of_none(no),
@@ -98,7 +98,7 @@ fn of_index(no: u8, index: i16) -> Outcome {
     told(no, mix_index(mix_number(no), index))
 }
 
-pub(crate) fn of_got(g: Got) -> Outcome {
+pub fn of_got(g: Got) -> Outcome {
     match g {
         Got::Index(i) => of_index(0, i),
         Got::Outside => of_index(NONE, 0x5a5a),
@@ -121,13 +121,13 @@ fn mix_chosen(print: u64, c: Chosen) -> u64 {
     }
 }
 
-pub(crate) fn of_chosen(c: Chosen) -> Outcome {
+pub fn of_chosen(c: Chosen) -> Outcome {
     let no = chosen_no(c);
     told(no, mix_chosen(mix_number(no), c))
 }
 
 // The count, what `chosen_no` says of the new selection, and that.
-pub(crate) fn of_shifted(s: Shifted) -> Outcome {
+pub fn of_shifted(s: Shifted) -> Outcome {
     match s {
         Shifted::Changes { count, selection } => {
             let t = of_two(0, count, chosen_no(selection) as usize);
@@ -199,14 +199,14 @@ fn of_no_edit(no: u8, beside: [usize; 4]) -> Outcome {
     of_plain(no, p, beside)
 }
 
-pub(crate) fn of_made(m: MadeEdit) -> Outcome {
+pub fn of_made(m: MadeEdit) -> Outcome {
     match m {
         MadeEdit::Edit(e) => of_edit(e, [FREE, FREE, FREE, FREE]),
         MadeEdit::Refused(no) => of_no_edit(no, [FREE, FREE, FREE, FREE]),
     }
 }
 
-pub(crate) fn of_removal(m: Removal) -> Outcome {
+pub fn of_removal(m: Removal) -> Outcome {
     match m {
         Removal::Made { edit, count } => of_edit(edit, [count, FREE, FREE, FREE]),
         Removal::Refused(no) => of_no_edit(no, [FREE, FREE, FREE, FREE]),
@@ -214,14 +214,14 @@ pub(crate) fn of_removal(m: Removal) -> Outcome {
 }
 
 // An edit that a list or a stroke was made to; of a stroke two counts are told beside it.
-pub(crate) fn of_op(m: MadeOp, fresh: usize, own: usize) -> Outcome {
+pub fn of_op(m: MadeOp, fresh: usize, own: usize) -> Outcome {
     match m {
         MadeOp::Op { edit, count } => of_edit(edit, [count, fresh, own, FREE]),
         MadeOp::Refused(no) => of_no_edit(no, [FREE, fresh, own, FREE]),
     }
 }
 
-pub(crate) fn of_next(n: Next) -> Outcome {
+pub fn of_next(n: Next) -> Outcome {
     match n {
         Next::Record {
             edit,

@@ -1,12 +1,12 @@
 // The calls of `tool_line`, `change_op` and `change_stroke`.
-use crate::flat::NO_EDIT;
-use crate::flat::edit_of;
-use crate::flat::is_edit;
-use crate::flat::tell_count;
-use crate::flat::tell_edit;
 use base::Counted;
 use base::MadeOp;
 use base::Truth;
+use c_flat::NO_EDIT;
+use c_flat::edit_of;
+use c_flat::is_edit;
+use c_flat::tell_count;
+use c_flat::tell_edit;
 use change_stroke::Stroke;
 
 #[no_mangle]

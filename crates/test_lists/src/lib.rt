@@ -2,21 +2,21 @@
 // this file: the same functions over change structs.
 use base::Counted;
 use base::Removal;
-pub use editor::extend;
-pub use editor::mark_saved;
-pub use editor::normalize;
-pub use editor::pixels;
-pub use editor::push;
-pub use editor::redo;
-pub use editor::replay;
-pub use editor::undo;
+pub use change_op::normalize;
+pub use change_op::pixels;
+pub use change_stroke::extend;
+pub use history::mark_saved;
+pub use history::push;
+pub use history::redo;
+pub use history::replay;
+pub use history::undo;
 use selection::Shifted;
 use test_inputs::Hand;
 use test_inputs::fill_indices;
 use test_inputs::fill_list;
 
 // The tools that paint with an index, `replace_color` and `fill_global`, and `mirror_tiles` on two changes.
-pub(crate) fn draw(
+pub fn draw(
     c: usize,
     a: Hand,
     w: usize,
@@ -36,7 +36,7 @@ pub(crate) fn draw(
     let mut list = [0u64; 2];
     fill_list(a.seeds.seed, &mut list);
     match c {
-        8 => editor::pencil(
+        8 => tool_draw::pencil(
             w,
             h,
             k,
@@ -50,7 +50,7 @@ pub(crate) fn draw(
             scratch,
             out,
         ),
-        9 => editor::eraser(
+        9 => tool_draw::eraser(
             w,
             h,
             k,
@@ -63,7 +63,7 @@ pub(crate) fn draw(
             scratch,
             out,
         ),
-        10 => editor::line(
+        10 => tool_draw::line(
             w,
             h,
             k,
@@ -80,7 +80,7 @@ pub(crate) fn draw(
             scratch,
             out,
         ),
-        11 => editor::rectangle(
+        11 => tool_draw::rectangle(
             w,
             h,
             k,
@@ -97,7 +97,7 @@ pub(crate) fn draw(
             scratch,
             out,
         ),
-        12 => editor::flood_fill(
+        12 => tool_flood_fill::flood_fill(
             w,
             h,
             k,
@@ -111,7 +111,7 @@ pub(crate) fn draw(
             scratch,
             out,
         ),
-        13 => editor::replace_color(
+        13 => tool_replace::replace_color(
             w,
             h,
             k,
@@ -123,8 +123,8 @@ pub(crate) fn draw(
             index,
             out,
         ),
-        14 => editor::fill_global(w, h, k, palette, lab, indices, area, p.x, p.y, index, out),
-        _ => editor::mirror_tiles(
+        14 => tool_replace::fill_global(w, h, k, palette, lab, indices, area, p.x, p.y, index, out),
+        _ => tile_mirror::mirror_tiles(
             w,
             h,
             k,
@@ -142,7 +142,7 @@ pub(crate) fn draw(
 }
 
 // `move_selection`, and `paste` of a clip of six pixels.
-pub(crate) fn shift(
+pub fn shift(
     c: usize,
     a: Hand,
     w: usize,
@@ -159,7 +159,7 @@ pub(crate) fn shift(
     let mut clip = [0i16; 6];
     fill_indices(a.seeds.seed, 3, &mut clip);
     match c {
-        15 => editor::move_selection(
+        15 => tool_move::move_selection(
             w,
             h,
             k,
@@ -172,7 +172,7 @@ pub(crate) fn shift(
             scratch,
             out,
         ),
-        _ => editor::paste(
+        _ => tool_move::paste(
             w,
             h,
             k,
@@ -191,7 +191,7 @@ pub(crate) fn shift(
 }
 
 // `remove_entry` and `merge_entries`.
-pub(crate) fn remove(
+pub fn remove(
     c: usize,
     a: Hand,
     w: usize,
@@ -204,7 +204,7 @@ pub(crate) fn remove(
 ) -> Removal {
     let from = a.choice.from;
     match c {
-        24 => editor::remove_entry(w, h, k, palette, lab, indices, from, out),
-        _ => editor::merge_entries(w, h, k, palette, lab, indices, from, a.choice.into, out),
+        24 => palette::remove_entry(w, h, k, palette, lab, indices, from, out),
+        _ => palette::merge_entries(w, h, k, palette, lab, indices, from, a.choice.into, out),
     }
 }

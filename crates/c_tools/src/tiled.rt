@@ -1,7 +1,7 @@
 // The calls of `tile_extract` and `tile_mirror`.
-use crate::flat::area_of;
-use crate::flat::tell_count;
 use base::Extraction;
+use c_flat::area_of;
+use c_flat::tell_count;
 
 #[no_mangle]
 pub extern "C" fn call_flip(

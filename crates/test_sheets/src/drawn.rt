@@ -1,14 +1,14 @@
 // The calls that list changes of a sheet.
-use crate::answers::of_counted;
-use crate::answers::of_removal;
-use crate::answers::of_shifted;
-use crate::lists::draw;
-use crate::lists::remove;
-use crate::lists::shift;
+use test_answers::of_counted;
+use test_answers::of_removal;
+use test_answers::of_shifted;
 use test_inputs::Hand;
 use test_inputs::Outcome;
 use test_inputs::mix_words;
 use test_inputs::told;
+use test_lists::draw;
+use test_lists::remove;
+use test_lists::shift;
 
 const FREE: u64 = 0x5a5a_5a5a_5a5a_5a5a;
 
