@@ -3,10 +3,10 @@ changed with it, so that what the prover refuses is the equation and not the wal
 
 # crate, name, which wrong program it is; source file, line and wrong line; function, right and wrong argument
 EDITS = [
-    ('struct_move', 'clip_height_for_width', 'a pasted clip is taken to be as wide as it is high', 'lib.rt',
+    ('struct_paste', 'clip_height_for_width', 'a pasted clip is taken to be as wide as it is high', 'lib.rt',
      'clip_w,', 'clip_h,',
      'paste', 'clip-w', 'clip-h'),
-    ('struct_move', 'pasted_across_at_y', 'a clip is pasted at y across, too', 'lib.rt', 'x,', 'y,', 'paste', 'x',
+    ('struct_paste', 'pasted_across_at_y', 'a clip is pasted at y across, too', 'lib.rt', 'x,', 'y,', 'paste', 'x',
      'y'),
     ('struct_move', 'moved_across_by_dy', 'a selection is moved by dy across, too', 'lib.rt', 'dx,', 'dy,',
      'move_selection', 'dx', 'dy'),

@@ -80,9 +80,9 @@ history_model specs Calls stateOf leaves Standing Acceptable outcomeOf
 history_model specs Replay replayChecks replayed replayOf
 history_model proofs ReplayChecks redoable
 struct_push specs Lent leavesLent
-struct_replay specs Phases ReplayBegun Begun PushNumbered pushedOr doneOr nonePut finished Finishes fullNumber
-struct_replay proofs Replaying opened-checkable checked-checkable checked-marks replay-number
-struct_replay proofs Replaying done-either redoable-paints redoable-finishes replay-is
+struct_steps specs Phases ReplayBegun Begun PushNumbered pushedOr doneOr nonePut finished Finishes fullNumber
+struct_steps proofs Replaying opened-checkable checked-checkable checked-marks replay-number
+struct_steps proofs Replaying done-either redoable-paints redoable-finishes replay-is
 struct_push_checks proofs PushSteps begun-checkable settle-checkable settle-short settle-marks push-number
 struct_push proofs Carrying carry-puts carry-paints carry-finishes carried
 struct_push proofs Pushed push-is
@@ -98,7 +98,7 @@ def function(path, params, result, said, steps, end, **more):
 S = '(sheetOf w h k palette lab indices)'
 COUNTING = {
     'Counted': ('change_list::count_of', 'countOf'),
-    'Shifted': ('tool_move::shifted_count', 'shiftedCount'),
+    'Shifted': ('tool_paste::shifted_count', 'shiftedCount'),
     'Removal': ('struct_palette::removing::removal_count', 'removalCount'),
     'MadeOp': ('change_op::made_count', 'madeCount'),
 }
@@ -147,8 +147,8 @@ def draw(name, own, args):
 
 
 def place(name, core, own, call):
-    tool('struct_move::' + name, core, own, SHIFTED, 'left', '%s (length scratch)' % call,
-         using='tool_move specs Pasting pasteCall left shiftedCount\ntool_move specs Moves moveCall')
+    tool('struct_%s::%s' % (name.split('_')[0], name), core, own, SHIFTED, 'left', '%s (length scratch)' % call,
+         using='tool_paste specs Pasting pasteCall left shiftedCount\ntool_move specs Moves moveCall')
 
 
 draw('pencil', '&[points], size, index', 'points size index')
@@ -156,7 +156,7 @@ draw('eraser', '&[points], size', 'points size')
 draw('line', 'ax, ay, bx, b-y, size, index', '(point ax ay) (point bx b-y) size index')
 draw('rectangle', 'ax, ay, bx, b-y, filled, index', '(point ax ay) (point bx b-y) filled index')
 place('move_selection', 'tool_move::move_selection_in', 's, dx, dy', 'moveCall %s s dx dy' % S)
-place('paste', 'tool_move::paste_in', 'clip-w, clip-h, &[clip], x, y', 'pasteCall %s clip-w clip-h clip x y' % S)
+place('paste', 'tool_paste::paste_in', 'clip-w, clip-h, &[clip], x, y', 'pasteCall %s clip-w clip-h clip x y' % S)
 
 FILLS = '''
 tool_flood_fill specs Fill floodFillOf
@@ -430,7 +430,7 @@ def checking(first, changes, why):
 function('struct_replay::op::redo_list', NAMED_SHEET, REPLAYED, '(h : ℕ) → ' + REPLAYED_AS
          % ('no', S, S, '(flatAll list)'),
          [painting('redoable-paints edit (flatAll list) (fit z)'),
-          Call('Finishing', 'struct_replay::op::finish_replay', 'no, k, give palette, give lab, give indices, edit',
+          Call('Finishing', 'struct_steps::finish_replay', 'no, k, give palette, give lab, give indices, edit',
                REPLAYED,
                '(w h : ℕ) → ' + REPLAYED_AS % ('no', sheet('-now'), sheet('-now'), '[]'), to='',
                asked='no ≡ 0 → Finishable k (length palette-now) (length lab-now) edit',
@@ -444,12 +444,12 @@ OPENED = 'r₁ %s (e₁ (flatAll list) (told-length list)) l₁-marks' % last(1,
 function('struct_replay::op::replay_no', parameters(SHEET, EDIT, '&mut [marks]'), Uint('u8'),
          'r ≡ firstOf (replayChecks (length marks) %s %s edit (flatAll list))' % (S, PERMITTED),
          [Len('n', 'list'),
-          Call('Opening', 'struct_replay::op::open_replay', 'w, h, k, palette, lab, indices, limited, permitted, edit,'
+          Call('Opening', 'struct_steps::open_replay', 'w, h, k, palette, lab, indices, limited, permitted, edit,'
                ' n, lend marks', Uint('u8'),
                '(cs : List flat.Change) → length cs ≡ n → ReplayBegun (length marks-now) %s %s edit cs r marks′'
                % (S, PERMITTED), to='opened'),
           checking('opened', 'true', 'opened-checkable %s %s (length %s) (l₁-marks)' % (ALL, OPENED, last(1, 10))),
-          Call('Leaving', 'struct_replay::op::left_after', 'checked, edit, w, h, indices, share marks', Uint('u8'),
+          Call('Leaving', 'struct_steps::left_after', 'checked, edit, w, h, indices, share marks', Uint('u8'),
                '(cs : List flat.Change) → (checked ≡ 0 → MarksFor edit w (w * h) cs marks-now) → r ≡ orElse checked'
                ' (firstOf (leftChecks (bare w h 0 indices) edit cs))', to='',
                asked='checked ≡ 0 → Checkable edit w h (length indices) (length marks-now)',

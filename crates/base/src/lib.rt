@@ -20,6 +20,7 @@ pub use ints::same;
 pub use ints::saturating_sub;
 pub use ints::up_to;
 pub use lists::both;
+pub use lists::clear;
 pub use lists::either;
 pub use storage::lab_at;
 pub use storage::put_lab;

@@ -1,4 +1,5 @@
-// The calls of `tool_draw`, `tool_flood_fill`, `tool_replace`, `tool_move` and `tool_clip`.
+// The calls of `tool_draw`, `tool_flood_fill`, `tool_replace`, `tool_move`, `tool_paste` and
+// `tool_clip`.
 use base::Copied;
 use base::Counted;
 use c_flat::area_of;
@@ -223,7 +224,7 @@ pub extern "C" fn call_paste(
     r: &mut [usize; 5],
 ) -> u8 {
     tell_shifted(
-        tool_move::paste(
+        tool_paste::paste(
             w,
             h,
             k,

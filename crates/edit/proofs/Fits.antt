@@ -19,22 +19,26 @@ use Rattle.sheet.specs.Checks.{Limits, WellFormed}
 use Rattle.edit.specs.Storage.{numbersOf}
 use Rattle.base.proofs.Nowhere.{or-both}
 
--- another palette, LAB and indices on a sheet of the same size
+-- another palette count, palette, LAB and indices on a sheet of the same size
+pub same-limits : {s : Sheet} → Limits s → (k : ℕ) (palette : List ℕ) (lab : List Float) (l : List ℤ)
+    → k ≤ 255 → length palette ≡ 765 → length lab ≡ 765 → length l ≡ length (s .indices) → Limits (sheetOf (s .w) (s .h) k palette lab l)
+same-limits f k palette lab l few p q n =
+    record {
+      w-small = f .w-small;
+      h-small = f .h-small;
+      k-small = few;
+      cells = f .cells;
+      palette-length = p;
+      lab-length = q;
+      indices-length = n ∙ f .indices-length;
+    }
+
 pub same-size-fits : {s : Sheet} → Limits s → (k : ℕ) (palette : List ℕ) (lab : List Float) (l : List ℤ)
     → k ≤ 255 → length palette ≡ 765 → length lab ≡ 765 → length l ≡ length (s .indices) → some (stray k) l ≡ false → some unfit (take (3 * k) lab) ≡ false
     → WellFormed (sheetOf (s .w) (s .h) k palette lab l)
 same-size-fits f k palette lab l few p q n a b =
     record {
-      limits =
-          record {
-            w-small = f .w-small;
-            h-small = f .h-small;
-            k-small = few;
-            cells = f .cells;
-            palette-length = p;
-            lab-length = q;
-            indices-length = n ∙ f .indices-length;
-          };
+      limits = same-limits f k palette lab l few p q n;
       in-range = a;
       fit = b;
     }

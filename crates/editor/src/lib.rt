@@ -54,8 +54,8 @@ pub use tool_flood_fill::flood_fill_in;
 pub use tool_line::bresenham;
 pub use tool_move::move_selection;
 pub use tool_move::move_selection_in;
-pub use tool_move::paste;
-pub use tool_move::paste_in;
+pub use tool_paste::paste;
+pub use tool_paste::paste_in;
 pub use tool_replace::fill_global;
 pub use tool_replace::replace_color;
 // tiles.rs

@@ -2,20 +2,16 @@
 use base::Answer;
 use base::Edit;
 use base::Handle;
-use base::JOURNAL_FULL;
-use base::LIST_TOO_LONG;
-use base::MAX_CHANGES;
 use base::Moved;
-use base::NO_SPACE;
 use edit::is_empty;
 use edit_apply::fill_edit;
 use edit_apply::redo_edit;
-use edit_checks::own_no;
 use history_ledger::after_push;
 use history_model::entry_no;
 use history_model::record_length;
 use history_model::refused;
 use history_model::still;
+use history_push_checks::push_no;
 use journal_write::write_record;
 ghost use mathlib.Core.Path.{_≡_};
 ghost use mathlib.Core.Bool.{Bool};
@@ -27,58 +23,7 @@ ghost use Rattle.edit.specs.Change.{unpacked};
 ghost use Rattle.history_ledger.specs.Calls.{done};
 ghost use Rattle.history_ledger.specs.Journal.{pushOf, pushed};
 ghost use Rattle.history_model.specs.Editing.{editing, givenOf};
-ghost use Rattle.history_model.specs.Calls.{stateOf, leaves, Standing, Acceptable, Pushes};
-
-// The number of the first check of a push after "still" that applies, or 0: 21, 16, the edit's own, 14.
-fn push_no(
-    w: usize,
-    h: usize,
-    k: usize,
-    palette: &[u8],
-    lab: &[f64],
-    indices: &[i16],
-    limited: bool,
-    permitted: &[u8],
-    edit: Edit,
-    list: &[u64],
-    journal: &[u8],
-    handle: Handle,
-    scratch: &mut [u8],
-) -> u8
-    requires { ⌜ Standing (stateOf (sheetOf w h k (now palette) (now lab) (now indices)) (now journal) handle) ⌝ }
-    ensures { λ r. ⌜ (
-        let sheet = sheetOf w h k (now (palette .entry)) (now (lab .entry)) (now (indices .entry)) in
-        Pushes (length (now (scratch .entry))) (stateOf sheet (now (journal .entry)) handle)
-        (givenOf limited (now (permitted .entry)) edit (now (list .entry))) r
-        ) ⌝ }
-{
-    if MAX_CHANGES < list.len() {
-        return LIST_TOO_LONG;
-    }
-    if scratch.len() < indices.len() {
-        return NO_SPACE;
-    }
-    let no = own_no(
-        w,
-        h,
-        k,
-        palette,
-        indices,
-        limited,
-        permitted,
-        edit,
-        list,
-        scratch,
-        false,
-    );
-    if no != 0 {
-        return no;
-    }
-    if journal.len() < handle.offset + record_length(edit, list.len()) {
-        return JOURNAL_FULL;
-    }
-    0
-}
+ghost use Rattle.history_model.specs.Calls.{stateOf, leaves, Standing, Acceptable};
 
 // An edit that no check refuses, recorded and done: the record is written into the part of the journal that
 // starts at the standing offset.

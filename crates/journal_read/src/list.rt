@@ -2,12 +2,12 @@
 // its news painted. Each loop reads one change a turn.
 use base::STILL_USED;
 use base::either;
+use edit_left::any_left;
+use edit_left::clear;
 use edit_pixels::is_outside;
 use edit_pixels::paint_new;
 use edit_pixels::pixel_no;
 use edit_pixels::place_of;
-use edit_remap::any_left;
-use edit_remap::clear;
 use edit_remap::move_no;
 use journal_record::get_u64;
 ghost use mathlib.Core.Path.{_≡_};

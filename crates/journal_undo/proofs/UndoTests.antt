@@ -25,7 +25,7 @@ use Rattle.edit.specs.Apply.{reverted, canRevert}
 use Rattle.edit.proofs.Painting.{painted-length}
 use Rattle.edit.proofs.Storage.{opened-shows}
 use Rattle.edit.proofs.Entries.{palette-store, lab-store, set-length, set-shows, reinsert-length}
-use Rattle.edit.proofs.Fits.{more-in-range}
+use Rattle.edit.proofs.Fits.{same-limits, more-in-range}
 use Rattle.journal_read.specs.Sound.{undoable}
 use Rattle.journal_olds.proofs.Fresh.{painted-alike}
 use Rattle.journal_undo.specs.UndoTests.{pixelsBack, setBack, removeBack}
@@ -39,20 +39,6 @@ sound t l false false p q = rw (← judged-fine t (record { limits = l; in-range
 
 unsound : (t : Sheet) → (Limits t → ⊥) → eqb (firstOf (sheetChecks [] t)) 0 ≡ false
 unsound t h = rw (← judged-limits t 1 (limited-bad t h) (λ e. omega arith) .value)
-
--- another palette count, palette, LAB and indices on a sheet of the same size
-same-limits : {s : Sheet} → Limits s → (k : ℕ) (palette : List ℕ) (lab : List Float) (l : List ℤ)
-    → k ≤ 255 → length palette ≡ 765 → length lab ≡ 765 → length l ≡ length (s .indices) → Limits (sheetOf (s .w) (s .h) k palette lab l)
-same-limits f k palette lab l few p q n =
-    record {
-      w-small = f .w-small;
-      h-small = f .h-small;
-      k-small = few;
-      cells = f .cells;
-      palette-length = p;
-      lab-length = q;
-      indices-length = n ∙ f .indices-length;
-    }
 
 -- ---- an entry among numbers that have no p
 module _ {A : Type 0} (p : A → Bool) where

@@ -12,6 +12,7 @@ ghost use mathlib.Core.Path.{_≡_};
 ghost use Rattle.struct_change.specs.Struct.{packedOf, structOf};
 pub use slices::any_outside;
 pub use slices::copy_front;
+pub use slices::no_room;
 pub use slices::pack;
 pub use slices::unpack;
 

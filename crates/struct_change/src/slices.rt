@@ -2,6 +2,8 @@
 use crate::packed;
 use crate::unpacked;
 use base::Change;
+use base::Counted;
+use base::NO_SPACE;
 use base::either;
 use edit_pixels::is_outside;
 ghost use mathlib.Core.Path.{_≡_};
@@ -9,9 +11,11 @@ ghost use mathlib.Core.Bool.{_||_};
 ghost use mathlib.Core.List.{map};
 ghost use Prim.Native.Nat.{_≤_};
 ghost use lib.ListN.{length, take};
+ghost use Rattle.base.specs.Answer.{countedTold};
 ghost use Rattle.base.specs.Lists.{over, some};
 ghost use Rattle.edit.specs.Change as flat;
 ghost use Rattle.struct_change.specs.Struct.{packedOf};
+ghost use Rattle.struct_change.specs.Scratch.{noRoom};
 
 // The first n changes of a list, packed, over the front of flat, which keeps its bits past them.
 pub fn pack(list: &[Change], n: usize, flat: &mut [u64])
@@ -78,4 +82,14 @@ pub fn any_outside(w: usize, h: usize, list: &[Change], n: usize) -> bool
         i += 1;
     }
     off
+}
+
+// What a call answers that has too little scratch: 16, where nothing else refuses it.
+pub fn no_room(answer: Counted) -> Counted
+    ensures { λ r. ⌜ countedTold r ≡ noRoom (countedTold answer) ⌝ }
+{
+    match answer {
+        Counted::Count(_) => Counted::Refused(NO_SPACE),
+        Counted::Refused(no) => Counted::Refused(no),
+    }
 }

@@ -1,30 +1,20 @@
 // `replace_color` and `fill_global` of tools.rs.
 use base::Change;
 use base::Counted;
-use base::NO_SPACE;
 use base::min_usize;
 use change_list::count_of;
 use selection::Area;
+use struct_change::no_room;
 use struct_change::unpack;
 ghost use mathlib.Core.Path.{_≡_};
 ghost use mathlib.Core.List.{map};
 ghost use lib.ListN.{length};
-ghost use Rattle.base.specs.Answer.{countedTold, filled};
+ghost use Rattle.base.specs.Answer.{filled};
 ghost use Rattle.sheet.specs.Sheet.{sheetOf};
 ghost use Rattle.change_list.specs.Listed.{countOf, InScratch};
 ghost use Rattle.struct_change.specs.Struct.{packedOf};
 ghost use Rattle.tool_replace.specs.Fills.{replaceColorOf, fillGlobalOf};
-ghost use Rattle.struct_change.specs.Scratch.{noRoom, needing};
-
-// What a call answers that has too little scratch: 16, where nothing else refuses it.
-fn no_room(answer: Counted) -> Counted
-    ensures { λ r. ⌜ countedTold r ≡ noRoom (countedTold answer) ⌝ }
-{
-    match answer {
-        Counted::Count(_) => Counted::Refused(NO_SPACE),
-        Counted::Refused(no) => Counted::Refused(no),
-    }
-}
+ghost use Rattle.struct_change.specs.Scratch.{needing};
 
 // The changes of `replace_color`, left at the front of the scratch for a buffer of `room` places.
 fn replace_color_in(

@@ -40,8 +40,8 @@ use Rattle.history_ledger.proofs.Soundness.{sound-facts}
 use Rattle.history_model.specs.Editing.{Given, givenOf, editing}
 use Rattle.history_model.specs.Calls.{stateOf, Standing, Acceptable}
 use Rattle.history_model.proofs.Accepting.{filled-length, writable, not-refused}
-use Rattle.struct_replay.specs.Phases.{pushedOr, nonePut, finished, Finishes}
-use Rattle.struct_replay.proofs.Replaying.{redoable-paints, redoable-finishes, unpainted}
+use Rattle.struct_steps.specs.Phases.{pushedOr, nonePut, finished, Finishes}
+use Rattle.struct_steps.proofs.Replaying.{redoable-paints, redoable-finishes, unpainted}
 use Rattle.struct_push_checks.proofs.PushSteps.{none-put, none-there}
 
 -- ---- an empty list asks nothing

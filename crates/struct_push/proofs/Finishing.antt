@@ -19,7 +19,7 @@ use Rattle.history_ledger.specs.Journal.{State}
 use Rattle.history_model.specs.Editing.{editing}
 use Rattle.history_model.specs.Calls.{stateOf}
 use Rattle.history_model.proofs.Accepting.{filled-length}
-use Rattle.struct_replay.specs.Phases.{finished, Finishes}
+use Rattle.struct_steps.specs.Phases.{finished, Finishes}
 
 module _ (k : ℕ) (palette : List ℕ) (lab : List Float) (journal : List ℕ) (handle : Handle) (e : Edit) (n : ℕ) (f : Finishes k palette lab journal handle e n) where
   abbrev offset : ℕ

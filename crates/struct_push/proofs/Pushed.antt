@@ -7,7 +7,7 @@ use Rattle.edit.specs.Apply.{noPixels}
 use Rattle.history_ledger.specs.Calls.{refused, still, done}
 use Rattle.history_ledger.specs.Journal.{State, entryChecks, pushChecks, pushOf, pushed}
 use Rattle.history_model.specs.Editing.{Given, editing}
-use Rattle.struct_replay.specs.Phases.{pushNumber, pushedOr}
+use Rattle.struct_steps.specs.Phases.{pushNumber, pushedOr}
 
 -- ---- `push`: what the number decides
 pub push-is : (room : ℕ) (st : State editing) (g : Given) (n : ℕ) → n ≡ pushNumber room st g → pushedOr n (noPixels (g .edit) (g .changes)) st (pushed editing st g) ≡ pushOf editing room st g

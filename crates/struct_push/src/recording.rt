@@ -28,7 +28,7 @@ ghost use Rattle.history_ledger.specs.Journal.{pushOf, pushed};
 ghost use Rattle.history_model.specs.Editing.{editing, givenOf};
 ghost use Rattle.history_model.specs.Calls.{stateOf, leaves, Standing, Acceptable};
 ghost use Rattle.struct_push.specs.Lent.{leavesLent};
-ghost use Rattle.struct_replay.specs.Phases.{nonePut, pushedOr, finished, Finishes};
+ghost use Rattle.struct_steps.specs.Phases.{nonePut, pushedOr, finished, Finishes};
 
 // What a push does beside its list, where it was not refused: the record is written around the changes into the
 // part of the journal that starts at the standing offset, the edit is done, and the handle moved.

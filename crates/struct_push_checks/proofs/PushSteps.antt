@@ -33,8 +33,8 @@ use Rattle.history_ledger.proofs.Soundness.{sound-facts}
 use Rattle.history_model.specs.Editing.{Given, givenOf, editing}
 use Rattle.history_model.specs.Calls.{stateOf, Standing}
 use Rattle.history_model.proofs.PushChecks.{pushes-own, pushes-full, pushes-fine}
-use Rattle.struct_replay.specs.Phases.{pushNumber, Readied, Begun, PushNumbered, nonePut, fullNumber}
-use Rattle.struct_replay.proofs.Replaying.{first-kept, head-markable, list-decides, bare-each, bare-left}
+use Rattle.struct_steps.specs.Phases.{pushNumber, Readied, Begun, PushNumbered, nonePut, fullNumber}
+use Rattle.struct_steps.proofs.Replaying.{first-kept, head-markable, list-decides, bare-each, bare-left}
 
 -- ---- "an empty pixel list"
 pub none-put : (e : Edit) (cs : List flat.Change) (n : ℕ) → length cs ≡ n → noPixels e cs ≡ nonePut e n

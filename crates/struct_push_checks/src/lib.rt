@@ -28,7 +28,7 @@ ghost use Rattle.edit_head.specs.Apart.{leftChecks, MarksFor};
 ghost use Rattle.struct_edit.specs.Walk.{packedAll, Checkable};
 ghost use Rattle.history_model.specs.Editing.{givenOf};
 ghost use Rattle.history_model.specs.Calls.{stateOf};
-ghost use Rattle.struct_replay.specs.Phases.{Begun, PushNumbered, fullNumber};
+ghost use Rattle.struct_steps.specs.Phases.{Begun, PushNumbered, fullNumber};
 
 // Before the list: the number of the first check that applies, or 0. A removal's marks are cleared.
 fn begin(

@@ -39,18 +39,18 @@ fn of_double(x: f64) -> Outcome {
 
 // The distance of two colours, which are now and then the same.
 fn dist2(a: Hand) -> f64 {
-    let p = color::rgb8_to_lab(colour(a.seeds.colour));
-    let q = color::rgb8_to_lab(colour(a.seeds.first));
-    color::dist2(p, q)
+    let p = editor::rgb8_to_lab(colour(a.seeds.colour));
+    let q = editor::rgb8_to_lab(colour(a.seeds.first));
+    editor::dist2(p, q)
 }
 
 fn rgb8_to_lab(a: Hand) -> Outcome {
-    let c = color::rgb8_to_lab(colour(a.seeds.colour));
+    let c = editor::rgb8_to_lab(colour(a.seeds.colour));
     told(0, mix_doubles(mix_number(0), &[c.l, c.a, c.b]))
 }
 
 fn cbrt(a: Hand) -> Outcome {
-    match color::cbrt(a.choice.radicand) {
+    match editor::cbrt(a.choice.radicand) {
         Root::Value(x) => told(0, mix_doubles(mix_number(0), &[x, 1.5, 1.5])),
         Root::Refused(no) => told(no, mix_doubles(mix_number(no), &[1.5, 1.5, 1.5])),
     }
@@ -73,7 +73,7 @@ fn permitted_no(a: Hand) -> u8 {
 
 fn check_color(a: Hand) -> u8 {
     let list = colours(a.seeds.listed);
-    palette::check_color(a.choice.limited, &list, colour(a.seeds.colour)).number()
+    editor::check_color(a.choice.limited, &list, colour(a.seeds.colour)).number()
 }
 
 fn any_stray_below(a: Hand) -> bool {
@@ -93,7 +93,7 @@ fn chosen(c: usize, a: Hand) -> Chosen {
         29 => Selection::from_corners(p.x, p.far_y, p.to_x, p.far_to_y, w, h),
         32 => p.part.translated(p.x, p.far_y, w, h),
         33 => p.part.grown(a.sides.margin, w, h),
-        _ => selection::region(area, w, h),
+        _ => editor::region(area, w, h),
     }
 }
 
@@ -115,7 +115,7 @@ fn positions(a: Hand) -> Outcome {
 fn bresenham(a: Hand) -> Outcome {
     let p = a.spot;
     let mut out = [0x5a5a_5a5ai32; 11];
-    let t = of_counted(tool_line::bresenham(p.x, p.y, p.to_x, p.to_y, &mut out));
+    let t = of_counted(editor::bresenham(p.x, p.y, p.to_x, p.to_y, &mut out));
     told(t.number, mix_points(t.print, &out))
 }
 
@@ -185,8 +185,8 @@ fn one_if(t: Truth) -> u64 {
 // Beside a list of one change, and of none.
 fn is_empty(a: Hand) -> Outcome {
     let e = edit(a);
-    let one = one_if(change_op::is_empty(e, &[0]));
-    let none = one_if(change_op::is_empty(e, &[]));
+    let one = one_if(editor::is_empty(e, &[0]));
+    let none = one_if(editor::is_empty(e, &[]));
     told(0, mix(mix(mix_number(0), one), none))
 }
 
@@ -239,7 +239,7 @@ fn flip(a: Hand) -> Outcome {
     let mut tile = [0i16; 4];
     let mut out = [0x5a5ai16; 5];
     fill_indices(a.seeds.seed, 3, &mut tile);
-    let flipped = tile_extract::flip(
+    let flipped = editor::flip(
         &tile,
         tile_side(a),
         a.spot.whole,
@@ -270,9 +270,9 @@ pub fn bare_answer(c: usize, a: Hand) -> Outcome {
         28 | 29 | 32 | 33 | 35 => of_chosen(chosen(c, a)),
         30 => of_flag(a.spot.part.contains(a.spot.across, a.spot.down)),
         31 => contains_i(a),
-        40 => of_word(change_op::kind(edit(a)) as u64),
+        40 => of_word(editor::kind(edit(a)) as u64),
         43 => of_number(check_color(a)),
-        59 => of_double(color::linear(a.choice.byte)),
+        59 => of_double(editor::linear(a.choice.byte)),
         60 => of_double(dist2(a)),
         61 => of_number(permitted_no(a)),
         62 => of_flag(any_stray_below(a)),

@@ -202,12 +202,12 @@ pub fn change(
 // What is asked of the journal and the handle.
 pub fn look(c: usize, a: Hand, journal: &[u8], handle: Handle) -> Outcome {
     match c {
-        49 => of_truth(history_queries::is_dirty(journal, handle)),
-        50 => of_truth(history_queries::can_undo(journal, handle)),
-        51 => of_truth(history_queries::can_redo(journal, handle)),
-        52 => of_next(history_queries::next_undo(journal, handle)),
-        53 => of_next(history_queries::next_redo(journal, handle)),
-        _ => of_next(history_queries::applied(journal, handle, a.seeds.number)),
+        49 => of_truth(editor::is_dirty(journal, handle)),
+        50 => of_truth(editor::can_undo(journal, handle)),
+        51 => of_truth(editor::can_redo(journal, handle)),
+        52 => of_next(editor::next_undo(journal, handle)),
+        53 => of_next(editor::next_redo(journal, handle)),
+        _ => of_next(editor::applied(journal, handle, a.seeds.number)),
     }
 }
 

@@ -2,14 +2,14 @@
 // this file: the same functions over change structs.
 use base::Counted;
 use base::Removal;
-pub use change_op::normalize;
-pub use change_op::pixels;
-pub use change_stroke::extend;
-pub use history::mark_saved;
-pub use history::push;
-pub use history::redo;
-pub use history::replay;
-pub use history::undo;
+pub use editor::extend;
+pub use editor::mark_saved;
+pub use editor::normalize;
+pub use editor::pixels;
+pub use editor::push;
+pub use editor::redo;
+pub use editor::replay;
+pub use editor::undo;
 use selection::Shifted;
 use test_inputs::Hand;
 use test_inputs::fill_indices;
@@ -36,7 +36,7 @@ pub fn draw(
     let mut list = [0u64; 2];
     fill_list(a.seeds.seed, &mut list);
     match c {
-        8 => tool_draw::pencil(
+        8 => editor::pencil(
             w,
             h,
             k,
@@ -50,7 +50,7 @@ pub fn draw(
             scratch,
             out,
         ),
-        9 => tool_draw::eraser(
+        9 => editor::eraser(
             w,
             h,
             k,
@@ -63,7 +63,7 @@ pub fn draw(
             scratch,
             out,
         ),
-        10 => tool_draw::line(
+        10 => editor::line(
             w,
             h,
             k,
@@ -80,7 +80,7 @@ pub fn draw(
             scratch,
             out,
         ),
-        11 => tool_draw::rectangle(
+        11 => editor::rectangle(
             w,
             h,
             k,
@@ -97,7 +97,7 @@ pub fn draw(
             scratch,
             out,
         ),
-        12 => tool_flood_fill::flood_fill(
+        12 => editor::flood_fill(
             w,
             h,
             k,
@@ -111,7 +111,7 @@ pub fn draw(
             scratch,
             out,
         ),
-        13 => tool_replace::replace_color(
+        13 => editor::replace_color(
             w,
             h,
             k,
@@ -123,8 +123,8 @@ pub fn draw(
             index,
             out,
         ),
-        14 => tool_replace::fill_global(w, h, k, palette, lab, indices, area, p.x, p.y, index, out),
-        _ => tile_mirror::mirror_tiles(
+        14 => editor::fill_global(w, h, k, palette, lab, indices, area, p.x, p.y, index, out),
+        _ => editor::mirror_tiles(
             w,
             h,
             k,
@@ -159,7 +159,7 @@ pub fn shift(
     let mut clip = [0i16; 6];
     fill_indices(a.seeds.seed, 3, &mut clip);
     match c {
-        15 => tool_move::move_selection(
+        15 => editor::move_selection(
             w,
             h,
             k,
@@ -172,7 +172,7 @@ pub fn shift(
             scratch,
             out,
         ),
-        _ => tool_move::paste(
+        _ => editor::paste(
             w,
             h,
             k,
@@ -204,7 +204,7 @@ pub fn remove(
 ) -> Removal {
     let from = a.choice.from;
     match c {
-        24 => palette::remove_entry(w, h, k, palette, lab, indices, from, out),
-        _ => palette::merge_entries(w, h, k, palette, lab, indices, from, a.choice.into, out),
+        24 => editor::remove_entry(w, h, k, palette, lab, indices, from, out),
+        _ => editor::merge_entries(w, h, k, palette, lab, indices, from, a.choice.into, out),
     }
 }

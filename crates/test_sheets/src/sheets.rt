@@ -37,7 +37,7 @@ pub fn open(
     lab: &mut [f64],
     indices: &[i16],
 ) -> Answer {
-    sheet::new(w, h, k, palette, lab, indices)
+    editor::new(w, h, k, palette, lab, indices)
 }
 
 fn new_sheet(w: usize, h: usize, k: usize, palette: &[u8], indices: &[i16]) -> Outcome {
@@ -48,7 +48,7 @@ fn new_sheet(w: usize, h: usize, k: usize, palette: &[u8], indices: &[i16]) -> O
 
 fn counts(w: usize, h: usize, k: usize, palette: &[u8], lab: &[f64], indices: &[i16]) -> Outcome {
     let mut out = [0x5a5a_5a5au32; 2];
-    let t = of_counted(sheet_counts::counts(w, h, k, palette, lab, indices, &mut out));
+    let t = of_counted(editor::counts(w, h, k, palette, lab, indices, &mut out));
     told(t.number, mix_counts(t.print, &out))
 }
 
@@ -69,7 +69,7 @@ fn diff_mask(
     fill_bytes(a.seeds.first, &mut base);
     fill_indices(a.seeds.seed, s.base_k, &mut base_indices);
     let base_k = if a.choice.even { 2 } else { s.base_k };
-    let t = of_counted(sheet_diff::diff_mask(
+    let t = of_counted(editor::diff_mask(
         w,
         h,
         k,
@@ -87,8 +87,8 @@ fn diff_mask(
 }
 
 fn nearest_index(a: Hand, k: usize, lab: &[f64]) -> Outcome {
-    let target = color::rgb8_to_lab(colour(a.seeds.colour));
-    of_found(color::nearest_index(target, lab, k))
+    let target = editor::rgb8_to_lab(colour(a.seeds.colour));
+    of_found(editor::nearest_index(target, lab, k))
 }
 
 // `copy`, and `snap_rgba` of six pixels.
@@ -109,8 +109,8 @@ fn clip(
     let mut rgba = [0u8; 25];
     fill_bytes(a.seeds.seed, &mut rgba);
     match c {
-        17 => tool_clip::copy(w, h, k, palette, lab, indices, area, out),
-        _ => tool_clip::snap_rgba(w, h, k, palette, lab, indices, &rgba, s.w, s.h, out),
+        17 => editor::copy(w, h, k, palette, lab, indices, area, out),
+        _ => editor::snap_rgba(w, h, k, palette, lab, indices, &rgba, s.w, s.h, out),
     }
 }
 
@@ -142,7 +142,7 @@ fn clip_rgba(
     let mut out = [0x5au8; 25];
     let mut clip = [0i16; 6];
     fill_indices(a.seeds.seed, 3, &mut clip);
-    let pixels = tool_clip::clip_rgba(w, h, k, palette, lab, indices, s.w, s.h, &clip, &mut out);
+    let pixels = editor::clip_rgba(w, h, k, palette, lab, indices, s.w, s.h, &clip, &mut out);
     let t = of_counted(pixels);
     told(t.number, mix_bytes(t.print, &out))
 }
@@ -159,7 +159,7 @@ fn fixed_choices(
     let mut used = [0x5au8; 3];
     let list = colours(a.seeds.listed);
     let free = !a.choice.limited;
-    let t = of_choices(palette::fixed_choices(
+    let t = of_choices(editor::fixed_choices(
         w,
         h,
         k,
@@ -189,8 +189,8 @@ fn coloured(
     let list = colours(a.seeds.listed);
     let rgb = colour(a.seeds.colour);
     match c {
-        21 => palette::set_color(w, h, k, palette, lab, indices, limited, &list, index, rgb),
-        _ => palette::add_color(w, h, k, palette, lab, indices, limited, &list, rgb),
+        21 => editor::set_color(w, h, k, palette, lab, indices, limited, &list, index, rgb),
+        _ => editor::add_color(w, h, k, palette, lab, indices, limited, &list, rgb),
     }
 }
 
@@ -206,7 +206,7 @@ fn extract(
     let mut scratch = [0u64; 6];
     let mut out = [0x5a5ai16; 4];
     let mut map = [0x5a5a_5a5au32; 19];
-    let t = of_extraction(tile_extract::extract(
+    let t = of_extraction(editor::extract(
         w,
         h,
         k,
@@ -235,19 +235,19 @@ fn sheet_answer(
     let y = a.spot.far_y;
     let from = a.choice.from;
     match c {
-        0 => of_number(sheet::check(w, h, k, palette, lab, indices)),
-        1 => of_number(sheet::with_lab(w, h, k, palette, lab, indices).number()),
+        0 => of_number(editor::check(w, h, k, palette, lab, indices)),
+        1 => of_number(editor::with_lab(w, h, k, palette, lab, indices).number()),
         2 => new_sheet(w, h, k, palette, indices),
-        3 => of_got(sheet::get_at(w, h, k, palette, lab, indices, x, y)),
+        3 => of_got(editor::get_at(w, h, k, palette, lab, indices, x, y)),
         4 => counts(w, h, k, palette, lab, indices),
         5 => diff_mask(a, w, h, k, palette, lab, indices),
         6 => nearest_index(a, k, lab),
-        7 => of_got(tool_clip::eyedropper(w, h, k, palette, lab, indices, x, y)),
+        7 => of_got(editor::eyedropper(w, h, k, palette, lab, indices, x, y)),
         17 | 19 => clipped(c, a, w, h, k, palette, lab, indices),
         18 => clip_rgba(a, w, h, k, palette, lab, indices),
         20 => fixed_choices(a, w, h, k, palette, lab, indices),
         21 | 22 => of_made(coloured(c, a, w, h, k, palette, lab, indices)),
-        23 => of_found(palette::nearest_other(w, h, k, palette, lab, indices, from)),
+        23 => of_found(editor::nearest_other(w, h, k, palette, lab, indices, from)),
         57 => extract(a, w, h, k, palette, lab, indices),
         _ => list_answer(c, a, w, h, k, palette, lab, indices),
     }

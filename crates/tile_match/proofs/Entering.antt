@@ -9,14 +9,14 @@ use native.Mathlib.Nat.{not-suc-le-zero}
 use native.Mathlib.Omega.{arith}
 use borrow.Author.Tests.{eq-eqb, ne-eqb}
 use lib.IntN.{ℤ}
-use lib.ListN.{length, getD, set, length-set}
+use lib.ListN.{length, getD, set, replicate, length-set, length-replicate, getD-replicate}
 use lib.Seq.{getD-set-same, getD-set-other}
 use Rattle.base.specs.Lists.{range}
 use Rattle.tile_cells.specs.Cells.{cellCount, firstCell, codeOf, firstCells}
-use Rattle.tile_cells.proofs.Rows.{length-first, first-at}
+use Rattle.tile_cells.proofs.Rows.{length-first}
 use Rattle.tile_cells.proofs.Grids.{first-same}
 use Rattle.tile_cells.proofs.Firsts.{code-self, code-is-self}
-use Rattle.tile_match.specs.Table.{foundIn, headIn, nextIn, Holds, bucketOf, lastOn, Chained}
+use Rattle.tile_chain.specs.Table.{foundIn, headIn, nextIn, Holds, bucketOf, lastOn, Chained}
 
 -- a place that keeps a number keeps it in the list
 kept : (φ : ℕ → ℕ) (s : List ℕ) (i v : ℕ) → i < length s → φ v ≡ φ (getD s i 0) → (d : ℕ) → φ (getD (set s i v) d 0) ≡ φ (getD s d 0)
@@ -95,13 +95,13 @@ module _ (w h t : ℕ) (l : List ℤ) where
   n = cellCount w h t
 
   -- no cell yet
-  pub entered-none : (s : List ℕ) → s ≡ map (λ i. 0) (range 0 n) → Chained w t l n 0 s
+  pub entered-none : (s : List ℕ) → s ≡ replicate n 0 → Chained w t l n 0 s
   unfolding lastOn headIn
   entered-none s e =
       record {
-        long = ap length e ∙ length-first (λ i. 0) n;
+        long = ap length e ∙ length-replicate n 0;
         found = λ d h. absurd (not-suc-le-zero h);
-        heads = λ b h. rw (e, first-at {A = ℕ} (λ i. 0) n b 0 h);
+        heads = λ b h. rw (e, getD-replicate {A = ℕ} n b 0 0 h);
         nexts = λ d h. absurd (not-suc-le-zero h);
       }
 

@@ -1,42 +1,17 @@
--- The loops that clear cells, and that write the changes of marked places over cells already read. Assumes nothing.
+-- The loop that writes the changes of marked places over cells already read. Assumes nothing.
 use Prim.Native.Nat.{ℕ, suc, _+_, _-_, _%_, _≤_, _<_}
 use mathlib.Core.Path.{_≡_, refl, sym, ap, _∙_}
 use mathlib.Core.Bool.{Bool}
 use mathlib.Core.List.{List, [], _∷_, _++_, map, append-nil, append-assoc}
 use native.Mathlib.Omega.{arith}
 use native.Mathlib.Numerals.{add-one}
-use native.Mathlib.Decide.{ℕ-discrete}
 use lib.Dec.{eqb}
-use lib.ListN.{length, take, drop, getD, set, replicate, length-set, length-replicate, getD-replicate}
-use lib.Seq.{drop-set-lt, getD-set-same, getD-set-other, take-suc-set, ext-getD}
+use lib.ListN.{length, take, drop, getD, set, length-set}
+use lib.Seq.{drop-set-lt, take-suc-set}
 use borrow.Author.Tests.{eq-eqb, ne-eqb}
 use Rattle.base.specs.Lists.{range, kept}
 use Rattle.base.proofs.Behind.{same-at, further}
 use Rattle.tool_flood.specs.Cells.{placed, emitted}
-
--- ---- clearing
-
-module _ (s₀ : List ℕ) where
-  pub record Clearing (s : List ℕ) (i : ℕ) : Type 0 where
-    pub low : i ≤ length s₀
-    pub long : length s ≡ length s₀
-    pub done : (k : ℕ) → k < i → getD s k 0 ≡ 0
-
-  pub clearing-start : Clearing s₀ 0
-  clearing-start = record { low = omega arith; long = refl; done = λ k h. absurd (omega arith) }
-
-  pub clearing-step : (s : List ℕ) (i : ℕ) → Clearing s i → i < length s → Clearing (set s i 0) (i + 1)
-  clearing-step s i c h = let l = c .long in record {
-    low = omega arith;
-    long = length-set s i 0 ∙ l;
-    done = λ k q. elim (ℕ-discrete k i) [ yes e ↦ rw e (getD-set-same s i 0 0 h) | no n ↦ getD-set-other s i k 0 0 n ∙ c .done k (omega arith) ];
-  }
-
-  pub clearing-end : (s : List ℕ) (i : ℕ) → Clearing s i → length s ≤ i → s ≡ replicate (length s₀) 0
-  clearing-end s i c h = let l = c .long in
-      ext-getD 0 s (replicate (length s₀) 0) (l ∙ sym (length-replicate (length s₀) 0)) (λ k q. c .done k (omega arith) ∙ sym (getD-replicate (length s₀) k 0 0 (omega arith)))
-
--- ---- writing
 
 module _ (w pair : ℕ) (s₀ : List ℕ) where
   abbrev pub mk : ℕ → Bool

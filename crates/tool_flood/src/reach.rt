@@ -1,9 +1,10 @@
 // The marks: start, and from it each place that is reached.
+use base::clear;
 use base::same;
 use selection::Selection;
 ghost use mathlib.Core.Path.{_≡_};
 ghost use Prim.Native.Nat.{_/_, _%_, _≤_, _<_};
-ghost use lib.ListN.{length, getD, replicate};
+ghost use lib.ListN.{length, getD};
 ghost use Rattle.tool_flood.specs.Flood.{neighbour, passable};
 ghost use Rattle.tool_flood.specs.Cells.{Ground, odds, marked, queued, Stepped, Fills};
 
@@ -84,17 +85,6 @@ fn step(
     }
     push(s, tail, q);
     tail + 1
-}
-
-// No marks, and an empty queue.
-fn clear(s: &mut [u64])
-    ensures { λ _. ⌜ now (s .exit) ≡ replicate (length (now (s .entry))) 0 ⌝ }
-{
-    let mut i: usize = 0;
-    while i < s.len() {
-        s[i] = 0;
-        i += 1;
-    }
 }
 
 // The place that a cell has of the queue.

@@ -14,7 +14,7 @@ use Rattle.selection.specs.Selection.{rectangle, fromCorners, translated, posit
 use Rattle.edit.specs.Change.{place, painted, newOf}
 use Rattle.change_normal.specs.Normal.{keyOf, joined, enter, entered, changing, normalizeOf}
 use Rattle.tool_block.specs.Blocks.{ontoGot, onto, landed}
-use Rattle.tool_move.specs.Pasting.{pasteChanges, pastedSelection}
+use Rattle.tool_paste.specs.Pasting.{pasteChanges, pastedSelection}
 use Rattle.tool_move.specs.Moves.{cleared, moveChanges, unmoved, movedList, movedSelection}
 
 abbrev pub at : ℕ → ℕ → ℕ → ℕ → Selection

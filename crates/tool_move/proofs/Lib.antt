@@ -1,7 +1,3 @@
-pub mod Answers
-mod Pasting
-mod Spans
-mod Clips
 pub mod Placing
-pub mod ToolMoveAnswers
+pub mod MoveAnswers
 pub mod Examples

@@ -21,7 +21,7 @@ use Rattle.edit.specs.Change.{Change}
 use Rattle.change_normal.specs.Normal.{normalizeOf}
 use Rattle.tool_block.specs.declared.Landing.{Landing}
 use Rattle.tool_block.specs.Blocks.{Includes, Lands, indexIn, landed}
-use Rattle.tool_move.specs.Pasting.{Left, leaves}
+use Rattle.tool_paste.specs.Pasting.{Left, leaves}
 
 -- "transparency where they were", of each position of the selection
 unfoldable pub cleared : ℕ → List ℤ → List Position → List Change

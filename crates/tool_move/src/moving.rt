@@ -1,6 +1,4 @@
 // `move_selection`.
-use crate::clip::shifted_count;
-use crate::clip::shifted_of;
 use base::NO_SPACE;
 use base::max_usize;
 use base::min_usize;
@@ -17,6 +15,8 @@ use tool_block::clear_rows;
 use tool_block::land;
 use tool_block::landed_rows;
 use tool_block::landing_on;
+use tool_paste::shifted_count;
+use tool_paste::shifted_of;
 ghost use mathlib.Core.Path.{_≡_};
 ghost use mathlib.Core.Bool.{false};
 ghost use mathlib.Core.List.{map};
@@ -33,7 +33,7 @@ ghost use Rattle.change_list.specs.Fronts.{Front};
 ghost use Rattle.change_list.specs.Listed.{InScratch};
 ghost use Rattle.change_normal.specs.Normal.{normalizeOf};
 ghost use Rattle.tool_block.specs.Blocks.{landing};
-ghost use Rattle.tool_move.specs.Pasting.{left, shiftedCount};
+ghost use Rattle.tool_paste.specs.Pasting.{left, shiftedCount};
 ghost use Rattle.tool_move.specs.Moves.{Movable, MoveRows, unmoved, moveChanges, movedList, movedSelection, moveChecks, moveCall};
 
 // Shift 0.

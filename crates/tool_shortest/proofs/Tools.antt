@@ -51,7 +51,7 @@ use Rattle.tool_flood_fill.specs.Fill.{startOf, fillOf, fillChecks, floodFillOf
 use Rattle.sheet.proofs.Places as places
 use Rattle.tool_block.specs.Blocks.{indexIn, ontoGot, onto, landed}
 use Rattle.tool_block.proofs.Placing.{Good, good-landed}
-use Rattle.tool_move.specs.Pasting.{pasteChanges, clipChecks, pasteChecks, pasteCall}
+use Rattle.tool_paste.specs.Pasting.{pasteChanges, clipChecks, pasteChecks, pasteCall}
 use Rattle.tool_move.specs.Moves.{cleared, moveChanges, unmoved, movedList, moveChecks, moveCall}
 use Rattle.tool_move.proofs.Placing.{good-move}
 use Rattle.change_stroke.specs.Stroke.{extended, extendCall}

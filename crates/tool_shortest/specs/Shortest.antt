@@ -25,7 +25,7 @@ use Rattle.change_stroke.specs.Stroke.{extendCall}
 use Rattle.tool_draw.specs.Calls.{pencilCall, eraserCall, lineCall, rectangleCall}
 use Rattle.tool_flood_fill.specs.Fill.{floodFillOf}
 use Rattle.tool_replace.specs.Fills.{replaceColorOf, fillGlobalOf}
-use Rattle.tool_move.specs.Pasting.{Left, pasteCall}
+use Rattle.tool_paste.specs.Pasting.{Left, pasteCall}
 use Rattle.selection.specs.Calls.{shift}
 use Rattle.tool_move.specs.Moves.{moveCall}
 

@@ -58,16 +58,16 @@ use Rattle.struct_change.specs.Struct.{packedOf}
 use Rattle.change_list.specs.Listed.{InScratch}
 use Rattle.change_list.proofs.InScratch.{copy-fits, copied}
 use Rattle.sheet.specs.Sheet.{sheetOf}
-use Rattle.tool_move.specs.Pasting.{left, shiftedCount}
+use Rattle.tool_paste.specs.Pasting.{left, shiftedCount}
 use Rattle.tool_move.specs.Moves.{moveCall}
 use Rattle.tool_move.proofs.move_selection_in as Core-f
 use Rattle.tool_move.proofs.move_selection_in.Symbol as Core-def
 use Rattle.tool_move.proofs.move_selection_in.Symbol.{name as #tool_move·move-selection-in}
 use Rattle.tool_move.proofs.move_selection_in.Met as Core-thm
-use Rattle.tool_move.proofs.shifted_count as Counting-f
-use Rattle.tool_move.proofs.shifted_count.Symbol as Counting-def
-use Rattle.tool_move.proofs.shifted_count.Symbol.{name as #tool_move·shifted-count}
-use Rattle.tool_move.proofs.shifted_count.Met as Counting-thm
+use Rattle.tool_paste.proofs.shifted_count as Counting-f
+use Rattle.tool_paste.proofs.shifted_count.Symbol as Counting-def
+use Rattle.tool_paste.proofs.shifted_count.Symbol.{name as #tool_paste·shifted-count}
+use Rattle.tool_paste.proofs.shifted_count.Met as Counting-thm
 use Rattle.struct_change.proofs.unpack as Unpacking-f
 use Rattle.struct_change.proofs.unpack.Symbol as Unpacking-def
 use Rattle.struct_change.proofs.unpack.Symbol.{name as #struct_change·unpack}
@@ -156,7 +156,7 @@ module _ {M : Type 1} (𝓤 : URA M) (H : Heap 𝓤) (A : Atoms 𝓤) (W : Given
       suffices ! _ (ends-at 𝓤 H A f.ended stayed (f.clauses 𝓤 H A at-mem run) W ((((κ₀, (κ₁, (κ₂, (κ₃, (κ₄, tt))))), (q₀, (q₁, (q₂, (q₃, (q₄, tt))))), tt, a, vals), tt)) (EL.val Shifted-T.the-type Shifted-T′.the-laws r) r (tt, (tt, (tt, (tt, (tt, (tt, (tt, (tt, (tt, (scratch′, (out′, tt))))))))))) (tt, (tt, (tt, (tt, (tt, (tt, (tt, (tt, (tt, (scratch-len, (out-len, tt)))))))))))) $ says ! said $
       nothing ! $ move ! (10 ∷ 0 ∷ []) $ join ! $ move ! (8 ∷ 0 ∷ []) $ join ! $ move ! (6 ∷ 0 ∷ []) $ join ! $ move ! (4 ∷ 0 ∷ []) $ join ! $ move ! (2 ∷ 0 ∷ []) $ join ! $ frame ! $ nothing ! $ move ! (5 ∷ 0 ∷ []) $ fjoin ! $ move ! (4 ∷ 0 ∷ []) $ fjoin ! $ owned ! i32 (Is i32) (sint-makes 𝓤 H A W w32) dy _ dy-is $ fjoin ! $ owned ! i32 (Is i32) (sint-makes 𝓤 H A W w32) dx _ dx-is $ fjoin ! $ owned ! Selection-T.the-row (Is Selection-T.the-row) (LL.makes Selection-T.the-type Selection-T′.the-plain 𝓤 H A) s _ s-is $ fjoin ! $ move ! (3 ∷ 0 ∷ []) $ fjoin ! $ move ! (2 ∷ 0 ∷ []) $ fjoin ! $ move ! (1 ∷ 0 ∷ []) $ fjoin ! $ owned ! usize (Is usize) (uint-makes 𝓤 H A W w64) k _ (refl, k-fits) $ fjoin ! $ owned ! usize (Is usize) (uint-makes 𝓤 H A W w64) h _ (refl, h-fits) $ fjoin ! $ owned ! usize (Is usize) (uint-makes 𝓤 H A W w64) w _ (refl, w-fits) $ fjoin ! $ frame ! $ owned ! Shifted-T.the-row (Is Shifted-T.the-row) (EL.makes Shifted-T.the-type Shifted-T′.the-plain 𝓤 H A) r _ is $ done !
 
-  module _ (C : Calls 𝓤 H) (Λ : Loops 𝓤 H) (fm : FmC 𝓤 H (W .laws) C) (known-Core : Triple 𝓤 (C #tool_move·move-selection-in) (Core 𝓤 H A at-mem run)) (known-Counting : Triple 𝓤 (C #tool_move·shifted-count) (Counting 𝓤 H A at-mem run)) (known-Unpacking : Triple 𝓤 (C #struct_change·unpack) (Unpacking 𝓤 H A at-mem run)) where
+  module _ (C : Calls 𝓤 H) (Λ : Loops 𝓤 H) (fm : FmC 𝓤 H (W .laws) C) (known-Core : Triple 𝓤 (C #tool_move·move-selection-in) (Core 𝓤 H A at-mem run)) (known-Counting : Triple 𝓤 (C #tool_paste·shifted-count) (Counting 𝓤 H A at-mem run)) (known-Unpacking : Triple 𝓤 (C #struct_change·unpack) (Unpacking 𝓤 H A at-mem run)) where
     walk : ent 𝓤 (onEntry 𝓤 H A f.signature (κ₀, (κ₁, (κ₂, (κ₃, (κ₄, tt))))) (q₀, (q₁, (q₂, (q₃, (q₄, tt))))) a vals) (WpFn 𝓤 H C Λ code.function (vint w64 w ∷ vint w64 h ∷ vint w64 k ∷ sliceVal (palette-b, palette-o) (length palette) ∷ sliceVal (lab-b, lab-o) (length lab) ∷ sliceVal (indices-b, indices-o) (length indices) ∷ LL.val Selection-T.the-type Selection-T′.the-laws s ∷ vint w32 (ofZ w32 dx) ∷ vint w32 (ofZ w32 dy) ∷ sliceVal (scratch-b, scratch-o) (length scratch) ∷ sliceVal (out-b, out-o) (length out) ∷ []) Post)
     walk =
         qed W ((‵ (flft κ₀ q₀) ⊛ ‵ (flft κ₁ q₁) ⊛ ‵ (flft κ₂ q₂) ⊛ ‵ (flft κ₃ q₃) ⊛ ‵ (flft κ₄ q₄) ⊛ ‵ ftrue) ∷ ‵ (owns (usize ∷ usize ∷ usize ∷ ShrSlice (named 0) κ₀ u8 ∷ ShrSlice (named 1) κ₁ f64 ∷ ShrSlice (named 2) κ₂ i16 ∷ Selection-T.the-row ∷ i32 ∷ i32 ∷ MutSlice (named 3) κ₃ u64 ∷ MutSlice (named 4) κ₄ Change-T.the-row ∷ []) a vals) ∷ []) ∵ enter ! C Λ code.function (vint w64 w ∷ vint w64 h ∷ vint w64 k ∷ sliceVal (palette-b, palette-o) (length palette) ∷ sliceVal (lab-b, lab-o) (length lab) ∷ sliceVal (indices-b, indices-o) (length indices) ∷ LL.val Selection-T.the-type Selection-T′.the-laws s ∷ vint w32 (ofZ w32 dx) ∷ vint w32 (ofZ w32 dy) ∷ sliceVal (scratch-b, scratch-o) (length scratch) ∷ sliceVal (out-b, out-o) (length out) ∷ []) _ $
@@ -220,13 +220,13 @@ module _ {M : Type 1} (𝓤 : URA M) (H : Heap 𝓤) (A : Atoms 𝓤) (W : Given
         keep ! (16 ∷ 11 ∷ 15 ∷ 10 ∷ 14 ∷ 9 ∷ 0 ∷ 1 ∷ 4 ∷ 2 ∷ []) $ by ! (exits (r₁) (z₁ .1 .1 .1 .1 .1 .1 .1 .1 .1 .0) (z₃ .1 .1 .0) (copied e₁ e₂ (map packedOf out) (sym (length-map out packedOf)) e₃, l₁-scratch) (l₁-scratch) (l₃-out) (subst (λ (u : List Val). Is Shifted-T.the-row r₁ u) (EL.tells Shifted-T.the-type Shifted-T′.the-laws r₁ _ is₁) is₁)))))))))))))))))))))))))))))))))))))))))))))
 
 module _ {M : Type 1} (𝓤 : URA M) (H : Heap 𝓤) (A : Atoms 𝓤) (W : Given 𝓤 H A) (mem : Memory → SProp 𝓤) (run : Routine → Fun 𝓤) where
-  move-selection-walks : (C : Calls 𝓤 H) (Λ : Loops 𝓤 H) → FmC 𝓤 H (W .laws) C → Triple 𝓤 (C #tool_move·move-selection-in) (Core 𝓤 H A mem run) → Triple 𝓤 (C #tool_move·shifted-count) (Counting 𝓤 H A mem run) → Triple 𝓤 (C #struct_change·unpack) (Unpacking 𝓤 H A mem run) → Walks 𝓤 H A f.ended stayed (WpFn 𝓤 H C Λ code.function) (f.clauses 𝓤 H A mem run)
+  move-selection-walks : (C : Calls 𝓤 H) (Λ : Loops 𝓤 H) → FmC 𝓤 H (W .laws) C → Triple 𝓤 (C #tool_move·move-selection-in) (Core 𝓤 H A mem run) → Triple 𝓤 (C #tool_paste·shifted-count) (Counting 𝓤 H A mem run) → Triple 𝓤 (C #struct_change·unpack) (Unpacking 𝓤 H A mem run) → Walks 𝓤 H A f.ended stayed (WpFn 𝓤 H C Λ code.function) (f.clauses 𝓤 H A mem run)
   move-selection-walks C Λ fm known-Core known-Counting known-Unpacking = walked 𝓤 H A f.ended stayed (f.clauses 𝓤 H A mem run) (WpFn 𝓤 H C Λ code.function)
       (λ κs. (uint-vals w64, (uint-vals w64, (uint-vals w64, (slice-vals, (slice-vals, (slice-vals, (LL.vals Selection-T.the-type Selection-T′.the-laws, (sint-vals w32, (sint-vals w32, (slice-vals, (slice-vals, tt)))))))))))) (λ κs. (uint-tells w64, (uint-tells w64, (uint-tells w64, (shr-slice-tells (named 0) (κs .0) u8, (shr-slice-tells (named 1) (κs .1 .0) f64, (shr-slice-tells (named 2) (κs .1 .1 .0) i16, (LL.tells Selection-T.the-type Selection-T′.the-laws, (sint-tells w32, (sint-tells w32, (mut-slice-tells (named 3) (κs .1 .1 .1 .0) u64, (mut-slice-tells (named 4) (κs .1 .1 .1 .1 .0) Change-T.the-row, tt))))))))))))
       (λ κs qs bounds a g are. via 𝓤 _ (fst∗ 𝓤 _ (emp 𝓤))
       (walk 𝓤 H A W mem run (κs .0) (κs .1 .0) (κs .1 .1 .0) (κs .1 .1 .1 .0) (κs .1 .1 .1 .1 .0) (qs .0) (qs .1 .0) (qs .1 .1 .0) (qs .1 .1 .1 .0) (qs .1 .1 .1 .1 .0) (a .0) (a .1 .0) (a .1 .1 .0) (a .1 .1 .1 .0 .ptr .0) (a .1 .1 .1 .0 .ptr .1) (a .1 .1 .1 .0 .name) (a .1 .1 .1 .0 .now) (a .1 .1 .1 .1 .0 .ptr .0) (a .1 .1 .1 .1 .0 .ptr .1) (a .1 .1 .1 .1 .0 .name) (a .1 .1 .1 .1 .0 .now) (a .1 .1 .1 .1 .1 .0 .ptr .0) (a .1 .1 .1 .1 .1 .0 .ptr .1) (a .1 .1 .1 .1 .1 .0 .name) (a .1 .1 .1 .1 .1 .0 .now) (a .1 .1 .1 .1 .1 .1 .0) (a .1 .1 .1 .1 .1 .1 .1 .0) (a .1 .1 .1 .1 .1 .1 .1 .1 .0) (a .1 .1 .1 .1 .1 .1 .1 .1 .1 .0 .ptr .0) (a .1 .1 .1 .1 .1 .1 .1 .1 .1 .0 .ptr .1) (a .1 .1 .1 .1 .1 .1 .1 .1 .1 .0 .name) (a .1 .1 .1 .1 .1 .1 .1 .1 .1 .0 .now) (a .1 .1 .1 .1 .1 .1 .1 .1 .1 .1 .0 .ptr .0) (a .1 .1 .1 .1 .1 .1 .1 .1 .1 .1 .0 .ptr .1) (a .1 .1 .1 .1 .1 .1 .1 .1 .1 .1 .0 .name) (a .1 .1 .1 .1 .1 .1 .1 .1 .1 .1 .0 .now) (are .0 .1) (are .1 .0 .1) (are .1 .1 .0 .1) (are .1 .1 .1 .0 .0 .1) (are .1 .1 .1 .1 .0 .0 .1) (are .1 .1 .1 .1 .1 .0 .0 .1) (are .1 .1 .1 .1 .1 .1 .0) (are .1 .1 .1 .1 .1 .1 .1 .0) (are .1 .1 .1 .1 .1 .1 .1 .1 .0) (are .1 .1 .1 .1 .1 .1 .1 .1 .1 .0 .0 .1) (are .1 .1 .1 .1 .1 .1 .1 .1 .1 .1 .0 .0 .1) C Λ fm known-Core known-Counting known-Unpacking))
 
-move-selection-meets : {M : Type 1} (𝓤 : URA M) (H : Heap 𝓤) (A : Atoms 𝓤) → Given 𝓤 H A → (mem : Memory → SProp 𝓤) (run : Routine → Fun 𝓤) (𝓣 : Tables 𝓤 H) → Triple 𝓤 (𝓣 .C #tool_move·move-selection-in) (Core 𝓤 H A mem run) → Triple 𝓤 (𝓣 .C #tool_move·shifted-count) (Counting 𝓤 H A mem run) → Triple 𝓤 (𝓣 .C #struct_change·unpack) (Unpacking 𝓤 H A mem run) → Meets 𝓤 H A f.signature (WpFn 𝓤 H (𝓣 .C) (𝓣 .Λ) code.function) (f.spec 𝓤 H A mem run)
+move-selection-meets : {M : Type 1} (𝓤 : URA M) (H : Heap 𝓤) (A : Atoms 𝓤) → Given 𝓤 H A → (mem : Memory → SProp 𝓤) (run : Routine → Fun 𝓤) (𝓣 : Tables 𝓤 H) → Triple 𝓤 (𝓣 .C #tool_move·move-selection-in) (Core 𝓤 H A mem run) → Triple 𝓤 (𝓣 .C #tool_paste·shifted-count) (Counting 𝓤 H A mem run) → Triple 𝓤 (𝓣 .C #struct_change·unpack) (Unpacking 𝓤 H A mem run) → Meets 𝓤 H A f.signature (WpFn 𝓤 H (𝓣 .C) (𝓣 .Λ) code.function) (f.spec 𝓤 H A mem run)
 move-selection-meets 𝓤 H A W mem run 𝓣 known-Core known-Counting known-Unpacking =
     walk-meets 𝓤 H A f.ended stayed W (goes-none 𝓤 H A W 5 (λ _. usize) yes (λ κs x f. refl), (goes-none 𝓤 H A W 5 (λ _. usize) yes (λ κs x f. refl), (goes-none 𝓤 H A W 5 (λ _. usize) yes (λ κs x f. refl), (goes-none-slice 𝓤 H A W 5 (0 ∷ []) tt (plain (λ _. u8)) yes, (goes-none-slice 𝓤 H A W 5 (1 ∷ []) tt (plain (λ _. f64)) yes, (goes-none-slice 𝓤 H A W 5 (2 ∷ []) tt (plain (λ _. i16)) yes, (goes-none 𝓤 H A W 5 (λ _. Selection-T.the-row) yes (λ κs x f. refl), (goes-none 𝓤 H A W 5 (λ _. i32) yes (λ κs x f. refl), (goes-none 𝓤 H A W 5 (λ _. i32) yes (λ κs x f. refl), (goes-slice 𝓤 H A W 5 3 tt (plain (λ _. u64)), (goes-gave-slice 𝓤 H A W 5 4 tt (plain (λ _. Change-T.the-row)), tt))))))))))) (f.clauses 𝓤 H A mem run)
     (WpFn 𝓤 H (𝓣 .C) (𝓣 .Λ) code.function) (WpFn-mono 𝓤 H (W .laws) 𝓣 code.function) (move-selection-walks 𝓤 H A W mem run (𝓣 .C) (𝓣 .Λ) (fmOf 𝓤 H (W .laws) 𝓣) known-Core known-Counting known-Unpacking)
@@ -238,5 +238,5 @@ move-selection-spec 𝓤 H 𝓜 𝓖 𝓡 =
     (tables 𝓤 H 𝓜 𝓡 code.env .C) (tables 𝓤 H 𝓜 𝓡 code.env .Λ) #struct_move·move-selection code.function (code.unfolded 𝓤 H 𝓜 𝓡)
     (move-selection-meets 𝓤 H (𝓖 .A) (given-of 𝓤 H 𝓜 𝓖) (𝓜 .mem) (𝓡 .run) (tablesOf 𝓤 H 𝓜 (tables 𝓤 H 𝓜 𝓡 code.env))
     (cited 𝓤 H (Core 𝓤 H (𝓖 .A) (𝓜 .mem) (𝓡 .run)) 𝓜 𝓡 code.env #tool_move·move-selection-in Core-def.routine code.calls-tool-move·move-selection-in (Core-thm.met 𝓤 H 𝓜 𝓖 𝓡))
-    (cited 𝓤 H (Counting 𝓤 H (𝓖 .A) (𝓜 .mem) (𝓡 .run)) 𝓜 𝓡 code.env #tool_move·shifted-count Counting-def.routine code.calls-tool-move·shifted-count (Counting-thm.met 𝓤 H 𝓜 𝓖 𝓡))
+    (cited 𝓤 H (Counting 𝓤 H (𝓖 .A) (𝓜 .mem) (𝓡 .run)) 𝓜 𝓡 code.env #tool_paste·shifted-count Counting-def.routine code.calls-tool-paste·shifted-count (Counting-thm.met 𝓤 H 𝓜 𝓖 𝓡))
     (cited 𝓤 H (Unpacking 𝓤 H (𝓖 .A) (𝓜 .mem) (𝓡 .run)) 𝓜 𝓡 code.env #struct_change·unpack Unpacking-def.routine code.calls-struct-change·unpack (Unpacking-thm.met 𝓤 H 𝓜 𝓖 𝓡)))

@@ -13,7 +13,7 @@ use Rattle.history_ledger.specs.Journal.{State, entryChecks}
 use Rattle.history_model.specs.Editing.{givenOf, editing}
 use Rattle.history_model.specs.Calls.{stateOf, Standing}
 use Rattle.history_model.proofs.PushChecks.{pushes-long, pushes-scratch, pushes-own}
-use Rattle.struct_replay.proofs.Replaying.{head-decides}
+use Rattle.struct_steps.proofs.Replaying.{head-decides}
 use Rattle.struct_push_checks.proofs.PushSteps.{number-entry, number-push, begun-refused, begun-still, begun-ready}
 use borrow.Author.Needs.{needs}
 use Rattle.struct_push_checks.proofs.begin.Statement.{statement}

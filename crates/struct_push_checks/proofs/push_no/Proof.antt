@@ -62,7 +62,7 @@ use Rattle.struct_change.specs.Struct.{packedOf}
 use Rattle.struct_edit.specs.Walk.{packedAll, flatAll, checkUpto, markUpto, Checkable}
 use Rattle.history_model.specs.Editing.{givenOf}
 use Rattle.history_model.specs.Calls.{stateOf}
-use Rattle.struct_replay.specs.Phases.{Begun, PushNumbered, fullNumber}
+use Rattle.struct_steps.specs.Phases.{Begun, PushNumbered, fullNumber}
 use Rattle.struct_push_checks.proofs.PushSteps.{begun-checkable, settle-checkable, settle-short, settle-marks, push-number}
 use Rattle.struct_push_checks.proofs.begin as Beginning-f
 use Rattle.struct_push_checks.proofs.begin.Symbol as Beginning-def

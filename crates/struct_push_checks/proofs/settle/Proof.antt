@@ -1,6 +1,6 @@
 -- `settle`: the number so far and 13, then 14. Assumes nothing.
 use mathlib.Core.Path.{sym, _∙_}
-use Rattle.struct_replay.proofs.Replaying.{first-kept}
+use Rattle.struct_steps.proofs.Replaying.{first-kept}
 use Rattle.struct_push_checks.proofs.PushSteps.{empty-is, end-small, full-here, full-not}
 use borrow.Author.Needs.{needs}
 use Rattle.struct_push_checks.proofs.settle.Statement.{statement}

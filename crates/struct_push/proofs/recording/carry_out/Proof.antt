@@ -62,7 +62,7 @@ use Rattle.struct_edit.specs.Walk.{packedAll, flatAll, putUpto, paintUpto, AllP
 use Rattle.history_ledger.specs.Journal.{pushed}
 use Rattle.history_model.specs.Editing.{givenOf, editing}
 use Rattle.history_model.specs.Calls.{stateOf, leaves, Standing, Acceptable}
-use Rattle.struct_replay.specs.Phases.{pushedOr, nonePut, finished, Finishes}
+use Rattle.struct_steps.specs.Phases.{pushedOr, nonePut, finished, Finishes}
 use Rattle.struct_push.proofs.Carrying.{carry-puts, carry-paints, carry-finishes, carried}
 use Rattle.struct_edit.proofs.put_list as Writing-f
 use Rattle.struct_edit.proofs.put_list.Symbol as Writing-def

@@ -3,7 +3,7 @@ use mathlib.Core.Path.{sym, _∙_}
 use mathlib.Core.List.{[]}
 use native.Mathlib.Omega.{arith}
 use Rattle.history_model.proofs.Answers.{leaves-refused, leaves-still}
-use Rattle.struct_replay.specs.Phases.{Finishes}
+use Rattle.struct_steps.specs.Phases.{Finishes}
 use Rattle.struct_push_checks.proofs.PushSteps.{empty-is}
 use Rattle.struct_push.proofs.Pushed.{refused-push, still-push, done-push}
 use Rattle.struct_push.proofs.Finishing.{around-asks, offset-inside, finished-is}

@@ -67,7 +67,7 @@ use Rattle.history_ledger.specs.Journal.{pushOf, pushed}
 use Rattle.history_model.specs.Editing.{givenOf, editing}
 use Rattle.history_model.specs.Calls.{stateOf, leaves, Standing, Acceptable}
 use Rattle.struct_push.specs.Lent.{leavesLent}
-use Rattle.struct_replay.specs.Phases.{PushNumbered, pushedOr}
+use Rattle.struct_steps.specs.Phases.{PushNumbered, pushedOr}
 use Rattle.struct_push.proofs.Pushed.{push-is}
 use Rattle.struct_push_checks.proofs.push_no as Numbering-f
 use Rattle.struct_push_checks.proofs.push_no.Symbol as Numbering-def

@@ -59,16 +59,16 @@ use Rattle.edit_head.specs.Apart.{Finishable}
 use Rattle.edit_apply.specs.Redoable.{Redoable}
 use Rattle.struct_edit.specs.Walk.{flatAll, paintUpto, AllPaintable}
 use Rattle.history_model.specs.Replay.{replayed}
-use Rattle.struct_replay.specs.Phases.{doneOr}
-use Rattle.struct_replay.proofs.Replaying.{done-either, redoable-paints, redoable-finishes}
+use Rattle.struct_steps.specs.Phases.{doneOr}
+use Rattle.struct_steps.proofs.Replaying.{done-either, redoable-paints, redoable-finishes}
 use Rattle.struct_edit.proofs.paint_list as Painting-f
 use Rattle.struct_edit.proofs.paint_list.Symbol as Painting-def
 use Rattle.struct_edit.proofs.paint_list.Symbol.{name as #struct_edit·paint-list}
 use Rattle.struct_edit.proofs.paint_list.Met as Painting-thm
-use Rattle.struct_replay.proofs.op.finish_replay as Finishing-f
-use Rattle.struct_replay.proofs.op.finish_replay.Symbol as Finishing-def
-use Rattle.struct_replay.proofs.op.finish_replay.Symbol.{name as #struct_replay·op·finish-replay}
-use Rattle.struct_replay.proofs.op.finish_replay.Met as Finishing-thm
+use Rattle.struct_steps.proofs.finish_replay as Finishing-f
+use Rattle.struct_steps.proofs.finish_replay.Symbol as Finishing-def
+use Rattle.struct_steps.proofs.finish_replay.Symbol.{name as #struct_steps·finish-replay}
+use Rattle.struct_steps.proofs.finish_replay.Met as Finishing-thm
 use Rattle.struct_replay.proofs.op.redo_list.Key.{name as #struct_replay·op·redo-list}
 use Rattle.struct_replay.proofs.op.redo_list as f
 use Rattle.struct_replay.proofs.op.redo_list.Statement as stated
@@ -138,7 +138,7 @@ module _ {M : Type 1} (𝓤 : URA M) (H : Heap 𝓤) (A : Atoms 𝓤) (W : Given
       suffices ! _ (ends-at 𝓤 H A f.ended stayed (f.clauses 𝓤 H A at-mem run) W ((((κ₀, (κ₁, (κ₂, (κ₃, tt)))), (q₀, (q₁, (q₂, (q₃, tt)))), tt, a, vals), tt)) (LL.val Replayed-T.the-type Replayed-T′.the-laws r) r (tt, (tt, (tt, (palette′, (lab′, (indices′, (tt, (tt, tt)))))))) (tt, (tt, (tt, (palette-len, (lab-len, (indices-len, (tt, (tt, tt))))))))) $ says ! said $
       nothing ! $ move ! (8 ∷ 0 ∷ []) $ join ! $ move ! (6 ∷ 0 ∷ []) $ join ! $ move ! (4 ∷ 0 ∷ []) $ join ! $ move ! (2 ∷ 0 ∷ []) $ join ! $ frame ! $ nothing ! $ move ! (4 ∷ 0 ∷ []) $ fjoin ! $ owned ! Edit-T.the-row (Is Edit-T.the-row) (EL.makes Edit-T.the-type Edit-T′.the-plain 𝓤 H A) edit _ edit-is $ fjoin ! $ move ! (3 ∷ 0 ∷ []) $ fjoin ! $ move ! (2 ∷ 0 ∷ []) $ fjoin ! $ move ! (1 ∷ 0 ∷ []) $ fjoin ! $ owned ! usize (Is usize) (uint-makes 𝓤 H A W w64) k _ (refl, k-fits) $ fjoin ! $ owned ! usize (Is usize) (uint-makes 𝓤 H A W w64) w _ (refl, w-fits) $ fjoin ! $ owned ! u8 (Is u8) (uint-makes 𝓤 H A W w8) no _ (refl, no-fits) $ fjoin ! $ frame ! $ owned ! Replayed-T.the-row (Is Replayed-T.the-row) (LL.makes Replayed-T.the-type Replayed-T′.the-plain 𝓤 H A) r _ is $ done !
 
-  module _ (C : Calls 𝓤 H) (Λ : Loops 𝓤 H) (fm : FmC 𝓤 H (W .laws) C) (known-Painting : Triple 𝓤 (C #struct_edit·paint-list) (Painting 𝓤 H A at-mem run)) (known-Finishing : Triple 𝓤 (C #struct_replay·op·finish-replay) (Finishing 𝓤 H A at-mem run)) where
+  module _ (C : Calls 𝓤 H) (Λ : Loops 𝓤 H) (fm : FmC 𝓤 H (W .laws) C) (known-Painting : Triple 𝓤 (C #struct_edit·paint-list) (Painting 𝓤 H A at-mem run)) (known-Finishing : Triple 𝓤 (C #struct_steps·finish-replay) (Finishing 𝓤 H A at-mem run)) where
     walk : ent 𝓤 (onEntry 𝓤 H A f.signature (κ₀, (κ₁, (κ₂, (κ₃, tt)))) (q₀, (q₁, (q₂, (q₃, tt)))) a vals) (WpFn 𝓤 H C Λ code.function (vint w8 no ∷ vint w64 w ∷ vint w64 k ∷ sliceVal (palette-b, palette-o) (length palette) ∷ sliceVal (lab-b, lab-o) (length lab) ∷ sliceVal (indices-b, indices-o) (length indices) ∷ EL.val Edit-T.the-type Edit-T′.the-laws edit ∷ sliceVal (list-b, list-o) (length list) ∷ []) Post)
     walk =
         qed W ((‵ (flft κ₀ q₀) ⊛ ‵ (flft κ₁ q₁) ⊛ ‵ (flft κ₂ q₂) ⊛ ‵ (flft κ₃ q₃) ⊛ ‵ ftrue) ∷ ‵ (owns (u8 ∷ usize ∷ usize ∷ MutSlice (named 0) κ₀ u8 ∷ MutSlice (named 1) κ₁ f64 ∷ MutSlice (named 2) κ₂ i16 ∷ Edit-T.the-row ∷ ShrSlice (named 3) κ₃ Change-T.the-row ∷ []) a vals) ∷ []) ∵ enter ! C Λ code.function (vint w8 no ∷ vint w64 w ∷ vint w64 k ∷ sliceVal (palette-b, palette-o) (length palette) ∷ sliceVal (lab-b, lab-o) (length lab) ∷ sliceVal (indices-b, indices-o) (length indices) ∷ EL.val Edit-T.the-type Edit-T′.the-laws edit ∷ sliceVal (list-b, list-o) (length list) ∷ []) _ $
@@ -189,13 +189,13 @@ module _ {M : Type 1} (𝓤 : URA M) (H : Heap 𝓤) (A : Atoms 𝓤) (W : Given
         keep ! (7 ∷ 3 ∷ 6 ∷ 2 ∷ 5 ∷ 0 ∷ 11 ∷ 8 ∷ []) $ by ! (exits (r₂) (z₂ .1 .1 .0) (z₂ .1 .1 .1 .0) (z₂ .1 .1 .1 .1 .0) (λ (h : ℕ). e₂ w h ∙ done-either w h k palette lab indices edit list no (z₁ .1 .1 .0) e₁) (l₂-palette) (l₂-lab) (l₂-indices ∙ l₁-indices) (subst (λ (u : List Val). Is Replayed-T.the-row r₂ u) (LL.tells Replayed-T.the-type Replayed-T′.the-laws r₂ _ is₂) is₂))))))))))))))))))))))))))))))))))))
 
 module _ {M : Type 1} (𝓤 : URA M) (H : Heap 𝓤) (A : Atoms 𝓤) (W : Given 𝓤 H A) (mem : Memory → SProp 𝓤) (run : Routine → Fun 𝓤) where
-  redo-list-walks : (C : Calls 𝓤 H) (Λ : Loops 𝓤 H) → FmC 𝓤 H (W .laws) C → Triple 𝓤 (C #struct_edit·paint-list) (Painting 𝓤 H A mem run) → Triple 𝓤 (C #struct_replay·op·finish-replay) (Finishing 𝓤 H A mem run) → Walks 𝓤 H A f.ended stayed (WpFn 𝓤 H C Λ code.function) (f.clauses 𝓤 H A mem run)
+  redo-list-walks : (C : Calls 𝓤 H) (Λ : Loops 𝓤 H) → FmC 𝓤 H (W .laws) C → Triple 𝓤 (C #struct_edit·paint-list) (Painting 𝓤 H A mem run) → Triple 𝓤 (C #struct_steps·finish-replay) (Finishing 𝓤 H A mem run) → Walks 𝓤 H A f.ended stayed (WpFn 𝓤 H C Λ code.function) (f.clauses 𝓤 H A mem run)
   redo-list-walks C Λ fm known-Painting known-Finishing = walked 𝓤 H A f.ended stayed (f.clauses 𝓤 H A mem run) (WpFn 𝓤 H C Λ code.function)
       (λ κs. (uint-vals w8, (uint-vals w64, (uint-vals w64, (slice-vals, (slice-vals, (slice-vals, (EL.vals Edit-T.the-type Edit-T′.the-laws, (slice-vals, tt))))))))) (λ κs. (uint-tells w8, (uint-tells w64, (uint-tells w64, (mut-slice-tells (named 0) (κs .0) u8, (mut-slice-tells (named 1) (κs .1 .0) f64, (mut-slice-tells (named 2) (κs .1 .1 .0) i16, (EL.tells Edit-T.the-type Edit-T′.the-laws, (shr-slice-tells (named 3) (κs .1 .1 .1 .0) Change-T.the-row, tt)))))))))
       (λ κs qs bounds a g are. needs 𝓤 _ _ (λ fit.
       (walk 𝓤 H A W mem run (κs .0) (κs .1 .0) (κs .1 .1 .0) (κs .1 .1 .1 .0) (qs .0) (qs .1 .0) (qs .1 .1 .0) (qs .1 .1 .1 .0) (a .0) (a .1 .0) (a .1 .1 .0) (a .1 .1 .1 .0 .ptr .0) (a .1 .1 .1 .0 .ptr .1) (a .1 .1 .1 .0 .name) (a .1 .1 .1 .0 .now) (a .1 .1 .1 .1 .0 .ptr .0) (a .1 .1 .1 .1 .0 .ptr .1) (a .1 .1 .1 .1 .0 .name) (a .1 .1 .1 .1 .0 .now) (a .1 .1 .1 .1 .1 .0 .ptr .0) (a .1 .1 .1 .1 .1 .0 .ptr .1) (a .1 .1 .1 .1 .1 .0 .name) (a .1 .1 .1 .1 .1 .0 .now) (a .1 .1 .1 .1 .1 .1 .0) (a .1 .1 .1 .1 .1 .1 .1 .0 .ptr .0) (a .1 .1 .1 .1 .1 .1 .1 .0 .ptr .1) (a .1 .1 .1 .1 .1 .1 .1 .0 .name) (a .1 .1 .1 .1 .1 .1 .1 .0 .now) (are .0 .1) (are .1 .0 .1) (are .1 .1 .0 .1) (are .1 .1 .1 .0 .0 .1) (are .1 .1 .1 .1 .0 .0 .1) (are .1 .1 .1 .1 .1 .0 .0 .1) (are .1 .1 .1 .1 .1 .1 .0) (are .1 .1 .1 .1 .1 .1 .1 .0 .0 .1) fit C Λ fm known-Painting known-Finishing)))
 
-redo-list-meets : {M : Type 1} (𝓤 : URA M) (H : Heap 𝓤) (A : Atoms 𝓤) → Given 𝓤 H A → (mem : Memory → SProp 𝓤) (run : Routine → Fun 𝓤) (𝓣 : Tables 𝓤 H) → Triple 𝓤 (𝓣 .C #struct_edit·paint-list) (Painting 𝓤 H A mem run) → Triple 𝓤 (𝓣 .C #struct_replay·op·finish-replay) (Finishing 𝓤 H A mem run) → Meets 𝓤 H A f.signature (WpFn 𝓤 H (𝓣 .C) (𝓣 .Λ) code.function) (f.spec 𝓤 H A mem run)
+redo-list-meets : {M : Type 1} (𝓤 : URA M) (H : Heap 𝓤) (A : Atoms 𝓤) → Given 𝓤 H A → (mem : Memory → SProp 𝓤) (run : Routine → Fun 𝓤) (𝓣 : Tables 𝓤 H) → Triple 𝓤 (𝓣 .C #struct_edit·paint-list) (Painting 𝓤 H A mem run) → Triple 𝓤 (𝓣 .C #struct_steps·finish-replay) (Finishing 𝓤 H A mem run) → Meets 𝓤 H A f.signature (WpFn 𝓤 H (𝓣 .C) (𝓣 .Λ) code.function) (f.spec 𝓤 H A mem run)
 redo-list-meets 𝓤 H A W mem run 𝓣 known-Painting known-Finishing =
     walk-meets 𝓤 H A f.ended stayed W (goes-none 𝓤 H A W 4 (λ _. u8) yes (λ κs x f. refl), (goes-none 𝓤 H A W 4 (λ _. usize) yes (λ κs x f. refl), (goes-none 𝓤 H A W 4 (λ _. usize) yes (λ κs x f. refl), (goes-gave-slice 𝓤 H A W 4 0 tt (plain (λ _. u8)), (goes-gave-slice 𝓤 H A W 4 1 tt (plain (λ _. f64)), (goes-gave-slice 𝓤 H A W 4 2 tt (plain (λ _. i16)), (goes-none 𝓤 H A W 4 (λ _. Edit-T.the-row) yes (λ κs x f. refl), (goes-none-slice 𝓤 H A W 4 (3 ∷ []) tt (plain (λ _. Change-T.the-row)) yes, tt)))))))) (f.clauses 𝓤 H A mem run)
     (WpFn 𝓤 H (𝓣 .C) (𝓣 .Λ) code.function) (WpFn-mono 𝓤 H (W .laws) 𝓣 code.function) (redo-list-walks 𝓤 H A W mem run (𝓣 .C) (𝓣 .Λ) (fmOf 𝓤 H (W .laws) 𝓣) known-Painting known-Finishing)
@@ -207,4 +207,4 @@ redo-list-spec 𝓤 H 𝓜 𝓖 𝓡 =
     (tables 𝓤 H 𝓜 𝓡 code.env .C) (tables 𝓤 H 𝓜 𝓡 code.env .Λ) #struct_replay·op·redo-list code.function (code.unfolded 𝓤 H 𝓜 𝓡)
     (redo-list-meets 𝓤 H (𝓖 .A) (given-of 𝓤 H 𝓜 𝓖) (𝓜 .mem) (𝓡 .run) (tablesOf 𝓤 H 𝓜 (tables 𝓤 H 𝓜 𝓡 code.env))
     (cited 𝓤 H (Painting 𝓤 H (𝓖 .A) (𝓜 .mem) (𝓡 .run)) 𝓜 𝓡 code.env #struct_edit·paint-list Painting-def.routine code.calls-struct-edit·paint-list (Painting-thm.met 𝓤 H 𝓜 𝓖 𝓡))
-    (cited 𝓤 H (Finishing 𝓤 H (𝓖 .A) (𝓜 .mem) (𝓡 .run)) 𝓜 𝓡 code.env #struct_replay·op·finish-replay Finishing-def.routine code.calls-struct-replay·op·finish-replay (Finishing-thm.met 𝓤 H 𝓜 𝓖 𝓡)))
+    (cited 𝓤 H (Finishing 𝓤 H (𝓖 .A) (𝓜 .mem) (𝓡 .run)) 𝓜 𝓡 code.env #struct_steps·finish-replay Finishing-def.routine code.calls-struct-steps·finish-replay (Finishing-thm.met 𝓤 H 𝓜 𝓖 𝓡)))

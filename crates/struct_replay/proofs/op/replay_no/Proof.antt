@@ -57,20 +57,20 @@ use Rattle.edit_head.specs.Apart.{leftChecks, MarksFor}
 use Rattle.struct_edit.specs.Walk.{flatAll, checkUpto, markUpto, Checkable}
 use Rattle.struct_edit.proofs.Told.{told-length}
 use Rattle.history_model.specs.Replay.{replayChecks}
-use Rattle.struct_replay.specs.Phases.{ReplayBegun}
-use Rattle.struct_replay.proofs.Replaying.{opened-checkable, checked-checkable, checked-marks, replay-number}
-use Rattle.struct_replay.proofs.op.open_replay as Opening-f
-use Rattle.struct_replay.proofs.op.open_replay.Symbol as Opening-def
-use Rattle.struct_replay.proofs.op.open_replay.Symbol.{name as #struct_replay·op·open-replay}
-use Rattle.struct_replay.proofs.op.open_replay.Met as Opening-thm
+use Rattle.struct_steps.specs.Phases.{ReplayBegun}
+use Rattle.struct_steps.proofs.Replaying.{opened-checkable, checked-checkable, checked-marks, replay-number}
+use Rattle.struct_steps.proofs.open_replay as Opening-f
+use Rattle.struct_steps.proofs.open_replay.Symbol as Opening-def
+use Rattle.struct_steps.proofs.open_replay.Symbol.{name as #struct_steps·open-replay}
+use Rattle.struct_steps.proofs.open_replay.Met as Opening-thm
 use Rattle.struct_edit.proofs.check_list as Checking-f
 use Rattle.struct_edit.proofs.check_list.Symbol as Checking-def
 use Rattle.struct_edit.proofs.check_list.Symbol.{name as #struct_edit·check-list}
 use Rattle.struct_edit.proofs.check_list.Met as Checking-thm
-use Rattle.struct_replay.proofs.op.left_after as Leaving-f
-use Rattle.struct_replay.proofs.op.left_after.Symbol as Leaving-def
-use Rattle.struct_replay.proofs.op.left_after.Symbol.{name as #struct_replay·op·left-after}
-use Rattle.struct_replay.proofs.op.left_after.Met as Leaving-thm
+use Rattle.struct_steps.proofs.left_after as Leaving-f
+use Rattle.struct_steps.proofs.left_after.Symbol as Leaving-def
+use Rattle.struct_steps.proofs.left_after.Symbol.{name as #struct_steps·left-after}
+use Rattle.struct_steps.proofs.left_after.Met as Leaving-thm
 use Rattle.struct_replay.proofs.op.replay_no.Key.{name as #struct_replay·op·replay-no}
 use Rattle.struct_replay.proofs.op.replay_no as f
 use Rattle.struct_replay.proofs.op.replay_no.Statement as stated
@@ -155,7 +155,7 @@ module _ {M : Type 1} (𝓤 : URA M) (H : Heap 𝓤) (A : Atoms 𝓤) (W : Given
       suffices ! _ (ends-at 𝓤 H A f.ended stayed (f.clauses 𝓤 H A at-mem run) W ((((κ₀, (κ₁, (κ₂, (κ₃, (κ₄, (κ₅, tt)))))), (q₀, (q₁, (q₂, (q₃, (q₄, (q₅, tt)))))), tt, a, vals), tt)) (vint w8 r) r (tt, (tt, (tt, (tt, (tt, (tt, (tt, (tt, (tt, (tt, (marks′, tt))))))))))) (tt, (tt, (tt, (tt, (tt, (tt, (tt, (tt, (tt, (tt, (marks-len, tt)))))))))))) $ says ! said $
       nothing ! $ move ! (12 ∷ 0 ∷ []) $ join ! $ move ! (10 ∷ 0 ∷ []) $ join ! $ move ! (8 ∷ 0 ∷ []) $ join ! $ move ! (6 ∷ 0 ∷ []) $ join ! $ move ! (4 ∷ 0 ∷ []) $ join ! $ move ! (2 ∷ 0 ∷ []) $ join ! $ frame ! $ nothing ! $ move ! (6 ∷ 0 ∷ []) $ fjoin ! $ move ! (5 ∷ 0 ∷ []) $ fjoin ! $ owned ! Edit-T.the-row (Is Edit-T.the-row) (EL.makes Edit-T.the-type Edit-T′.the-plain 𝓤 H A) edit _ edit-is $ fjoin ! $ move ! (4 ∷ 0 ∷ []) $ fjoin ! $ owned ! bool (Is bool) (bool-makes 𝓤 H A W) limited _ refl $ fjoin ! $ move ! (3 ∷ 0 ∷ []) $ fjoin ! $ move ! (2 ∷ 0 ∷ []) $ fjoin ! $ move ! (1 ∷ 0 ∷ []) $ fjoin ! $ owned ! usize (Is usize) (uint-makes 𝓤 H A W w64) k _ (refl, k-fits) $ fjoin ! $ owned ! usize (Is usize) (uint-makes 𝓤 H A W w64) h _ (refl, h-fits) $ fjoin ! $ owned ! usize (Is usize) (uint-makes 𝓤 H A W w64) w _ (refl, w-fits) $ fjoin ! $ frame ! $ owned ! u8 (Is u8) (uint-makes 𝓤 H A W w8) r _ (refl, is) $ done !
 
-  module _ (C : Calls 𝓤 H) (Λ : Loops 𝓤 H) (fm : FmC 𝓤 H (W .laws) C) (known-Opening : Triple 𝓤 (C #struct_replay·op·open-replay) (Opening 𝓤 H A at-mem run)) (known-Checking : Triple 𝓤 (C #struct_edit·check-list) (Checking 𝓤 H A at-mem run)) (known-Leaving : Triple 𝓤 (C #struct_replay·op·left-after) (Leaving 𝓤 H A at-mem run)) where
+  module _ (C : Calls 𝓤 H) (Λ : Loops 𝓤 H) (fm : FmC 𝓤 H (W .laws) C) (known-Opening : Triple 𝓤 (C #struct_steps·open-replay) (Opening 𝓤 H A at-mem run)) (known-Checking : Triple 𝓤 (C #struct_edit·check-list) (Checking 𝓤 H A at-mem run)) (known-Leaving : Triple 𝓤 (C #struct_steps·left-after) (Leaving 𝓤 H A at-mem run)) where
     walk : ent 𝓤 (onEntry 𝓤 H A f.signature (κ₀, (κ₁, (κ₂, (κ₃, (κ₄, (κ₅, tt)))))) (q₀, (q₁, (q₂, (q₃, (q₄, (q₅, tt)))))) a vals) (WpFn 𝓤 H C Λ code.function (vint w64 w ∷ vint w64 h ∷ vint w64 k ∷ sliceVal (palette-b, palette-o) (length palette) ∷ sliceVal (lab-b, lab-o) (length lab) ∷ sliceVal (indices-b, indices-o) (length indices) ∷ vbool limited ∷ sliceVal (permitted-b, permitted-o) (length permitted) ∷ EL.val Edit-T.the-type Edit-T′.the-laws edit ∷ sliceVal (list-b, list-o) (length list) ∷ sliceVal (marks-b, marks-o) (length marks) ∷ []) Post)
     walk =
         qed W ((‵ (flft κ₀ q₀) ⊛ ‵ (flft κ₁ q₁) ⊛ ‵ (flft κ₂ q₂) ⊛ ‵ (flft κ₃ q₃) ⊛ ‵ (flft κ₄ q₄) ⊛ ‵ (flft κ₅ q₅) ⊛ ‵ ftrue) ∷ ‵ (owns (usize ∷ usize ∷ usize ∷ ShrSlice (named 0) κ₀ u8 ∷ ShrSlice (named 1) κ₁ f64 ∷ ShrSlice (named 2) κ₂ i16 ∷ bool ∷ ShrSlice (named 3) κ₃ u8 ∷ Edit-T.the-row ∷ ShrSlice (named 4) κ₄ Change-T.the-row ∷ MutSlice (named 5) κ₅ u8 ∷ []) a vals) ∷ []) ∵ enter ! C Λ code.function (vint w64 w ∷ vint w64 h ∷ vint w64 k ∷ sliceVal (palette-b, palette-o) (length palette) ∷ sliceVal (lab-b, lab-o) (length lab) ∷ sliceVal (indices-b, indices-o) (length indices) ∷ vbool limited ∷ sliceVal (permitted-b, permitted-o) (length permitted) ∷ EL.val Edit-T.the-type Edit-T′.the-laws edit ∷ sliceVal (list-b, list-o) (length list) ∷ sliceVal (marks-b, marks-o) (length marks) ∷ []) _ $
@@ -227,13 +227,13 @@ module _ {M : Type 1} (𝓤 : URA M) (H : Heap 𝓤) (A : Atoms 𝓤) (W : Given
         keep ! (17 ∷ 13 ∷ 16 ∷ 12 ∷ 5 ∷ 3 ∷ 15 ∷ 11 ∷ 9 ∷ 6 ∷ 0 ∷ 1 ∷ []) $ by ! (exits (r₃) (z₂ .1 .1 .1 .1 .1 .1 .1 .0) (replay-number (length marks) w h k palette lab indices (permittedOf limited permitted) edit list r₁ (z₁ .1 .1 .1 .1 .1 .1 .1 .1 .1 .1 .0) (e₁ (flatAll list) (told-length list)) l₁-marks r₂ r₃ (e₂ .0) (e₃ (flatAll list) (λ z. rw (e₂ .1) (checked-marks (length marks) w h k palette lab indices (permittedOf limited permitted) edit list r₁ (z₁ .1 .1 .1 .1 .1 .1 .1 .1 .1 .1 .0) (e₁ (flatAll list) (told-length list)) l₁-marks r₂ (e₂ .0) z)))) (l₂-marks ∙ l₁-marks) (is₃ .1))))))))))))))))))))))))))))))))))))))))))))))
 
 module _ {M : Type 1} (𝓤 : URA M) (H : Heap 𝓤) (A : Atoms 𝓤) (W : Given 𝓤 H A) (mem : Memory → SProp 𝓤) (run : Routine → Fun 𝓤) where
-  replay-no-walks : (C : Calls 𝓤 H) (Λ : Loops 𝓤 H) → FmC 𝓤 H (W .laws) C → Triple 𝓤 (C #struct_replay·op·open-replay) (Opening 𝓤 H A mem run) → Triple 𝓤 (C #struct_edit·check-list) (Checking 𝓤 H A mem run) → Triple 𝓤 (C #struct_replay·op·left-after) (Leaving 𝓤 H A mem run) → Walks 𝓤 H A f.ended stayed (WpFn 𝓤 H C Λ code.function) (f.clauses 𝓤 H A mem run)
+  replay-no-walks : (C : Calls 𝓤 H) (Λ : Loops 𝓤 H) → FmC 𝓤 H (W .laws) C → Triple 𝓤 (C #struct_steps·open-replay) (Opening 𝓤 H A mem run) → Triple 𝓤 (C #struct_edit·check-list) (Checking 𝓤 H A mem run) → Triple 𝓤 (C #struct_steps·left-after) (Leaving 𝓤 H A mem run) → Walks 𝓤 H A f.ended stayed (WpFn 𝓤 H C Λ code.function) (f.clauses 𝓤 H A mem run)
   replay-no-walks C Λ fm known-Opening known-Checking known-Leaving = walked 𝓤 H A f.ended stayed (f.clauses 𝓤 H A mem run) (WpFn 𝓤 H C Λ code.function)
       (λ κs. (uint-vals w64, (uint-vals w64, (uint-vals w64, (slice-vals, (slice-vals, (slice-vals, (bool-vals, (slice-vals, (EL.vals Edit-T.the-type Edit-T′.the-laws, (slice-vals, (slice-vals, tt)))))))))))) (λ κs. (uint-tells w64, (uint-tells w64, (uint-tells w64, (shr-slice-tells (named 0) (κs .0) u8, (shr-slice-tells (named 1) (κs .1 .0) f64, (shr-slice-tells (named 2) (κs .1 .1 .0) i16, (bool-tells, (shr-slice-tells (named 3) (κs .1 .1 .1 .0) u8, (EL.tells Edit-T.the-type Edit-T′.the-laws, (shr-slice-tells (named 4) (κs .1 .1 .1 .1 .0) Change-T.the-row, (mut-slice-tells (named 5) (κs .1 .1 .1 .1 .1 .0) u8, tt))))))))))))
       (λ κs qs bounds a g are. via 𝓤 _ (fst∗ 𝓤 _ (emp 𝓤))
       (walk 𝓤 H A W mem run (κs .0) (κs .1 .0) (κs .1 .1 .0) (κs .1 .1 .1 .0) (κs .1 .1 .1 .1 .0) (κs .1 .1 .1 .1 .1 .0) (qs .0) (qs .1 .0) (qs .1 .1 .0) (qs .1 .1 .1 .0) (qs .1 .1 .1 .1 .0) (qs .1 .1 .1 .1 .1 .0) (a .0) (a .1 .0) (a .1 .1 .0) (a .1 .1 .1 .0 .ptr .0) (a .1 .1 .1 .0 .ptr .1) (a .1 .1 .1 .0 .name) (a .1 .1 .1 .0 .now) (a .1 .1 .1 .1 .0 .ptr .0) (a .1 .1 .1 .1 .0 .ptr .1) (a .1 .1 .1 .1 .0 .name) (a .1 .1 .1 .1 .0 .now) (a .1 .1 .1 .1 .1 .0 .ptr .0) (a .1 .1 .1 .1 .1 .0 .ptr .1) (a .1 .1 .1 .1 .1 .0 .name) (a .1 .1 .1 .1 .1 .0 .now) (a .1 .1 .1 .1 .1 .1 .0) (a .1 .1 .1 .1 .1 .1 .1 .0 .ptr .0) (a .1 .1 .1 .1 .1 .1 .1 .0 .ptr .1) (a .1 .1 .1 .1 .1 .1 .1 .0 .name) (a .1 .1 .1 .1 .1 .1 .1 .0 .now) (a .1 .1 .1 .1 .1 .1 .1 .1 .0) (a .1 .1 .1 .1 .1 .1 .1 .1 .1 .0 .ptr .0) (a .1 .1 .1 .1 .1 .1 .1 .1 .1 .0 .ptr .1) (a .1 .1 .1 .1 .1 .1 .1 .1 .1 .0 .name) (a .1 .1 .1 .1 .1 .1 .1 .1 .1 .0 .now) (a .1 .1 .1 .1 .1 .1 .1 .1 .1 .1 .0 .ptr .0) (a .1 .1 .1 .1 .1 .1 .1 .1 .1 .1 .0 .ptr .1) (a .1 .1 .1 .1 .1 .1 .1 .1 .1 .1 .0 .name) (a .1 .1 .1 .1 .1 .1 .1 .1 .1 .1 .0 .now) (are .0 .1) (are .1 .0 .1) (are .1 .1 .0 .1) (are .1 .1 .1 .0 .0 .1) (are .1 .1 .1 .1 .0 .0 .1) (are .1 .1 .1 .1 .1 .0 .0 .1) (are .1 .1 .1 .1 .1 .1 .1 .0 .0 .1) (are .1 .1 .1 .1 .1 .1 .1 .1 .0) (are .1 .1 .1 .1 .1 .1 .1 .1 .1 .0 .0 .1) (are .1 .1 .1 .1 .1 .1 .1 .1 .1 .1 .0 .0 .1) C Λ fm known-Opening known-Checking known-Leaving))
 
-replay-no-meets : {M : Type 1} (𝓤 : URA M) (H : Heap 𝓤) (A : Atoms 𝓤) → Given 𝓤 H A → (mem : Memory → SProp 𝓤) (run : Routine → Fun 𝓤) (𝓣 : Tables 𝓤 H) → Triple 𝓤 (𝓣 .C #struct_replay·op·open-replay) (Opening 𝓤 H A mem run) → Triple 𝓤 (𝓣 .C #struct_edit·check-list) (Checking 𝓤 H A mem run) → Triple 𝓤 (𝓣 .C #struct_replay·op·left-after) (Leaving 𝓤 H A mem run) → Meets 𝓤 H A f.signature (WpFn 𝓤 H (𝓣 .C) (𝓣 .Λ) code.function) (f.spec 𝓤 H A mem run)
+replay-no-meets : {M : Type 1} (𝓤 : URA M) (H : Heap 𝓤) (A : Atoms 𝓤) → Given 𝓤 H A → (mem : Memory → SProp 𝓤) (run : Routine → Fun 𝓤) (𝓣 : Tables 𝓤 H) → Triple 𝓤 (𝓣 .C #struct_steps·open-replay) (Opening 𝓤 H A mem run) → Triple 𝓤 (𝓣 .C #struct_edit·check-list) (Checking 𝓤 H A mem run) → Triple 𝓤 (𝓣 .C #struct_steps·left-after) (Leaving 𝓤 H A mem run) → Meets 𝓤 H A f.signature (WpFn 𝓤 H (𝓣 .C) (𝓣 .Λ) code.function) (f.spec 𝓤 H A mem run)
 replay-no-meets 𝓤 H A W mem run 𝓣 known-Opening known-Checking known-Leaving =
     walk-meets 𝓤 H A f.ended stayed W (goes-none 𝓤 H A W 6 (λ _. usize) yes (λ κs x f. refl), (goes-none 𝓤 H A W 6 (λ _. usize) yes (λ κs x f. refl), (goes-none 𝓤 H A W 6 (λ _. usize) yes (λ κs x f. refl), (goes-none-slice 𝓤 H A W 6 (0 ∷ []) tt (plain (λ _. u8)) yes, (goes-none-slice 𝓤 H A W 6 (1 ∷ []) tt (plain (λ _. f64)) yes, (goes-none-slice 𝓤 H A W 6 (2 ∷ []) tt (plain (λ _. i16)) yes, (goes-none 𝓤 H A W 6 (λ _. bool) yes (λ κs x f. refl), (goes-none-slice 𝓤 H A W 6 (3 ∷ []) tt (plain (λ _. u8)) yes, (goes-none 𝓤 H A W 6 (λ _. Edit-T.the-row) yes (λ κs x f. refl), (goes-none-slice 𝓤 H A W 6 (4 ∷ []) tt (plain (λ _. Change-T.the-row)) yes, (goes-slice 𝓤 H A W 6 5 tt (plain (λ _. u8)), tt))))))))))) (f.clauses 𝓤 H A mem run)
     (WpFn 𝓤 H (𝓣 .C) (𝓣 .Λ) code.function) (WpFn-mono 𝓤 H (W .laws) 𝓣 code.function) (replay-no-walks 𝓤 H A W mem run (𝓣 .C) (𝓣 .Λ) (fmOf 𝓤 H (W .laws) 𝓣) known-Opening known-Checking known-Leaving)
@@ -244,6 +244,6 @@ replay-no-spec 𝓤 H 𝓜 𝓖 𝓡 =
     entered 𝓤 H (tripleOf 𝓤 H (𝓖 .A) f.signature (f.spec 𝓤 H (𝓖 .A) (𝓜 .mem) (𝓡 .run)))
     (tables 𝓤 H 𝓜 𝓡 code.env .C) (tables 𝓤 H 𝓜 𝓡 code.env .Λ) #struct_replay·op·replay-no code.function (code.unfolded 𝓤 H 𝓜 𝓡)
     (replay-no-meets 𝓤 H (𝓖 .A) (given-of 𝓤 H 𝓜 𝓖) (𝓜 .mem) (𝓡 .run) (tablesOf 𝓤 H 𝓜 (tables 𝓤 H 𝓜 𝓡 code.env))
-    (cited 𝓤 H (Opening 𝓤 H (𝓖 .A) (𝓜 .mem) (𝓡 .run)) 𝓜 𝓡 code.env #struct_replay·op·open-replay Opening-def.routine code.calls-struct-replay·op·open-replay (Opening-thm.met 𝓤 H 𝓜 𝓖 𝓡))
+    (cited 𝓤 H (Opening 𝓤 H (𝓖 .A) (𝓜 .mem) (𝓡 .run)) 𝓜 𝓡 code.env #struct_steps·open-replay Opening-def.routine code.calls-struct-steps·open-replay (Opening-thm.met 𝓤 H 𝓜 𝓖 𝓡))
     (cited 𝓤 H (Checking 𝓤 H (𝓖 .A) (𝓜 .mem) (𝓡 .run)) 𝓜 𝓡 code.env #struct_edit·check-list Checking-def.routine code.calls-struct-edit·check-list (Checking-thm.met 𝓤 H 𝓜 𝓖 𝓡))
-    (cited 𝓤 H (Leaving 𝓤 H (𝓖 .A) (𝓜 .mem) (𝓡 .run)) 𝓜 𝓡 code.env #struct_replay·op·left-after Leaving-def.routine code.calls-struct-replay·op·left-after (Leaving-thm.met 𝓤 H 𝓜 𝓖 𝓡)))
+    (cited 𝓤 H (Leaving 𝓤 H (𝓖 .A) (𝓜 .mem) (𝓡 .run)) 𝓜 𝓡 code.env #struct_steps·left-after Leaving-def.routine code.calls-struct-steps·left-after (Leaving-thm.met 𝓤 H 𝓜 𝓖 𝓡)))

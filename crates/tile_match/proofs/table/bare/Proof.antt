@@ -4,7 +4,7 @@ use Prim.Native.Nat.{ℕ, _≤_, _-_, _%_}
 use native.Mathlib.Omega.{arith}
 use borrow.Author.Needs.{needs}
 use lib.ListN.{length, getD}
-use Rattle.tile_match.specs.Table.{foundIn}
+use Rattle.tile_chain.specs.Table.{foundIn}
 use Rattle.tile_cells.proofs.Rows.{Row, row-none, row-next, row-whole, row-behind}
 use Rattle.tile_match.proofs.table.bare.Statement.{statement}
 use Rattle.tile_match.proofs.table.bare.Tie as tie

@@ -4,7 +4,7 @@ use mathlib.Core.Bool.{false≢true}
 use Prim.Native.Nat.{_≤_, _-_}
 use native.Mathlib.Omega.{arith}
 use Rattle.tile_cells.specs.Cells.{cellCount}
-use Rattle.tile_match.specs.Table.{Chained}
+use Rattle.tile_chain.specs.Table.{Chained}
 use borrow.Author.Tests.{not-true, not-false}
 use borrow.Author.Needs.{needs}
 use Rattle.tile_match.proofs.table.enter_all.Statement.{statement}

@@ -2,7 +2,7 @@
 use mathlib.Core.Path.{_≡_, sym, _∙_}
 use mir.Facts.{toZ-ofZ}
 use Rattle.tool_move.specs.Moves.{unmoved}
-use Rattle.tool_move.proofs.ToolMoveAnswers.{list-still, list-shifted}
+use Rattle.tool_move.proofs.MoveAnswers.{list-still, list-shifted}
 use borrow.Author.Needs.{needs}
 use Rattle.tool_move.proofs.moving.list_moved.Statement.{statement}
 use Rattle.tool_move.proofs.moving.list_moved.Tie as tie

@@ -2,7 +2,7 @@
 use mathlib.Core.Path.{_≡_, sym, _∙_}
 use mir.Facts.{toZ-ofZ}
 use Rattle.tool_move.specs.Moves.{unmoved}
-use Rattle.tool_move.proofs.ToolMoveAnswers.{selection-still, selection-moved}
+use Rattle.tool_move.proofs.MoveAnswers.{selection-still, selection-moved}
 use borrow.Author.Needs.{needs}
 use Rattle.tool_move.proofs.moving.moved_selection.Statement.{statement}
 use Rattle.tool_move.proofs.moving.moved_selection.Tie as tie

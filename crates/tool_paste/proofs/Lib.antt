@@ -1,0 +1,4 @@
+pub mod Answers
+pub mod Clips
+pub mod Pasting
+pub mod Spans
