@@ -15,7 +15,7 @@ and in the proofs (`why` of a call, `end` of a function)
 import copy
 import re
 
-from kinds import Bool, ELEMENT, FIELDS, MutRef, MutSlice, ShrSlice, Uint, Unit, dots
+from kinds import Array, Bool, FIELDS, MutRef, MutSlice, ShrSlice, Sint, Uint, Unit, dots
 from walk import Walk, load, operands, part, sub
 
 GHOST = '{M : Type 1} (𝓤 : URA M) (H : Heap 𝓤) (A : Atoms 𝓤)'
@@ -76,13 +76,14 @@ def Deref(local, x):
     return Step('deref', local=local, x=x)
 
 
-def Call(C, path, args, result, said, to=None, also=None, asked=None, why=None):
+def Call(C, path, args, result, said, to=None, also=None, asked=None, why=None, fits=None):
     """let TO = PATH(ARGS); where C names its contract in the proof. ARGS is text: a parameter or local by its name,
-    `true`, `x.len()`, `*x`, `&mut x` (a local is lent), `give x` (a `&mut [T]` passed on for good), `lend x` (lent for
-    the call), `share x` (lent as `&[T]`). `said` is what it ensures, `also` its second clause; `asked` what it requires
-    and `why` the proof of that. With to='' its result is the function's."""
+    `true`, `x.len()`, `*x`, `&mut x` (a local is lent; an array as a slice), `front x n` (`&x[..n]` of a local array,
+    where `fits` shows that it has n elements), `give x` (a `&mut [T]` passed on for good), `lend x` (lent for the call),
+    `share x` (lent as `&[T]`). `said` is what it ensures, `also` its second clause; `asked` what it requires and `why`
+    the proof of that. With to='' its result is the function's."""
     return Step('call', C=C, path=path.split('::'), text=args, result=result, said=said, to=to, also=also, asked=asked,
-                why=why)
+                why=why, fits=fits)
 
 
 def Store(x, field):
@@ -110,12 +111,13 @@ class Local:
 class Arg:
     """An argument of a call: how it is passed, and what."""
 
-    def __init__(self, how, x, kind=None):
-        self.how, self.x, self.kind = how, x, kind
+    def __init__(self, how, x, kind=None, count=None):
+        self.how, self.x, self.kind, self.count = how, x, kind, count
 
-    lends = property(lambda self: self.how in ('lend', 'share', 'mut'))
-    slice = property(lambda self: self.how in ('lend', 'share', 'give', 'copy', 'mut'))
-    changes = property(lambda self: self.how in ('lend', 'give', 'mut'))
+    array = property(lambda self: self.how in ('array', 'front'))
+    lends = property(lambda self: self.how in ('lend', 'share', 'mut') or self.array)
+    slice = property(lambda self: self.how in ('give', 'copy') or self.lends)
+    changes = property(lambda self: self.how in ('lend', 'give', 'mut', 'array'))
     binds = property(lambda self: self.how in ('local', 'deref'))
     name = property(lambda self: self.x + '-now' if self.how == 'deref' else self.x)
 
@@ -165,11 +167,13 @@ class Fn:
                 n += 1
         self.lets = dict(self.local)
         # a local that is lent lies in memory, and is copied into a temporary where it is passed by value
-        memory = set(re.findall(r'&mut (\w+)', ' '.join(c.text for c in self.calls)))
+        memory = set(re.findall(r'(?:&mut|front) (\w+)', ' '.join(c.text for c in self.calls)))
         self.unit, pool = None, {}
         for c in self.calls:
-            c.args = [self.arg(t.strip()) for t in c.text.split(',')]
-            c.first = False
+            c.args = [self.arg(t.strip()) for t in c.text.split(',') if t]
+            c.first, c.made = False, None
+            if c.to in memory:
+                c.made, n = n, n + 1
             if isinstance(c.result, Unit) and self.unit is None:
                 self.unit, c.first, n = n, True, n + 1
             c.tmp, c.fresh, used = {}, set(), {}
@@ -200,7 +204,8 @@ class Fn:
             return Local(i, self.kind[s.x], s.x, self.proof(s.x))
         if s.op == 'deref':
             return Local(i, self.kind[s.x].inner, s.x, self.behind(s.x))
-        return Local(i, s.result, 'r' + s.sub, s.result.known('r' + s.sub, 'is' + s.sub))
+        known = None if isinstance(s.result, Array) else s.result.known('r' + s.sub, 'is' + s.sub)
+        return Local(i, s.result, 'r' + s.sub, known)
 
     def behind(self, p):
         """The proof that what a reference points to fits, once its borrow is open."""
@@ -210,12 +215,19 @@ class Fn:
         """An argument, from its text."""
         if text in ('true', 'false'):
             return Arg('literal', text, Bool())
+        if re.fullmatch(r'\d+[ui]\w+', text):
+            x, type = re.match(r'(\d+)(\w+)', text).groups()
+            return Arg('literal', x if type[0] == 'u' else '(pos %s)' % x, (Uint if type[0] == 'u' else Sint)(type))
         if text.endswith('.len()'):
             return Arg('len', text[:-6], Uint('usize'))
         if text.startswith('*'):
             return Arg('deref', text[1:], self.kind[text[1:]].inner)
         if text.startswith('&mut '):
-            return Arg('mut', text[5:], self.local[text[5:]].kind)
+            kind = self.local[text[5:]].kind
+            return Arg('array' if isinstance(kind, Array) else 'mut', text[5:], kind)
+        if text.startswith('front '):
+            x, count = text.split(' ')[1:]
+            return Arg('front', x, self.local[x].kind, count)
         if ' ' in text:
             return Arg(*text.split(' '))
         if text in self.local:
@@ -388,10 +400,12 @@ class Fn:
         """What a call's triple binds that is only known at the call."""
         out = []
         for a in c.args:
-            if a.how == 'mut':
+            if a.how == 'mut' or a.array:
                 out.append((a.x + '-b', 'ℕ'))
             if a.lends:
                 out += [(a.x + '-ν', 'ℕ'), (a.x + '-δ', 'GName')]
+            if a.how == 'front':
+                out.append((a.x + '-n', 'ℕ'))
             if a.lends or a.how == 'give':
                 out.append((a.x + '-now', self.content(a)))
             elif a.binds:
@@ -400,7 +414,20 @@ class Fn:
 
     def content(self, a):
         """The type of what is lent or given."""
-        return a.kind.denot if a.how == 'mut' else self.kind[a.x].list
+        return a.kind.denot if a.how == 'mut' else a.kind.list if a.array else self.kind[a.x].list
+
+    def in_array(self, a, nu, b, name, now, count):
+        """What the walk has of a slice of a local array, which lies in block b; the reference, and its machine value."""
+        ref = 'record { ptr = (%s, 0); name = %s; now = %s }' % (b, name, now)
+        value = 'sliceVal (%s, 0) %s ∷ []' % (b, count)
+        return '‵ (%sSlice (named %d) (%s ∷ []) %s .own (%s) (%s))' % (
+            'Mut' if a.changes else 'Shr', len(self.refs), nu, a.kind.of, ref, value), ref, value
+
+    def counted(self, a, at_call=False):
+        """How many elements of a local array are lent."""
+        if a.how == 'array':
+            return str(a.kind.count)
+        return '(%s)' % self.local[a.count].value if at_call else a.x + '-n'
 
     def behind_local(self, a, nu, b, name, now):
         """What the walk has of a reference to a local, which lies in block b; and the reference itself."""
@@ -416,6 +443,14 @@ class Fn:
                 types.append('RefT ' + a.kind.denot)
                 values.append(self.behind_local(a, '', a.x + '-b', a.x + '-δ', a.x + '-now')[1])
                 machine.append('vptr %s-b 0 ∷ []' % a.x)
+                kappas.append(a.x + '-ν ∷ []')
+                shares.append('fullShare')
+                continue
+            if a.array:
+                _, ref, value = self.in_array(a, '', a.x + '-b', a.x + '-δ', a.x + '-now', self.counted(a))
+                types.append('RefT (%s)' % a.kind.list)
+                values.append(ref)
+                machine.append(value)
                 kappas.append(a.x + '-ν ∷ []')
                 shares.append('fullShare')
                 continue
@@ -465,6 +500,9 @@ class Fn:
         for a in slices:
             if a.how == 'mut':
                 items.append(('o' + a.x, self.behind_local(a, a.x + '-ν', a.x + '-b', a.x + '-δ', a.x + '-now')[0]))
+            elif a.array:
+                own = self.in_array(a, a.x + '-ν', a.x + '-b', a.x + '-δ', a.x + '-now', self.counted(a))[0]
+                items.append(('o' + a.x, own))
             elif a.lends:
                 row = '%sSlice (named %d) (%s-ν ∷ []) %s' % ('Mut' if a.how == 'lend' else 'Shr', self.life[a.x], a.x,
                     self.kind[a.x].row)
@@ -510,7 +548,7 @@ class Fn:
     def argument(self, a):
         """An argument by value is owned."""
         if a.how == 'literal':
-            return a.kind.owned(a.x, 'refl')
+            return a.kind.owned(a.x, {Bool: 'refl', Uint: 'lit< tt', Sint: '(refl, lit< tt)'}[type(a.kind)])
         if a.how == 'len':
             return a.kind.owned('(length %s)' % a.x, '%s-room .0' % a.x)
         if a.how == 'value':
@@ -593,6 +631,9 @@ class Fn:
             result = getattr(self, 'do_' + s.op)(s) or result
         for p in self.mrefs:
             self.close_borrow(p)
+        for x, local in self.local.items():
+            if isinstance(local.kind, Array):
+                self.array_out(x, local)
         w.ret(self.N)
         self.leave(result)
         return self.framed(w.close())
@@ -683,7 +724,8 @@ class Fn:
     def do_return(self, s):
         local = self.local[s.local]
         proof = local.proof if isinstance(local.kind, Uint) else '(%s)' % local.proof
-        self.assign(load(local.i), 0, local.kind.typed(local.value, proof))
+        value = '(%s)' % local.value if ' ' in local.value else local.value
+        self.assign(load(local.i), 0, local.kind.typed(value, proof))
         return local.value, local.proof
 
     # ---- a call
@@ -698,6 +740,8 @@ class Fn:
         for a in c.args:
             if a.how == 'mut':
                 self.lend_local(c, a)
+            elif a.array:
+                self.lend_array(c, a)
             elif a.lends:
                 self.lend(c, a)
         to, passed = self.reach(c)
@@ -715,6 +759,8 @@ class Fn:
         for a in c.args:
             if a.how == 'mut':
                 self.local_back(c, a, values[a.x])
+            elif a.array:
+                self.array_back(c, a, values)
             elif a.lends:
                 self.take_back(c, a, values)
             elif a.how == 'give':
@@ -731,6 +777,14 @@ class Fn:
             if a.how == 'mut':
                 w.line('assigns ! (addr ! (from ! (stop !))) (from ! (stop !)) (init ! «_%d» refl (tt, tt)) $'
                        % c.tmp[i])
+            elif a.array:
+                pointer, whole = c.tmp[i]
+                n, fits = ('lit ! tt', 'lit< tt') if a.how == 'array' else (load(self.local[a.count].i),
+                    self.local[a.count].proof)
+                w.line('assigns ! (addr ! (from ! (stop !))) (from ! (stop !)) (init ! «_%d» refl (tt, tt)) $'
+                       % pointer)
+                w.line('assigns ! (agg ! %s) (from ! (stop !)) (init ! «_%d» refl (tt, (tt, (record { fits = %s },'
+                       ' tt)))) $' % (operands([load(pointer), n]), whole, fits))
             elif a.how == 'len':
                 self.assign(part(self.idx[a.x], 1), c.tmp[i], a.kind.typed(None, '%s-room .0' % a.x), how)
             elif a.how == 'deref':
@@ -750,7 +804,7 @@ class Fn:
     def operand(self, c, i, a):
         """Argument i, as the machine has it."""
         if a.how == 'literal':
-            return a.x + '-lit !'
+            return a.x + '-lit !' if isinstance(a.kind, Bool) else 'lit ! tt'
         if a.how in ('value', 'copy'):
             return load(self.idx[a.x])
         if a.how == 'local':
@@ -823,16 +877,61 @@ class Fn:
                % (local.i, k.mir, l, k.tells, value, isv))
         self.local[x] = Local(local.i, k, value, k.known('(%s)' % value, isv))
 
+    def lend_array(self, c, a):
+        """A local array is lent as a slice, under a new lifetime."""
+        w, x, local, k = self.w, a.x, self.local[a.x], a.kind
+        nu, delta, l, now = 'ν%s-%s' % (c.sub, x), 'δ%s-%s' % (c.sub, x), 'l' + sub(local.i), '(%s)' % local.value
+        count, law = self.counted(a, True), 'array'
+        lent, shown = 'LentA 𝓤 H A W %s (%s ∷ []) %s %d %s' % (k.of, nu, l, k.count, delta), now
+        if a.how == 'front':
+            law, lent, shown = 'front', 'LentFront %s %s (%s ∷ []) %s %s' % (k.terms, l, nu, now, count), '(take %s %s)' % (
+                count, now)
+        w.line('lft-new ! tt (λ %s.' % nu)
+        w.ctx.insert(0, 'n' + x)
+        w.line(w.pull('lies' + x) + 'use1 W (later (some (λ (%s : GName). %s ⊛ ‵ (%s)))) (lend-%s %s %s 𝓤 H A W'
+               ' (named %d) (%s ∷ []) tt %s %s%s) $ await ! tt $ pick ! (λ %s. split ! $'
+               % (delta, self.in_array(a, nu, l, delta, shown, count)[0], lent, law, k.terms, l, len(self.refs), nu,
+                  k.room, now, ' %s (%s)' % (count, c.fits) if a.how == 'front' else '', delta))
+        w.swap(['lies' + x], ['e' + x, 'lent' + x])
+
+    def array_back(self, c, a, values):
+        """A local array that was lent is back; lent by `&mut`, at the last value."""
+        w, x, local, k = self.w, a.x, self.local[a.x], a.kind
+        nu, l, now = 'ν%s-%s' % (c.sub, x), 'l' + sub(local.i), '(%s)' % local.value
+        w.line(w.pull('n' + x) + 'lft-end ! tt $')
+        w.swap(['n' + x], ['dead'])
+        taken, law = ['dead', 'lent' + x], 'front-back %s %s 𝓤 H A W (named %d) (%s ∷ []) %s %s' % (
+            k.terms, l, len(self.refs), nu, now, self.counted(a, True) if a.how == 'front' else '')
+        if a.changes:
+            taken, now = taken + ['fin' + x], '(%s)' % values[x]
+            law = 'array-back %s %s 𝓤 H A W (named %d) (%s ∷ []) δ%s-%s %s' % (k.terms, l, len(self.refs), nu, c.sub, x,
+                now)
+            self.local[x] = Local(local.i, k, values[x], None)
+        w.line(w.pull(*taken) + 'use%d W (later (‵ (mem %s .lies %s %s 0))) (%s) $ await ! tt $'
+               % (len(taken), k.row, now, l, law))
+        w.swap(taken, ['lies' + x])
+
+    def array_out(self, x, local):
+        """At the end a local array is a local like others."""
+        w, k, l, now = self.w, local.kind, 'l' + sub(local.i), '(%s)' % local.value
+        w.line(w.pull('lies' + x) + 'use1 W (some (λ (u-%s : Val). ‵ (fat fullShare %s %s 0 u-%s) ⊛ ‵ (%s .own %s'
+               ' (u-%s ∷ [])))) (part-out-at 𝓤 H A W %s refl fullShare %s %s 0 %s refl) $ pick ! (λ u-%s. split ! $'
+               ' move ! (1 ∷ []) $ drop ! $' % (x, k.mir, l, x, k.row, now, x, k.row, now, l, k.mir, x))
+        w.swap(['lies' + x], ['_%d' % local.i])
+
     def at_call(self, c):
         """The values of what the call's triple binds, and the proofs that go with them."""
         values, proofs = [], []
         for a in c.args:
-            if a.how == 'mut':
+            if a.how == 'mut' or a.array:
                 values.append('l' + sub(self.local[a.x].i))
             if a.lends:
                 values += ['ν%s-%s' % (c.sub, a.x), 'δ%s-%s' % (c.sub, a.x)]
-            if a.lends or a.how == 'give':
-                values.append('(%s)' % (self.local[a.x].value if a.how == 'mut' else self.now[a.x]))
+            if a.how == 'front':
+                count = self.counted(a, True)
+                values += [count, '(take %s (%s))' % (count, self.local[a.x].value)]
+            elif a.lends or a.how == 'give':
+                values.append('(%s)' % (self.local[a.x].value if a.how == 'mut' or a.array else self.now[a.x]))
             elif a.how == 'local':
                 values.append('(%s)' % self.local[a.x].value)
                 proofs.append('(%s)' % self.local[a.x].proof)
@@ -850,7 +949,8 @@ class Fn:
             + m)
         goes = 'goes%s%s%s%s' % (m, c.values, ''.join(' ' + p for p in proofs), ' (%s)' % c.why if c.asked else '')
         names = [('n' if a.lends else 'k') + a.x for a in slices]
-        names += [{'lend': 'e', 'share': 'e', 'mut': 'e', 'give': 'o', 'copy': 'copy'}[a.how] + a.x for a in slices]
+        names += [{'lend': 'e', 'share': 'e', 'mut': 'e', 'array': 'e', 'front': 'e', 'give': 'o', 'copy': 'copy'}[a.how] + a.x
+                  for a in slices]
         group = 'group ! %d $ ' % len(names) if len(names) > 1 else ''
         w.line(w.pull(*names) + group + 'use%d W (raw (%s 𝓤 H A at-mem run .pre %s)) (%s) $' % (1 if names else 0, c.C,
             to, goes))
@@ -909,6 +1009,9 @@ class Fn:
                    % ('init' if c.first else 'store', self.unit, m))
             return
         i = self.local[c.to].i if c.to else 0
+        if isinstance(k, Array):
+            self.land_array(c, i)
+            return
         typed, equation = k.lands('r' + m, 'is' + m)
         w.line(w.pull('ores') + 'peeks ! %s (Is %s) (shows 𝓤 H A %s) r%s (v%s ∷ []) (λ is%s.' % (k.row, k.row, k.row, m,
             m, m))
@@ -916,6 +1019,18 @@ class Fn:
                ' l%s 0 u)) (ap only %s) refl $ drop ! $'
                % (i, typed, i, k.mir, sub(i), equation))
         w.ctx.remove('ores')
+
+    def land_array(self, c, i):
+        """An array that a call returns is stored by way of a temporary, and lies in memory then."""
+        w, m, k, l = self.w, c.sub, c.result, 'l' + sub(i)
+        w.line(w.pull('ores') + 'peeks ! %s (Is %s) (shows 𝓤 H A %s) r%s (v%s ∷ []) (λ is%s.' % (k.row, k.row, k.row, m,
+            m, m))
+        typed = k.typed('r' + m, 'is' + m)
+        w.line('land ! (from ! (stop !)) (init ! «_%d» refl %s) $' % (c.made, typed))
+        self.assign(load(c.made), i, typed)
+        w.line(w.pull('_%d' % i, 'ores') + 'use2 W (‵ (mem %s .lies r%s %s 0)) (part-in-at 𝓤 H A W %s refl fullShare r%s'
+               ' %s 0 %s refl v%s) $' % (k.row, m, l, k.row, m, l, k.mir, m))
+        w.swap(['_%d' % i, 'ores'], ['lies' + c.to])
 
     def take_back(self, c, a, values):
         """What was lent is back: a lifetime ends."""

@@ -4,11 +4,11 @@ A new parameter of a function is one entry in its list of parameters, one in the
 and its type in TYPES if no other function has it. Contracts are the text of `requires` and `ensures` in src/, without
 `now`."""
 from chains import Call, Deref, Field, Fn, Give, Len, Let, Return, Store, last
-from kinds import Bool, Enum, MutRef, MutSlice, ShrSlice, Sint, Struct, Uint, Unit
+from kinds import Array, Bool, Enum, MutRef, MutSlice, ShrSlice, Sint, Struct, Uint, Unit
 
 USIZE = Uint('usize')
 COUNTED, ANSWER, REMOVAL, SHIFTED, MADE = map(Enum, ['Counted', 'Answer', 'Removal', 'Shifted', 'MadeOp'])
-MOVED, REPLAYED, MARKED = map(Struct, ['Moved', 'Replayed', 'Marked'])
+MOVED, REPLAYED, MARKED, HANDLE = map(Struct, ['Moved', 'Replayed', 'Marked', 'Handle'])
 
 # what a parameter is, or what it is a slice of, by its name; another type is written behind the name
 TYPES = {
@@ -75,6 +75,7 @@ struct_change specs Struct packedOf
 struct_edit specs Walk packedAll flatAll putUpto paintUpto checkUpto markUpto AllPuttable AllPaintable Checkable
 struct_edit proofs Told told-length
 history_ledger specs Journal pushOf pushed undoOf redoOf markOf
+history_ledger specs Calls Outcome
 history_model specs Editing givenOf editing
 history_model specs Calls stateOf leaves Standing Acceptable outcomeOf
 history_model specs Replay replayChecks replayed replayOf
@@ -555,32 +556,81 @@ function('struct_push::recording::push',
          story='The borrows of palette count and handle are opened and both copied out; sheet and journal are lent as'
          ' `&` for the checks and then given.')
 
-# ---- the example: palette count and handle are locals, which are lent
-PLAIN_SHEET = 'w, h, k, &mut [palette], &mut [lab], &mut [indices]'
-EXAMPLE = STATE_WORDS + words('example_editor specs Lent movedOf')
+# ---- the example: palette count, handle and list are locals, which are lent
+EXAMPLE = STATE_WORDS + words('''
+base specs Answer filled
+change_list specs Listed countOf
+tool_draw specs Calls pencilCall
+example_structs specs Lent movedOf blanks changesOf noChange
+example_structs proofs Arrays LentFront lend-array array-back lend-front front-back
+example_structs proofs Drawn drawn-fits drawn-is
+''')
+
+
+def small(k, now=''):
+    return '(sheetOf 6 4 %s %s)' % (k, ' '.join(x + now for x in ('palette', 'lab', 'indices')))
+
+
+PENCIL = 'pencilCall %s area points 1 (pos 1) %s'
+PUSHED = 'pushOf editing (length marks) (stateOf %s journal handle) (givenOf false permitted edit %s)'
+function(
+    'example_structs::lent::stroke',
+    parameters('k, &mut [palette], &mut [lab], &mut [indices], area, &[points], &mut [scratch], &[permitted], edit,'
+               ' &mut [journal], handle, &mut [marks]'), MOVED,
+    'leaves r 6 4 palette′ lab′ indices′ journal′ ≡ ' + PUSHED
+    % (small('k'), '(changesOf (%s blanks))' % (PENCIL % (small('k'), '(length scratch)'))),
+    [Let('colors', 'k'), Let('held', 'handle'),
+     Call('Blank', 'example_structs::lent::blank', '', Array('Change', 24), 'r ≡ replicate 24 noChange', to='list'),
+     Call('Drawing', 'editor::structs::pencil', '6usize, 4usize, k, share palette, share lab, share indices, area,'
+          ' points, 1usize, 1i16, give scratch, &mut list', COUNTED,
+          '(filled r (map packedOf list′) ≡ %s (map packedOf list-now)) × (length scratch′ ≡ length scratch-now)'
+          % (PENCIL % (small('k', '-now'), '(length scratch-now)')), to='drawn'),
+     Call('Counting', 'example_structs::lent::count', 'drawn', USIZE, 'r ≡ countOf drawn', to='n'),
+     Call('Pushing', 'editor::structs::push', '6usize, 4usize, &mut colors, give palette, give lab, give indices,'
+          ' false, permitted, edit, front list n, give journal, &mut held, give marks', ANSWER,
+          '(leavesLent r 6 4 colors′ palette′ lab′ indices′ journal′ held′ ≡ pushOf editing (length marks-now)'
+          ' (stateOf %s journal-now held-now) (givenOf false permitted edit (packedAll list-now))) × (length marks′ ≡'
+          ' length marks-now)' % small('colors-now', '-now'), to='answer',
+          fits='subst (λ (l : List Change). r₃ ≤ length l) e₁ (drawn-fits %s area points 1 (pos 1) (length scratch) r₂'
+          ' (map packedOf %s) r₁ r₃ (e₂ .0) e₃)' % (small('k'), last(2, 11))),
+     Call('Making', 'example_structs::lent::moved', 'answer, colors, held', MOVED, 'r ≡ movedOf answer colors held',
+          to='')],
+    'ap (λ (m : Moved). leaves m 6 4 {0} {1} {2} {3}) e₅ ∙ e₄ .0 ∙ ap (λ (ns : List ℕ). {4}) (drawn-is ({5}) r₂ {6} r₁'
+    ' (replicate 24 noChange) r₃ (e₂ .0) e₃ e₁)'
+    .format(last(4, 3), last(4, 4), last(4, 5), last(4, 10), PUSHED % (small('k'), 'ns'),
+            PENCIL % (small('k'), '(length scratch)'), last(2, 11)), uses=EXAMPLE,
+    story='The list is a local array, palette count and handle are locals, and all three are lent: the whole array to'
+    ' the pencil, and as much of it as the pencil filled to push.')
 
 
 def lent(name, call, own, by, also=None):
-    """`undone` and `redone`: the call of struct_history over locals."""
-    scratch = ', give scratch' if own else ''
-    now = by.replace('(length scratch)', '(length scratch-now)')
+    """`undone` and `redone`: palette count and handle are lent for one call."""
+    now = by.replace('(length marks)', '(length marks-now)')
+    said = 'leavesLent r 6 4 colors′ palette′ lab′ indices′ journal held′ ≡ %s (stateOf %s journal held-now)' % (
+        now, small('colors-now', '-now'))
     function(
-        'example_editor::lent::' + name, parameters(PLAIN_SHEET, '&[journal], handle', *own), MOVED,
-        'leaves r w h palette′ lab′ indices′ journal ≡ %s %s' % (by, STATE),
-        [Let('count', 'k'), Let('held', 'handle'),
-         Call('Step', 'struct_history::' + call,
-              'w, h, &mut count, give palette, give lab, give indices, journal, &mut held' + scratch, ANSWER,
-              ('(%s)%s' if also else '%s%s') % (
-                  'leavesLent r w h count′ palette′ lab′ indices′ journal held′ ≡ %s %s'
-                  % (now, state('-now', 'count-now', 'held-now', 'journal')), also or ''), to='answer'),
-         Call('Making', 'example_editor::lent::moved', 'answer, count, held', MOVED, 'r ≡ movedOf answer count held',
+        'example_structs::lent::' + name,
+        parameters('k, &mut [palette], &mut [lab], &mut [indices], &[journal], handle', *own), MOVED,
+        'leaves r 6 4 palette′ lab′ indices′ journal ≡ %s (stateOf %s journal handle)' % (by, small('k')),
+        [Let('colors', 'k'), Let('held', 'handle'),
+         Call('Step', 'editor::structs::' + call,
+              '6usize, 4usize, &mut colors, give palette, give lab, give indices, journal, &mut held'
+              + (', give marks' if own else ''), ANSWER, '(%s)%s' % (said, also) if also else said, to='answer'),
+         Call('Making', 'example_structs::lent::moved', 'answer, colors, held', MOVED, 'r ≡ movedOf answer colors held',
               to='')],
-        'ap (λ (m : Moved). leaves m w h {0} {1} {2} journal) e₂ ∙ e₁{3}'
+        'ap (λ (m : Moved). leaves m 6 4 {0} {1} {2} journal) e₂ ∙ e₁{3}'
         .format(last(1, 3), last(1, 4), last(1, 5), ' .0' if also else ''), uses=EXAMPLE,
         story='Palette count and handle are put into locals, which are lent for the call; what it leaves in them is'
         ' returned.')
 
 
 lent('undone', 'undo', [], 'undoOf editing')
-lent('redone', 'redo', ['&mut [scratch: u8]'], 'redoOf editing (length scratch)',
-     ' × (length scratch′ ≡ length scratch-now)')
+lent('redone', 'redo', ['&mut [marks]'], 'redoOf editing (length marks)', ' × (length marks′ ≡ length marks-now)')
+function('example_structs::lent::saved', parameters('&[journal], handle'), HANDLE,
+         'r ≡ markOf (length journal) handle .leaves',
+         [Let('held', 'handle'),
+          Call('Marking', 'editor::structs::mark_saved', 'journal, &mut held', ANSWER,
+               'outcomeOf r held′ ≡ markOf (length journal) held-now', to='answer'),
+          Return('held')],
+         'ap (λ (o : Outcome Handle). o .leaves) e₁', uses=EXAMPLE,
+         story='The handle is put into a local, which is lent for the call; what it leaves there is returned.')

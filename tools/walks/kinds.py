@@ -128,6 +128,22 @@ class Unit:
     row, denot = 'unit', 'Unit {0}'
 
 
+class Array:
+    """An array of structs by value, as a call returns it. A local that holds one is lent whole as a `&mut [T]`, or its
+    first elements as a `&[T]`; between the calls its list lies in memory (example_structs, proofs/Arrays)."""
+
+    def __init__(self, element, count):
+        self.element, self.count, self.of = element, count, row_of(element)
+        self.row, self.list = '(Array %s %d)' % (self.of, count), 'List ' + element
+        self.denot, self.mir = self.list, '(tyArray %s-T′.mir %d)' % (element, count)
+        self.terms = '%s %d' % (self.of, count)
+        self.room = '(lit< tt, lit< tt)'
+
+    def typed(self, x, p):
+        return '(array-lawful 𝓤 H A W %s (LL.lawful %s-T.the-type %s-T′.the-laws 𝓤 H A W) %d .typed %s _ %s .0)' % (
+            self.of, self.element, self.element, self.count, x, p)
+
+
 class Lent:
     """A parameter that is a reference: `&mut T`, `&mut [T]` or `&[T]`."""
 
