@@ -33,6 +33,8 @@ macro_rules! ours {
 /// Numbers of an answer; which they are stands at each call in crates/c_exports and crates/c_tools.
 pub type R<'a> = &'a mut [usize; 5];
 pub type S<'a> = &'a [u16; 4];
+/// The squared distance that is handed back with an entry.
+pub type Away<'a> = &'a mut [f64; 1];
 pub type State<'a> = &'a mut [usize; 6];
 
 /// The tools of `call_draw`.
@@ -66,7 +68,7 @@ ours! {
     call_dist2(p: &[f64; 3], q: &[f64; 3],) -> f64;
     call_rgb8_to_lab(rgb: &[u8; 3], out: &mut [f64; 3],) -> ();
     call_cbrt(t: f64, out: &mut [f64; 3],) -> u8;
-    call_nearest_index(target: &[f64; 3], lab: [f64], k: usize, r: R,) -> u8;
+    call_nearest_index(target: &[f64; 3], lab: [f64], k: usize, r: R, away: Away,) -> u8;
 
     call_all(width: usize, height: usize, out: &mut [u16; 4],) -> u8;
     call_from_corners(ax: i32, ay: i32, bx: i32, by: i32, width: usize, height: usize, out: &mut [u16; 4],) -> u8;
@@ -101,8 +103,8 @@ ours! {
     call_fixed_choices(sheet, limited: bool, permitted: [u8], used: mut [u8], r: R,) -> u8;
     call_set_color(sheet, limited: bool, permitted: [u8], index: usize, rgb: &[u8; 3], bytes: &mut [u8; 8], doubles: &mut [f64; 3], r: R,) -> u8;
     call_add_color(sheet, limited: bool, permitted: [u8], rgb: &[u8; 3], bytes: &mut [u8; 8], doubles: &mut [f64; 3], r: R,) -> u8;
-    call_nearest_other(sheet, index: usize, r: R,) -> u8;
-    call_remove_entry(sheet, index: usize, list: mut [u64], bytes: &mut [u8; 8], doubles: &mut [f64; 3], r: R,) -> u8;
+    call_nearest_other(sheet, index: usize, r: R, away: Away,) -> u8;
+    call_remove_entry(sheet, index: usize, list: mut [u64], bytes: &mut [u8; 8], doubles: &mut [f64; 3], r: R, away: Away,) -> u8;
     call_merge_entries(sheet, from: usize, into: usize, list: mut [u64], bytes: &mut [u8; 8], doubles: &mut [f64; 3], r: R,) -> u8;
 
     call_fresh(state: State,) -> ();

@@ -39,6 +39,11 @@ fn main() {
         lines::BY_RUST.load(Relaxed),
         lines::BY_RULE.load(Relaxed)
     );
+    println!(
+        "Beside the Rust's answers {} distances were held to compare/'s own dist2, bit for bit; {} of them are infinite.",
+        sheets::DISTANCES.load(Relaxed),
+        sheets::INFINITE.load(Relaxed)
+    );
     println!();
     let sound = damage::run();
     println!();

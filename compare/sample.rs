@@ -1,5 +1,5 @@
 //! The lines that the program `test_sample` must print. Its inputs are dealt from seeds, here as in crates/test_inputs and crates/test_sample,
-//! and the answers are the ones that the comparison expects: document 01's checks, and the Rust.
+//! and the answers are the ones that the comparison expects: document 01's checks, the Rust, and E3's distances.
 
 use crate::drawn;
 use crate::histories;

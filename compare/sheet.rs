@@ -19,6 +19,7 @@ pub const R: [usize; 5] = [7777; 5];
 pub const S: [u16; 4] = [7777; 4];
 pub const BYTES: [u8; 8] = [BYTE; 8];
 pub const DOUBLES: [f64; 3] = [REAL; 3];
+pub const AWAY: [f64; 1] = [REAL];
 
 /// The first number whose test applies, or 0.
 pub fn first(checks: &[(u8, bool)]) -> u8 {

@@ -11,6 +11,7 @@ use pixelforge::editor::palette as rust_palette;
 use pixelforge::editor::selection::region as rust_region;
 use pixelforge::editor::tools::Stroke;
 use pixelforge::editor::{Document, EditError, Op, Selection};
+use std::sync::atomic::{AtomicUsize, Ordering::Relaxed};
 
 pub fn check(c: &Case) -> Pair {
     let s = &c.sheet;
@@ -152,17 +153,42 @@ pub fn linear(c: u8) -> Pair {
     [vec![0, value.to_bits()], vec![0, call_linear(c).to_bits()]]
 }
 
+/// A double's bits, and one word for every NaN. The word is no NaN's bits, since rustc may take one NaN for another.
+fn one(x: f64) -> u64 {
+    if x.is_nan() {
+        1
+    } else {
+        x.to_bits()
+    }
+}
+
 /// `dist2`, which is private in color.rs, in its own words; its root is the Rust's `delta_e`.
-pub fn dist2(p: [f64; 3], q: [f64; 3]) -> Pair {
-    let told = |x: f64| vec![0, if x.is_nan() { u64::MAX } else { x.to_bits() }];
+fn own_dist2(p: &[f64], q: &[f64]) -> f64 {
     let d = [p[0] - q[0], p[1] - q[1], p[2] - q[2]];
     let value = d[0] * d[0] + d[1] * d[1] + d[2] * d[2];
     assert_eq!(
-        told(color::delta_e(&p, &q)[0]),
-        told(value.sqrt()),
+        one(color::delta_e(p, q)[0]),
+        one(value.sqrt()),
         "the Rust's delta_e"
     );
-    [told(value), told(call_dist2(&p, &q))]
+    value
+}
+
+pub fn dist2(p: [f64; 3], q: [f64; 3]) -> Pair {
+    let (expected, ours) = (own_dist2(&p, &q), call_dist2(&p, &q));
+    [vec![0, one(expected)], vec![0, one(ours)]]
+}
+
+/// How many distances were held to the words above, and how many of them are infinite.
+pub static DISTANCES: AtomicUsize = AtomicUsize::new(0);
+pub static INFINITE: AtomicUsize = AtomicUsize::new(0);
+
+/// What is expected beside an entry that the Rust names: it has no distance to hand back, so `own_dist2` of that entry.
+fn expected_distance(target: &[f64], lab: &[f64], entry: usize) -> [f64; 1] {
+    let value = own_dist2(target, &lab[3 * entry..3 * entry + 3]);
+    DISTANCES.fetch_add(1, Relaxed);
+    INFINITE.fetch_add(value.is_infinite().into(), Relaxed);
+    [value]
 }
 
 pub fn rgb8_to_lab(rgb: [u8; 3]) -> Pair {
@@ -186,6 +212,14 @@ pub fn cbrt(t: f64) -> Pair {
     [expected, ours]
 }
 
+/// An entry, and its distance.
+fn found(no: u8, r: [usize; 5], away: [f64; 1]) -> Vec<u64> {
+    let mut words = vec![no.into()];
+    sizes(&mut words, &r);
+    doubles(&mut words, &away);
+    words
+}
+
 pub fn nearest_index(target: [f64; 3], lab: &[f64], k: usize) -> Pair {
     let bad = k > 255 || lab.len() != STORAGE;
     let no = if bad {
@@ -194,16 +228,15 @@ pub fn nearest_index(target: [f64; 3], lab: &[f64], k: usize) -> Pair {
         let unfit = target.iter().chain(&lab[..3 * k]).any(|x| !x.is_finite());
         first(&[(3, unfit), (7, k == 0)])
     };
-    let mut r = R;
+    let (mut r, mut away) = (R, AWAY);
     if no == 0 {
         r[0] = color::nearest_index(&target, &lab[..3 * k])[0] as usize;
+        away = expected_distance(&target, lab, r[0]);
     }
-    let mut expected = vec![no.into()];
-    sizes(&mut expected, &r);
-    let mut r = R;
-    let mut ours = vec![call_nearest_index(&target, lab, k, &mut r).into()];
-    sizes(&mut ours, &r);
-    [expected, ours]
+    let expected = found(no, r, away);
+    let (mut r, mut away) = (R, AWAY);
+    let no = call_nearest_index(&target, lab, k, &mut r, &mut away);
+    [expected, found(no, r, away)]
 }
 
 // selection.rs
@@ -658,20 +691,36 @@ fn none_other(c: &Case, index: usize) -> u8 {
 
 pub fn nearest_other(c: &Case, index: usize) -> Pair {
     let s = &c.sheet;
-    let mut r = R;
+    let (mut r, mut away) = (R, AWAY);
     let mut no = c.no;
     if no == 0 {
         match rust_palette::nearest_other(c.doc(), index) {
-            Some(i) => r[0] = i,
+            Some(i) => {
+                r[0] = i;
+                away = expected_distance(&s.lab[3 * index..3 * index + 3], &s.lab, i);
+            }
             None => no = none_other(c, index),
         }
     }
-    let mut expected = vec![no.into()];
-    sizes(&mut expected, &r);
-    let mut r = R;
-    let mut ours = vec![sheet!(call_nearest_other, s, index, &mut r).into()];
-    sizes(&mut ours, &r);
-    [expected, ours]
+    let expected = found(no, r, away);
+    let (mut r, mut away) = (R, AWAY);
+    let no = sheet!(call_nearest_other, s, index, &mut r, &mut away);
+    [expected, found(no, r, away)]
+}
+
+/// An edit, the count of its changes and the entry that they move to, that entry's distance, and the list.
+fn removed(
+    no: u8,
+    b: [u8; 8],
+    f: [f64; 3],
+    r: [usize; 5],
+    away: [f64; 1],
+    out: &[u64],
+) -> Vec<u64> {
+    let mut words = made(no, b, f, r, &[]);
+    doubles(&mut words, &away);
+    words.extend_from_slice(out);
+    words
 }
 
 pub fn remove_entry(c: &Case, index: usize, out: usize) -> Pair {
@@ -681,8 +730,21 @@ pub fn remove_entry(c: &Case, index: usize, out: usize) -> Pair {
         || rust_palette::remove_entry(c.doc(), index),
         |_| none_other(c, index),
     );
-    let expected = with_edit(no, out, true, || op.unwrap());
-    let (mut list, mut b, mut f, mut r) = (vec![WORD; out], BYTES, DOUBLES, R);
+    let refused = |no| removed(no, BYTES, DOUBLES, R, AWAY, &vec![WORD; out]);
+    let expected = op.map_or_else(
+        || refused(no),
+        |op| {
+            let (b, f, mut r, list) = flat_of(&op);
+            if list.len() > out {
+                return refused(16);
+            }
+            let into = rust_palette::nearest_other(c.doc(), index).unwrap();
+            (r[1], r[2]) = (list.len(), into);
+            let away = expected_distance(&s.lab[3 * index..3 * index + 3], &s.lab, into);
+            removed(0, b, f, r, away, &over(&list, out, WORD))
+        },
+    );
+    let (mut list, mut b, mut f, mut r, mut away) = (vec![WORD; out], BYTES, DOUBLES, R, AWAY);
     let no = sheet!(
         call_remove_entry,
         s,
@@ -690,9 +752,10 @@ pub fn remove_entry(c: &Case, index: usize, out: usize) -> Pair {
         &mut list,
         &mut b,
         &mut f,
-        &mut r
+        &mut r,
+        &mut away
     );
-    [expected, made(no, b, f, r, &list)]
+    [expected, removed(no, b, f, r, away, &list)]
 }
 
 pub fn merge_entries(c: &Case, from: usize, into: usize, out: usize) -> Pair {

@@ -7,7 +7,8 @@ from chains import Call, Deref, Field, Fn, Give, Len, Let, Return, Store, last
 from kinds import Array, Bool, Enum, MutRef, MutSlice, ShrSlice, Sint, Struct, Uint, Unit
 
 USIZE = Uint('usize')
-COUNTED, ANSWER, REMOVAL, SHIFTED, MADE = map(Enum, ['Counted', 'Answer', 'Removal', 'Shifted', 'MadeOp'])
+COUNTED, ANSWER, REMOVED, REMOVAL, SHIFTED, MADE = map(
+    Enum, ['Counted', 'Answer', 'Removed', 'Removal', 'Shifted', 'MadeOp'])
 MOVED, REPLAYED, MARKED, HANDLE = map(Struct, ['Moved', 'Replayed', 'Marked', 'Handle'])
 
 # what a parameter is, or what it is a slice of, by its name; another type is written behind the name
@@ -100,6 +101,7 @@ S = '(sheetOf w h k palette lab indices)'
 COUNTING = {
     'Counted': ('change_list::count_of', 'countOf'),
     'Shifted': ('tool_paste::shifted_count', 'shiftedCount'),
+    'Removed': ('struct_palette::removing::removed_count', 'removedCount'),
     'Removal': ('struct_palette::removing::removal_count', 'removalCount'),
     'MadeOp': ('change_op::made_count', 'madeCount'),
 }
@@ -172,12 +174,12 @@ tool('struct_fill::index::fill_global', 'struct_fill::index::fill_global_in', 'a
      COUNTED, 'filled', NEEDING % ('fillGlobalOf %s area x y index' % S), keeps=False, using=FILLS)
 
 REMOVALS = '''
-palette_remove specs Removal remapped removeEntryOf mergeEntriesOf
-struct_palette specs Scratch removalCount needingRemap
+palette_remove specs Removal remapped replaced removeEntryOf mergeEntriesOf
+struct_palette specs Scratch removalCount removedCount needingRemap
 '''
 REMAP = 'needingRemap (length scratch) (length indices) (%s)'
 tool('struct_palette::removing::remove_entry', 'struct_palette::removing::remove_entry_in', 'index: usize',
-     REMOVAL, 'remapped', REMAP % ('removeEntryOf %s index' % S), keeps=False, using=REMOVALS)
+     REMOVED, 'replaced', REMAP % ('removeEntryOf %s index' % S), keeps=False, using=REMOVALS)
 tool('struct_palette::removing::merge_entries', 'struct_palette::removing::merge_entries_in', 'old: usize, new: usize',
      REMOVAL, 'remapped', REMAP % ('mergeEntriesOf %s old new' % S), keeps=False, using=REMOVALS)
 

@@ -61,8 +61,8 @@ Rattle.struct_change.proofs.Lending LentAgain LentShared lend-mut back-mut lend
 '''
 # the crate that declares a type
 DECLARED = {'Area': 'selection', 'Selection': 'selection', 'Shifted': 'selection'}
-TYPES = ['Edit', 'Change', 'Handle', 'Area', 'Selection', 'Counted', 'Shifted', 'Removal', 'MadeOp', 'Moved',
-         'Replayed', 'Marked', 'Answer']
+TYPES = ['Edit', 'Change', 'Handle', 'Area', 'Selection', 'Counted', 'Shifted', 'Removed', 'Removal', 'MadeOp',
+         'Moved', 'Replayed', 'Marked', 'Answer']
 
 
 def words_of(text):

@@ -26,6 +26,8 @@ use Rattle.base.specs.declared.Choices.{Choices}
 use Rattle.base.specs.declared.Choices.the-variants as choices
 use Rattle.base.specs.declared.MadeEdit.{MadeEdit}
 use Rattle.base.specs.declared.MadeEdit.the-variants as made-edit
+use Rattle.base.specs.declared.Removed.{Removed}
+use Rattle.base.specs.declared.Removed.the-variants as removed
 use Rattle.base.specs.declared.Removal.{Removal}
 use Rattle.base.specs.declared.Removal.the-variants as removal
 use Rattle.base.specs.declared.MadeOp.{MadeOp}
@@ -84,7 +86,7 @@ leaving told buffer = record { answer = told; buffer = buffer }
 abbrev pub filled : {A : Type 0} → Counted → List A → Filled A
 filled answer buffer = leaving (countedTold answer) buffer
 
--- ---- one value: a truth, a double, an entry, an edit
+-- ---- one value: a truth, a double, an edit
 abbrev pub truthTold : Truth → Told Bool
 truthTold (truth.Is b) = Told.result b
 truthTold (truth.Refused n) = Told.alone n
@@ -92,10 +94,6 @@ truthTold (truth.Refused n) = Told.alone n
 abbrev pub rootTold : Root → Told Float
 rootTold (root.Value x) = Told.result x
 rootTold (root.Refused n) = Told.alone n
-
-abbrev pub foundTold : Found → Told ℕ
-foundTold (found.Entry i) = Told.result i
-foundTold (found.Refused n) = Told.alone n
 
 abbrev pub madeEditTold : MadeEdit → Told Edit
 madeEditTold (made-edit.Edit e) = Told.result e
@@ -113,6 +111,18 @@ choicesTold choices.Free = Told.result none
 choicesTold (choices.Refused n) = Told.alone n
 
 -- ---- several values
+-- an entry, and its squared distance
+pub record EntryAt : Type 0 where
+  pub index : ℕ
+  pub distance : Float
+
+abbrev pub entryAt : ℕ → Float → EntryAt
+entryAt index distance = record { index = index; distance = distance }
+
+abbrev pub foundTold : Found → Told EntryAt
+foundTold (found.Entry index distance) = Told.result (entryAt index distance)
+foundTold (found.Refused n) = Told.alone n
+
 -- an edit, and how many changes its list has
 pub record Op : Type 0 where
   pub edit : Edit
@@ -132,6 +142,22 @@ madeOpTold (made-op.Refused n) = Told.alone n
 abbrev pub removalTold : Removal → Told Op
 removalTold (removal.Made edit count) = Told.result (op edit count)
 removalTold (removal.Refused n) = Told.alone n
+
+-- the same of an entry's removal, and the entry that its pixels move to
+pub record Replacement : Type 0 where
+  pub made : Op
+  pub into : EntryAt
+
+abbrev pub replacement : Op → EntryAt → Replacement
+replacement made into = record { made = made; into = into }
+
+abbrev pub replacementCount : Told Replacement → ℕ
+replacementCount (Told.result r) = r .made .count
+replacementCount (Told.alone n) = 0
+
+abbrev pub removedTold : Removed → Told Replacement
+removedTold (removed.Made edit count into distance) = Told.result (replacement (op edit count) (entryAt into distance))
+removedTold (removed.Refused n) = Told.alone n
 
 -- a clip's sides
 pub record Sides : Type 0 where

@@ -243,9 +243,9 @@ pub enum Root {
     Refused(u8),
 }
 
-// What a search for an entry answers.
+// What a search for an entry answers: the entry, and its squared distance.
 pub enum Found {
-    Entry(usize),
+    Entry { index: usize, distance: f64 },
     Refused(u8),
 }
 
@@ -262,7 +262,19 @@ pub enum MadeEdit {
     Refused(u8),
 }
 
-// What `remove_entry` and `merge_entries` answer: the edit, and how many changes its list has.
+// What `remove_entry` answers: the edit, how many changes its list has, and the entry that its pixels move to with the
+// squared distance of that entry, also where no pixel moves.
+pub enum Removed {
+    Made {
+        edit: Edit,
+        count: usize,
+        into: usize,
+        distance: f64,
+    },
+    Refused(u8),
+}
+
+// What `merge_entries` answers: the edit, and how many changes its list has.
 pub enum Removal {
     Made { edit: Edit, count: usize },
     Refused(u8),

@@ -61,7 +61,7 @@ pub extern "C" fn bench_cbrt(t: &[f64], roots: &mut [f64]) {
 // The entry, or 255, which is none, for a refusal.
 fn entry_of(f: Found) -> usize {
     match f {
-        Found::Entry(i) => i,
+        Found::Entry { index, distance: _ } => index,
         Found::Refused(_) => 255,
     }
 }

@@ -31,10 +31,12 @@ pub extern "C" fn call_cbrt(t: f64, out: &mut [f64; 3]) -> u8 {
     }
 }
 
-pub(crate) fn tell_found(f: Found, r: &mut [usize; 5]) -> u8 {
+// r[0] is the entry, away[0] its squared distance.
+pub(crate) fn tell_found(f: Found, r: &mut [usize; 5], away: &mut [f64; 1]) -> u8 {
     match f {
-        Found::Entry(i) => {
-            r[0] = i;
+        Found::Entry { index, distance } => {
+            r[0] = index;
+            away[0] = distance;
             0
         }
         Found::Refused(n) => n,
@@ -47,6 +49,7 @@ pub extern "C" fn call_nearest_index(
     lab: &[f64],
     k: usize,
     r: &mut [usize; 5],
+    away: &mut [f64; 1],
 ) -> u8 {
-    tell_found(color::nearest_index(lab_of(target), lab, k), r)
+    tell_found(color::nearest_index(lab_of(target), lab, k), r, away)
 }

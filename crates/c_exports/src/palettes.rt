@@ -3,6 +3,7 @@ use crate::colours::tell_found;
 use base::Choices;
 use base::MadeEdit;
 use base::Removal;
+use base::Removed;
 use c_flat::NONE;
 use c_flat::rgb_of;
 use c_flat::tell_edit;
@@ -123,11 +124,38 @@ pub extern "C" fn call_nearest_other(
     indices: &[i16],
     index: usize,
     r: &mut [usize; 5],
+    away: &mut [f64; 1],
 ) -> u8 {
     tell_found(
         palette::nearest_other(w, h, k, palette, lab, indices, index),
         r,
+        away,
     )
+}
+
+// r[1] is the count of the remap, r[2] the entry that the pixels move to, away[0] its squared distance.
+fn tell_removed(
+    m: Removed,
+    bytes: &mut [u8; 8],
+    doubles: &mut [f64; 3],
+    r: &mut [usize; 5],
+    away: &mut [f64; 1],
+) -> u8 {
+    match m {
+        Removed::Made {
+            edit,
+            count,
+            into,
+            distance,
+        } => {
+            tell_edit(edit, bytes, doubles, r);
+            r[1] = count;
+            r[2] = into;
+            away[0] = distance;
+            0
+        }
+        Removed::Refused(n) => n,
+    }
 }
 
 // r[1] is the count of the remap.
@@ -155,12 +183,14 @@ pub extern "C" fn call_remove_entry(
     bytes: &mut [u8; 8],
     doubles: &mut [f64; 3],
     r: &mut [usize; 5],
+    away: &mut [f64; 1],
 ) -> u8 {
-    tell_removal(
+    tell_removed(
         palette::remove_entry(w, h, k, palette, lab, indices, index, list),
         bytes,
         doubles,
         r,
+        away,
     )
 }
 

@@ -9,14 +9,14 @@ use lib.Ieee.{Float, binary64, toBits}
 use Rattle.base.specs.Limits.{maxEntries, storage}
 use Rattle.base.specs.Numbers.{badSheet, unfitLab, noSuchEntry, rootRange}
 use Rattle.base.specs.Checks.{Check, _when_, checked}
-use Rattle.base.specs.Answer.{Told, rootTold, foundTold}
+use Rattle.base.specs.Answer.{Told, EntryAt, entryAt, rootTold, foundTold}
 use Rattle.base.specs.Answer.Told.{result, alone}
 use Rattle.base.specs.declared.Lab.{Lab}
 use Rattle.base.specs.Lists.{some}
 use Rattle.color_doubles.specs.NearestDouble.{unitsOf, NoneNearer}
 use Rattle.color_root.specs.CubeRoot.{inRootRange, rootOf}
 use Rattle.color_doubles.specs.Finite.{unfit, unfitTriple}
-use Rattle.color_nearest.specs.Nearest.{nearestOf, FirstNearest}
+use Rattle.color_nearest.specs.Nearest.{distance, nearestOf, FirstNearest}
 use Rattle.base.specs.declared.Root.{Root}
 use Rattle.base.specs.declared.Found.{Found}
 
@@ -42,10 +42,13 @@ nearestChecks target lab k =
     ∷ noSuchEntry when eqb k 0
     ∷ []
 
-unfoldable pub nearestIndexOf : Lab → List Float → ℕ → Told ℕ
-nearestIndexOf target lab k = checked (nearestChecks target lab k) alone (result (nearestOf target lab k .entry))
+-- the entry, and "that entry's `dist2`" (document 02, E3)
+unfoldable pub nearestIndexOf : Lab → List Float → ℕ → Told EntryAt
+nearestIndexOf target lab k =
+    let i = nearestOf target lab k .entry in
+    checked (nearestChecks target lab k) alone (result (entryAt i (distance target lab i)))
 
 -- the answer, and that its entry is the first of the nearest
 pub record NearestEntry (target : Lab) (lab : List Float) (k : ℕ) (r : Found) : Type 0 where
   pub value : foundTold r ≡ nearestIndexOf target lab k
-  pub first : (i : ℕ) → foundTold r ≡ result i → FirstNearest target lab k i
+  pub first : (e : EntryAt) → foundTold r ≡ result e → FirstNearest target lab k (e .index)

@@ -67,7 +67,7 @@ fn any_unfit_in(lab: &[f64], total: f64) -> bool
     false
 }
 
-// The nearest of the first k entries of a LAB storage, the first of them where several are. A k or a
+// The nearest of the first k entries of a LAB storage, the first of them where several are, and its `dist2`. A k or a
 // length past the limits is 1, a number among the k entries or in the target that is not finite 3, and
 // no entry at all 7.
 pub fn nearest_index(target: Lab, lab: &[f64], k: usize) -> Found
@@ -90,5 +90,8 @@ pub fn nearest_index(target: Lab, lab: &[f64], k: usize) -> Found
     if k == 0 {
         return Found::Refused(NO_SUCH_ENTRY);
     }
-    Found::Entry(s.near.entry)
+    Found::Entry {
+        index: s.near.entry,
+        distance: s.near.distance,
+    }
 }

@@ -1,4 +1,5 @@
--- Where the target and the entries are finite, `nearestOf` is the first of the entries at the least distance. Assumes nothing.
+-- Where the target and the entries are finite, `nearestOf` is the first of the entries at the least distance, and the
+-- distance that it kept is that entry's own `dist2`. Assumes nothing.
 use mathlib.Core.Path.{_≡_, refl}
 use mathlib.Core.Bool.{Bool, true, false, cond}
 use mathlib.Core.List.{List}
@@ -18,10 +19,10 @@ use Rattle.color_doubles.proofs.Signs.{Plus, infinity, number}
 use Rattle.color_doubles.proofs.Order.{le-self, not-lt→le, lt-le→lt, lt→le}
 use Rattle.color_nearest.proofs.Distances.{distance-plus}
 
--- s is what is found among the first n entries, and how far that is
-record Found (p : Lab) (lab : List Float) (n : ℕ) (s : Near) : Type 0 where
-  own : s .distance ≡ distance p lab (s .entry)
-  nearest : FirstNearest p lab n (s .entry)
+-- s is what is found among the first n entries: the first of the nearest, and its own distance
+pub record Found (p : Lab) (lab : List Float) (n : ℕ) (s : Near) : Type 0 where
+  pub own : s .distance ≡ distance p lab (s .entry)
+  pub nearest : FirstNearest p lab n (s .entry)
 
 -- what holds below n and at n holds below suc n
 below-suc : (P : ℕ → Type 0) (n : ℕ) → ((j : ℕ) → j < n → P j) → P n → (j : ℕ) → j < suc n → P j
@@ -82,16 +83,16 @@ module _ (p : Lab) (lab : List Float) where
       go true e = record { own = refl; nearest = takes-over n plus (s .entry) (f .nearest) (rw (f .own) at e) }
       go false e = record { own = f .own; nearest = stays n plus (s .entry) (f .nearest) (rw (f .own) at e) }
 
-  found : (n : ℕ) → AllPlus (suc n) → Found p lab (suc n) (nearestOf p lab (suc n))
+  among : (n : ℕ) → AllPlus (suc n) → Found p lab (suc n) (nearestOf p lab (suc n))
   unfolding nearestOf
-  found zero plus = start plus
-  found (suc n) plus = next (suc n) (nearestOf p lab (suc n)) plus (found n (but-last plus))
+  among zero plus = start plus
+  among (suc n) plus = next (suc n) (nearestOf p lab (suc n)) plus (among n (but-last plus))
 
-pub first-nearest : (p : Lab) (lab : List Float) (k : ℕ)
+pub found : (p : Lab) (lab : List Float) (k : ℕ)
     → unfitTriple p ≡ false
     → some unfit (take (3 * k) lab) ≡ false
     → 3 * k ≤ length lab
     → 0 < k
-    → FirstNearest p lab k (nearestOf p lab k .entry)
-first-nearest p lab zero e none room h = absurd (not-suc-le-zero h)
-first-nearest p lab (suc n) e none room h = found p lab n (distance-plus lab (suc n) none room p e) .nearest
+    → Found p lab k (nearestOf p lab k)
+found p lab zero e none room h = absurd (not-suc-le-zero h)
+found p lab (suc n) e none room h = among p lab n (distance-plus lab (suc n) none room p e)

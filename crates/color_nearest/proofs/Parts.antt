@@ -76,8 +76,8 @@ module _ (p : Lab) (ks ls : List Float) (a : ℕ) (e : length ks ≡ 3 * a) wher
   joined : (n : ℕ) → nearestOf p (ks ++ ls) (a + n) ≡ both (nearestOf p ks a) (counted-on a (nearestOf p ls n))
   joined n = sym (in-two p (ks ++ ls) a n) ∙ rw (nearest-front a (le-refl a), from-back n)
 
-  pub parts : (n : ℕ) → nearestOf p (ks ++ ls) (a + n) .entry ≡ cond (lt (nearestOf p ls n .distance) (nearestOf p ks a .distance)) (a + nearestOf p ls n .entry) (nearestOf p ks a .entry)
-  parts n = ap (λ (s : Near). s .entry) (joined n) ∙ rw (same-distance a (nearestOf p ls n)) (go (lt (nearestOf p ls n .distance) (nearestOf p ks a .distance)) refl)
+  pub parts : (n : ℕ) → nearestOf p (ks ++ ls) (a + n) ≡ both (nearestOf p ks a) (record { entry = a + nearestOf p ls n .entry; distance = nearestOf p ls n .distance })
+  parts n = joined n ∙ rw (same-distance a (nearestOf p ls n)) (go (lt (nearestOf p ls n .distance) (nearestOf p ks a .distance)) refl)
     where
       s : Near
       s = nearestOf p ks a
@@ -85,7 +85,7 @@ module _ (p : Lab) (ks ls : List Float) (a : ℕ) (e : length ks ≡ 3 * a) wher
       u : Near
       u = nearestOf p ls n
 
-      go : (b : Bool) → lt (u .distance) (s .distance) ≡ b → cond b (counted-on a u) s .entry ≡ cond b (a + u .entry) (s .entry)
+      go : (b : Bool) → lt (u .distance) (s .distance) ≡ b → cond b (counted-on a u) s ≡ cond b (record { entry = a + u .entry; distance = u .distance }) s
       go true b = rw (below-infinity (plus (nearest-plus p ls n)) (nearest-plus p ks a) b)
       go false b = refl
 

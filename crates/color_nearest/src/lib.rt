@@ -2,6 +2,7 @@
 mod nearest;
 
 pub use nearest::dist2;
+pub use nearest::nearer;
 pub use nearest::nearest_in;
 pub use nearest::search_in;
 

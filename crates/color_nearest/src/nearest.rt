@@ -29,7 +29,7 @@ fn distance_to(target: Lab, lab: &[f64], i: usize) -> f64
 }
 
 // The nearer of two that were found, the one before where both are as near.
-fn nearer(s: Near, u: Near) -> Near
+pub fn nearer(s: Near, u: Near) -> Near
     ensures { λ r. ⌜ r ≡ cond (lt (u .distance) (s .distance)) u s ⌝ }
 {
     if u.distance < s.distance { u } else { s }

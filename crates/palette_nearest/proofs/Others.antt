@@ -1,4 +1,4 @@
--- The nearest of the entries but one: searched in the two parts around it, and what that is. Assumes nothing.
+-- The nearest of the entries but one: searched in the two parts around it, what that is, and how far. Assumes nothing.
 use mathlib.Core.Path.{_≡_, refl, sym, ap, subst, _∙_}
 use mathlib.Core.Bool.{Bool, true, false, cond}
 use mathlib.Core.List.{List, _++_}
@@ -11,6 +11,7 @@ use lib.ListN.{length, getD, take, drop, List·getD-append}
 use lib.Seq.{length-take-le, getD-take, getD-drop, getD-append-add, take-take, take-add, drop-at}
 use lib.Ieee.{Float, nan, lt, le}
 use Rattle.base.specs.declared.Lab.{Lab}
+use Rattle.base.specs.Answer.{entryAt}
 use Rattle.base.specs.Lists.{some}
 use Rattle.base.proofs.Scan.{some-none}
 use Rattle.base.proofs.Nowhere.{or-both, nowhere-take}
@@ -18,11 +19,12 @@ use Rattle.color_doubles.specs.Finite.{unfit, unfitTriple}
 use Rattle.color_nearest.specs.declared.Near.{Near}
 use Rattle.color_nearest.specs.Nearest.{dist2Of, distance, nearestOf, FirstNearest}
 use Rattle.base.specs.Triples.{labAt}
-use Rattle.color_nearest.proofs.FirstNearest.{first-nearest}
+use Rattle.color_nearest.proofs.FirstNearest.{Found, found}
+use Rattle.color_nearest.proofs.Halves.{both}
 use Rattle.color_nearest.proofs.Parts.{parts, nearest-within}
 use Rattle.edit.specs.Storage.{cut}
 use Rattle.edit.proofs.Storage.{cut-length, cut-nowhere}
-use Rattle.palette_nearest.specs.Nearest.{nearestOther, FirstOther, Nearest}
+use Rattle.palette_nearest.specs.Nearest.{nearestOther, FirstOther, substitute, Nearest}
 
 -- ---- a list without the three numbers at `at`
 module _ {A : Type 0} (at : ℕ) (l : List A) (d : A) (h : at ≤ length l) where
@@ -106,8 +108,11 @@ module _ (lab : List Float) (k i : ℕ) where
   abbrev others : List Float
   others = cut (3 * i) (take (3 * k) lab)
 
-  abbrev pub near : ℕ
-  near = nearestOf (labAt lab i) others (k - 1) .entry
+  abbrev pub nearest : Near
+  nearest = nearestOf (labAt lab i) others (k - 1)
+
+  abbrev near : ℕ
+  near = nearest .entry
 
   module _ (room : 3 * k ≤ length lab) (h : i < k) where
     long : length (take (3 * k) lab) ≡ 3 * k
@@ -136,23 +141,23 @@ module _ (lab : List Float) (k i : ℕ) where
     near-within = nearest-within (labAt lab i) others (k - 1)
 
     -- the search in the two parts
-    pub near-is : (p : Lab) (s u : Near) (j : ℕ) → p ≡ labAt lab i → s ≡ nearestOf p (take (3 * i) lab) i → u ≡ nearestOf p (take (3 * k - (3 * i + 3)) (drop (3 * i + 3) lab)) (k - 1 - i)
-        → j ≡ cond (lt (u .distance) (s .distance)) (i + u .entry) (s .entry) → j ≡ near
-    near-is p s u j e a b c =
+    pub near-is : (p : Lab) (s u r : Near) → p ≡ labAt lab i → s ≡ nearestOf p (take (3 * i) lab) i → u ≡ nearestOf p (take (3 * k - (3 * i + 3)) (drop (3 * i + 3) lab)) (k - 1 - i)
+        → r ≡ both s (record { entry = i + u .entry; distance = u .distance }) → r ≡ nearest
+    near-is p s u r e a b c =
         let ks = take (3 * i) lab in
         let ls = take (3 * k - (3 * i + 3)) (drop (3 * i + 3) lab) in
         let all : i + (k - 1 - i) ≡ k - 1 = omega arith in
         c ∙ rw (a, b) (sym (parts p ks ls i (length-take-le (3 * i) lab (omega arith)) (k - 1 - i)))
-        ∙ ap (λ (n : ℕ). nearestOf p (ks ++ ls) n .entry) all
-        ∙ ap (λ (q : Lab). nearestOf q (ks ++ ls) (k - 1) .entry) e
-        ∙ ap (λ (l : List Float). nearestOf (labAt lab i) l (k - 1) .entry) (sym (cut-parts (3 * i) (3 * k) lab (omega arith) room))
+        ∙ ap (λ (n : ℕ). nearestOf p (ks ++ ls) n) all
+        ∙ ap (λ (q : Lab). nearestOf q (ks ++ ls) (k - 1)) e
+        ∙ ap (λ (l : List Float). nearestOf (labAt lab i) l (k - 1)) (sym (cut-parts (3 * i) (3 * k) lab (omega arith) room))
 
     -- its bounds
     pub sum-within : (p : Lab) (l : List Float) (u : Near) → u ≡ nearestOf p l (k - 1 - i) → i + u .entry < k
     sum-within p l u e = omega (arith, ap (λ (s : Near). s .entry) e, nearest-within p l (k - 1 - i))
 
-    pub is-within : (j : ℕ) → j ≡ near → j < k
-    is-within j e = omega (arith, near-within, e)
+    pub is-within : (r : Near) → r ≡ nearest → r .entry < k
+    is-within r e = omega (arith, near-within, ap (λ (s : Near). s .entry) e)
 
     module _ (more : 2 ≤ k) (fit : some unfit (take (3 * k) lab) ≡ false) where
       number-fit : (n : ℕ) → n < 3 * k → unfit (getD lab n nan) ≡ false
@@ -162,12 +167,15 @@ module _ (lab : List Float) (k i : ℕ) where
       unfolding unfitTriple labAt
       target-fit = or-both (or-both (number-fit (3 * i) (omega arith)) (number-fit (3 * i + 1) (omega arith))) (number-fit (3 * i + 2) (omega arith))
 
-      nearest-of-others : FirstNearest (labAt lab i) others (k - 1) near
-      nearest-of-others =
-          first-nearest (labAt lab i) others (k - 1) target-fit
+      found-in-others : Found (labAt lab i) others (k - 1) nearest
+      found-in-others =
+          found (labAt lab i) others (k - 1) target-fit
           (nowhere-take unfit (3 * (k - 1)) others (cut-nowhere unfit (3 * i) (take (3 * k) lab) fit))
           (omega (arith, cut-length (3 * i) (3 * k) (take (3 * k) lab) (omega arith) long))
           (omega arith)
+
+      nearest-of-others : FirstNearest (labAt lab i) others (k - 1) near
+      nearest-of-others = found-in-others .nearest
 
       -- entry j of the others is entry m
       same-distance : (j m : ℕ) → suc j < k → shifted i j ≡ m → distance (labAt lab i) others j ≡ distance (labAt lab i) lab m
@@ -190,13 +198,23 @@ module _ (lab : List Float) (k i : ℕ) where
             first = λ m c ne. let u = without i m ne in carried lt m (omega arith) u (f .first (u .j) (u .before near c));
           }
 
-      nearest-is : (j : ℕ) → j ≡ shifted i near → Nearest lab k i j
-      unfolding nearestOther
-      nearest-is j e = record { value = e; first = subst (FirstOther lab k i) (sym e) first-other }
+      -- the distance that the search kept is the entry's own
+      own-distance : nearest .distance ≡ distance (labAt lab i) lab (shifted i near)
+      own-distance = found-in-others .own ∙ same-distance near (shifted i near) (omega (arith, nearest-of-others .inside)) refl
+
+      nearest-is : (r : Near) → r .entry ≡ shifted i near → r .distance ≡ nearest .distance → Nearest lab k i r
+      unfolding nearestOther substitute
+      nearest-is r e d =
+          record {
+            value = rw (e, d) (ap (entryAt (shifted i near)) own-distance);
+            first = subst (FirstOther lab k i) (sym e) first-other;
+          }
 
       -- what the code answers
-      pub nearest-from : (j : ℕ) → j ≡ near → i ≤ j → Nearest lab k i (j + 1)
-      nearest-from j e b = nearest-is (j + 1) (add-one j ∙ ap suc e ∙ sym (shifted-from i near (rw e at b)))
+      pub nearest-from : (r : Near) → r ≡ nearest → i ≤ r .entry → Nearest lab k i (record { entry = r .entry + 1; distance = r .distance })
+      nearest-from r e b =
+          nearest-is _ (add-one (r .entry) ∙ ap (λ (s : Near). suc (s .entry)) e ∙ sym (shifted-from i near (rw e at b))) (ap (λ (s : Near). s .distance) e)
 
-      pub nearest-before : (j : ℕ) → j ≡ near → j < i → Nearest lab k i j
-      nearest-before j e b = nearest-is j (e ∙ sym (shifted-before i near (rw e at b)))
+      pub nearest-before : (r : Near) → r ≡ nearest → r .entry < i → Nearest lab k i r
+      nearest-before r e b =
+          nearest-is r (ap (λ (s : Near). s .entry) e ∙ sym (shifted-before i near (rw e at b))) (ap (λ (s : Near). s .distance) e)

@@ -8,6 +8,8 @@ use lib.ListN.{take}
 use lib.Ieee.{Float, lt, le}
 use Rattle.base.specs.Numbers.{noSuchEntry, lastEntry}
 use Rattle.base.specs.Checks.{Check, _when_, firstOf}
+use Rattle.base.specs.Answer.{EntryAt, entryAt}
+use Rattle.color_nearest.specs.declared.Near.{Near}
 use Rattle.color_nearest.specs.Nearest.{distance, nearestOf}
 use Rattle.base.specs.Triples.{labAt}
 use Rattle.sheet.specs.Sheet.{Sheet}
@@ -42,6 +44,12 @@ pub record FirstOther (lab : List Float) (k i j : ℕ) : Type 0 where
   pub least : (m : ℕ) → m < k → (m ≡ i → ⊥) → T (le (distance (labAt lab i) lab j) (distance (labAt lab i) lab m))
   pub first : (m : ℕ) → m < j → (m ≡ i → ⊥) → T (lt (distance (labAt lab i) lab j) (distance (labAt lab i) lab m))
 
-pub record Nearest (lab : List Float) (k i j : ℕ) : Type 0 where
-  pub value : j ≡ nearestOther lab k i
-  pub first : FirstOther lab k i j
+-- that entry, and "that entry's `dist2`" (document 02, E3)
+unfoldable pub substitute : List Float → ℕ → ℕ → EntryAt
+substitute lab k i =
+    let j = nearestOther lab k i in
+    entryAt j (distance (labAt lab i) lab j)
+
+pub record Nearest (lab : List Float) (k i : ℕ) (r : Near) : Type 0 where
+  pub value : entryAt (r .entry) (r .distance) ≡ substitute lab k i
+  pub first : FirstOther lab k i (r .entry)

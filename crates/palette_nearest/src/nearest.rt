@@ -2,6 +2,8 @@
 use base::LAST_ENTRY;
 use base::NO_SUCH_ENTRY;
 use base::lab_at;
+use color_nearest::Near;
+use color_nearest::nearer;
 use color_nearest::nearest_in;
 use sheet::check;
 ghost use mathlib.Core.Path.{_≡_};
@@ -42,9 +44,9 @@ pub fn other_no(
     0
 }
 
-// The nearest of the entries but `index`, the first of them where several are. Those before it and those
-// after it are searched where they stand.
-pub fn nearest_but(lab: &[f64], k: usize, index: usize) -> usize
+// The nearest of the entries but `index`, the first of them where several are, and its distance. Those before it and
+// those after it are searched where they stand.
+pub fn nearest_but(lab: &[f64], k: usize, index: usize) -> Near
     requires { ⌜
         (length (now lab) ≡ 765) × (k ≤ 255) × (2 ≤ k) × (index < k) × (some unfit (take (3 * k) (now lab)) ≡ false)
         ⌝ }
@@ -54,12 +56,21 @@ pub fn nearest_but(lab: &[f64], k: usize, index: usize) -> usize
     let at = 3 * index;
     let after = at + 3;
     let end = 3 * k;
-    let s = nearest_in(target, &lab[..at], index);
-    let u = nearest_in(target, &lab[after..end], k - 1 - index);
-    let j = if u.distance < s.distance {
-        index + u.entry
-    } else {
-        s.entry
+    let before = nearest_in(target, &lab[..at], index);
+    let behind = nearest_in(target, &lab[after..end], k - 1 - index);
+    let place = index + behind.entry;
+    let later = Near {
+        entry: place,
+        distance: behind.distance,
     };
-    if index <= j { j + 1 } else { j }
+    let near = nearer(before, later);
+    let j = near.entry;
+    if j < index {
+        return near;
+    }
+    let entry = j + 1;
+    Near {
+        entry,
+        distance: near.distance,
+    }
 }

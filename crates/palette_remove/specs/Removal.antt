@@ -15,9 +15,10 @@ use Rattle.base.specs.declared.Edit.the-variants.{PaletteRemove}
 use Rattle.edit.specs.Change.{Change, packed}
 use Rattle.edit_pixels.specs.Listing.{placesFrom}
 use Rattle.edit_entries.specs.Unfilled.{noLab}
-use Rattle.palette_nearest.specs.Nearest.{otherChecks, nearestOther}
+use Rattle.palette_nearest.specs.Nearest.{otherChecks, substitute}
 use Rattle.base.specs.declared.Removal.{Removal}
-use Rattle.base.specs.Answer.{Told, Op, op, removalTold}
+use Rattle.base.specs.declared.Removed.{Removed}
+use Rattle.base.specs.Answer.{Told, Op, op, removalTold, EntryAt, Replacement, replacement, removedTold}
 use Rattle.base.specs.Answer.Told.{result, alone}
 
 -- ---- "`remove_to` lists the entry's pixels in row order"
@@ -29,27 +30,46 @@ unfoldable pub remapOf : ℕ → List ℤ → ℕ → ℕ → List Change
 remapOf w indices i target = map (moved w i target) (placesFrom (pos i) 0 indices)
 
 -- ---- the answer, and the list
-pub record Remapped : Type 0 where
-  pub answer : Told Op
+pub record WithList (R : Type 0) : Type 0 where
+  pub answer : Told R
   pub list : List ℕ
 
-abbrev pub remapping : Told Op → List ℕ → Remapped
+abbrev pub remapping : {R : Type 0} → Told R → List ℕ → WithList R
 remapping told list = record { answer = told; list = list }
+
+-- of `merge_entries`
+abbrev pub Remapped : Type 0
+Remapped = WithList Op
 
 abbrev pub remapped : Removal → List ℕ → Remapped
 remapped answer list = remapping (removalTold answer) list
 
--- a call's checks, then 16; the edit, and its remap at the front of the list
-unfoldable pub removeTo : List Check → ℕ → List ℕ → List ℤ → ℕ → ℕ → List ℕ → Remapped
-removeTo checks w palette indices i target list =
+-- of `remove_entry`
+abbrev pub Replaced : Type 0
+Replaced = WithList Replacement
+
+abbrev pub replaced : Removed → List ℕ → Replaced
+replaced answer list = remapping (removedTold answer) list
+
+-- a removal, and the entry that its pixels move to
+unfoldable pub withTarget : EntryAt → Told Op → Told Replacement
+withTarget into (result made) = result (replacement made into)
+withTarget into (alone n) = alone n
+
+-- a call's checks, then 16; the edit, with what the call hands back beside it, and its remap at the front of the list
+unfoldable pub removeTo : {R : Type 0} → (Op → R) → List Check → ℕ → List ℕ → List ℤ → ℕ → ℕ → List ℕ → WithList R
+removeTo handed checks w palette indices i target list =
     let remap = remapOf w indices i target in
     checked (checks ++ (noSpace when ltb (length list) (length remap) ∷ []))
     (λ n. remapping (alone n) list)
-    (remapping (result (op (PaletteRemove i (rgbAt palette i) noLab) (length remap))) (over (map packed remap) list))
+    (remapping (result (handed (op (PaletteRemove i (rgbAt palette i) noLab) (length remap)))) (over (map packed remap) list))
 
--- "Remove entry `index`; its pixels (if any) move to the nearest remaining entry"
-unfoldable pub removeEntryOf : Sheet → ℕ → List ℕ → Remapped
-removeEntryOf s i list = removeTo (otherChecks s i) (s .w) (s .palette) (s .indices) i (nearestOther (s .lab) (s .k) i) list
+-- "Remove entry `index`; its pixels (if any) move to the nearest remaining entry"; that entry and its distance are
+-- handed back (document 02, E3)
+unfoldable pub removeEntryOf : Sheet → ℕ → List ℕ → Replaced
+removeEntryOf s i list =
+    let into = substitute (s .lab) (s .k) i in
+    removeTo (λ made. replacement made into) (otherChecks s i) (s .w) (s .palette) (s .indices) i (into .index) list
 
 -- 18: "from or into ≥ k, or equal"
 unfoldable pub mergeChecks : Sheet → ℕ → ℕ → List Check
@@ -57,4 +77,5 @@ mergeChecks s from into = sheetChecks [] s ++ (badMerge when (leb (s .k) from ||
 
 -- "Merge entry `from` into `into`: every pixel of `from` becomes `into`, `from` is removed"
 unfoldable pub mergeEntriesOf : Sheet → ℕ → ℕ → List ℕ → Remapped
-mergeEntriesOf s from into list = removeTo (mergeChecks s from into) (s .w) (s .palette) (s .indices) from into list
+mergeEntriesOf s from into list =
+    removeTo (λ made. made) (mergeChecks s from into) (s .w) (s .palette) (s .indices) from into list

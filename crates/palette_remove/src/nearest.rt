@@ -5,7 +5,7 @@ use palette_nearest::other_no;
 ghost use Rattle.sheet.specs.Sheet.{sheetOf};
 ghost use Rattle.palette_remove.specs.Nearest.{NearestOther};
 
-// The remaining entry that is nearest to entry `index`, the first of them where several are.
+// The remaining entry that is nearest to entry `index`, the first of them where several are, and its `dist2`.
 pub fn nearest_other(
     w: usize,
     h: usize,
@@ -24,5 +24,9 @@ pub fn nearest_other(
     if no != 0 {
         return Found::Refused(no);
     }
-    Found::Entry(nearest_but(lab, k, index))
+    let near = nearest_but(lab, k, index);
+    Found::Entry {
+        index: near.entry,
+        distance: near.distance,
+    }
 }

@@ -4,6 +4,7 @@ use base::BAD_MERGE;
 use base::Edit;
 use base::NO_SPACE;
 use base::Removal;
+use base::Removed;
 use base::rgb_at;
 use edit_entries::no_lab;
 use edit_pixels::change_of;
@@ -17,11 +18,13 @@ ghost use mathlib.Core.List.{[], map};
 ghost use Prim.Native.Nat.{_+_, _*_, _<_, _≤_};
 ghost use lib.IntN.{pos};
 ghost use lib.ListN.{length};
+ghost use Rattle.base.specs.Answer.{entryAt, removalTold, removedTold};
 ghost use Rattle.base.specs.Lists.{over};
 ghost use Rattle.sheet.specs.Sheet.{sheetOf};
 ghost use Rattle.edit.specs.Change.{packed};
 ghost use Rattle.edit_pixels.specs.Listing.{placesFrom};
-ghost use Rattle.palette_remove.specs.Removal.{remapOf, remapped, removeTo, removeEntryOf, mergeEntriesOf};
+ghost use Rattle.palette_remove.specs.Removal.{remapOf, remapped, replaced, withTarget};
+ghost use Rattle.palette_remove.specs.Removal.{removeTo, removeEntryOf, mergeEntriesOf};
 
 // An entry as pixels have it.
 fn as_index(entry: usize) -> i16
@@ -71,7 +74,7 @@ fn remove_to(
         ⌝ }
     ensures { λ r. ⌜
         remapped r (now (list .exit))
-        ≡ removeTo [] w (now (palette .entry)) (now (indices .entry)) index target (now (list .entry))
+        ≡ removeTo (λ made. made) [] w (now (palette .entry)) (now (indices .entry)) index target (now (list .entry))
         ⌝ }
 {
     let count = count_on(indices, as_index(index));
@@ -87,7 +90,23 @@ fn remove_to(
     }
 }
 
-// The edit that removes entry `index`; its pixels move to the nearest other entry.
+// A removal, with the entry that its pixels move to and that entry's distance.
+fn with_target(made: Removal, into: usize, distance: f64) -> Removed
+    ensures { λ r. ⌜ removedTold r ≡ withTarget (entryAt into distance) (removalTold made) ⌝ }
+{
+    match made {
+        Removal::Made { edit, count } => Removed::Made {
+            edit,
+            count,
+            into,
+            distance,
+        },
+        Removal::Refused(no) => Removed::Refused(no),
+    }
+}
+
+// The edit that removes entry `index`; its pixels move to the nearest other entry, which is handed back with its
+// `dist2`, also where no pixel is on the entry.
 pub fn remove_entry(
     w: usize,
     h: usize,
@@ -97,18 +116,20 @@ pub fn remove_entry(
     indices: &[i16],
     index: usize,
     list: &mut [u64],
-) -> Removal
+) -> Removed
     ensures { λ r. ⌜ (
         let sheet = sheetOf w h k (now (palette .entry)) (now (lab .entry)) (now (indices .entry)) in
-        remapped r (now (list .exit)) ≡ removeEntryOf sheet index (now (list .entry))
+        replaced r (now (list .exit)) ≡ removeEntryOf sheet index (now (list .entry))
         ) ⌝ }
 {
     let no = other_no(w, h, k, palette, lab, indices, index);
     if no != 0 {
-        return Removal::Refused(no);
+        return Removed::Refused(no);
     }
-    let target = nearest_but(lab, k, index);
-    remove_to(w, h, palette, indices, index, target, list)
+    let near = nearest_but(lab, k, index);
+    let into = near.entry;
+    let made = remove_to(w, h, palette, indices, index, into, list);
+    with_target(made, into, near.distance)
 }
 
 // The edit that merges entry `from` into `into`: its pixels become `into`, and it is removed.

@@ -16,71 +16,72 @@ use Rattle.change_list.specs.Listed.{InScratch}
 use Rattle.change_list.proofs.InScratch.{scratch-none, scratch-then}
 use Rattle.edit_pixels.specs.Listing.{placesFrom}
 use Rattle.edit_pixels.proofs.Places.{places-few}
-use Rattle.base.specs.Answer.{Told, Op, op, opCount}
+use Rattle.base.specs.Answer.{Told, Op, op, replacement}
 use Rattle.base.specs.Answer.Told.{result, alone}
 use Rattle.edit_entries.specs.Unfilled.{noLab}
-use Rattle.palette_nearest.specs.Nearest.{otherChecks, nearestOther}
-use Rattle.palette_remove.specs.Removal.{remapOf, Remapped, remapping, removeTo, removeEntryOf, mergeChecks, mergeEntriesOf}
+use Rattle.palette_nearest.specs.Nearest.{otherChecks, substitute}
+use Rattle.palette_remove.specs.Removal.{remapOf, WithList, remapping, removeTo, removeEntryOf, mergeChecks, mergeEntriesOf}
 use Rattle.palette_remove.proofs.Answers.{remap-length, remove-refused, remove-past, remove-short, remove-done}
 use Rattle.struct_palette.specs.Scratch.{noRemoval, needingRemap}
 use Rattle.struct_palette.proofs.Listing.{Lists, listed-in, none-same}
 
--- ---- a remap over a list
-abbrev Listing : (List ℕ → Remapped) → List ℕ → ℕ → Told Op → Type 0
-Listing call ns n done = Lists remapping (λ f. f .answer) (λ f. f .list) (λ r f. refl) (λ r f. refl) opCount alone (λ k. refl) call ns n done
+-- ---- a remap over a list: what a call hands back of it, and how many changes that counts
+module _ {R : Type 0} (handed : Op → R) (count : Told R → ℕ) (count-alone : (n : ℕ) → count (alone n) ≡ 0) (count-made : (o : Op) → count (result (handed o)) ≡ o .count) where
+  abbrev Listing : (List ℕ → WithList R) → List ℕ → ℕ → Told R → Type 0
+  Listing call ns n done = Lists remapping (λ f. f .answer) (λ f. f .list) (λ r f. refl) (λ r f. refl) count alone count-alone call ns n done
 
-count-none : (a : Told Op) → opCount (noRemoval a) ≡ 0
-unfolding noRemoval
-count-none (result o) = refl
-count-none (alone n) = refl
-
-none-refused : (n : ℕ) → noRemoval (alone n) ≡ alone n
-unfolding noRemoval
-none-refused n = refl
-
-module _ (checks : List Check) (w : ℕ) (palette : List ℕ) (l : List ℤ) (i target : ℕ) where
-  abbrev ns : List ℕ
-  ns = map packed (remapOf w l i target)
-
-  long : length ns ≡ length (placesFrom (pos i) 0 l)
-  long = length-map (remapOf w l i target) packed ∙ remap-length w l i target
-
-  abbrev made : Told Op
-  made = result (op (PaletteRemove i (rgbAt palette i) noLab) (length (placesFrom (pos i) 0 l)))
-
-  listing : Listing (removeTo checks w palette l i target) ns (firstOf checks) made
-  listing = record {
-    refuses = λ z out. remove-refused w palette l i target out checks (firstOf checks) refl z;
-    short = λ z out h. remove-short w palette l i target out (omega (arith, long)) ∙ remove-past w palette l i target out checks z;
-    lists = λ z out h. remove-done w palette l i target out (length (placesFrom (pos i) 0 l)) (rgbAt palette i) noLab (over ns out) refl (omega (arith, long)) refl refl refl ∙ remove-past w palette l i target out checks z;
-    counts = sym long;
-  }
-
-  none-made : noRemoval made ≡ alone 16
+  count-none : (a : Told R) → count (noRemoval a) ≡ 0
   unfolding noRemoval
-  none-made = refl
+  count-none (result o) = count-alone 16
+  count-none (alone n) = count-alone n
 
-  -- ---- with scratch
-  module _ {call : List ℕ → Remapped} (is : call ≡ removeTo checks w palette l i target) (room : ℕ) where
-    pub short-remap : {r r′ : Told Op} {f g s : List ℕ} {places : ℕ} → room < length l → remapping r f ≡ call g → r′ ≡ noRemoval r → InScratch (opCount r′) places s (remapping r′) (needingRemap room (length l) call)
-    unfolding needingRemap
-    short-remap {r} h d e =
-        rw (e, count-none r)
-        (scratch-none (λ out k. rw (lt-ltb room (length l) h, is)
-        (ap (λ (a : Told Op). remapping a out) (none-same remapping (λ f. f .answer) (λ f. f .list) (λ r f. refl) (λ r f. refl) opCount alone (λ k. refl) listing noRemoval none-refused none-made (rw is at d) out))))
+  none-refused : (n : ℕ) → noRemoval {R = R} (alone n) ≡ alone n
+  unfolding noRemoval
+  none-refused n = refl
 
-    pub remap-in : {r : Told Op} {f : List ℕ} (s : List ℕ) (m places : ℕ) → length l ≤ room → room ≡ length s → m ≡ min places (length s) → remapping r f ≡ call (take m s)
-        → InScratch (opCount r) places (f ++ drop m s) (remapping r) (needingRemap room (length l) call)
-    unfolding needingRemap
-    remap-in {r} {f} s m places h k q d =
-        scratch-then (listed-in remapping (λ f. f .answer) (λ f. f .list) (λ r f. refl) (λ r f. refl) opCount alone (λ k. refl) listing s f r m places q
-        (λ z. omega (arith, long, places-few (pos i) 0 l)) (rw is at d))
-        (λ out after j p. rw (le-ltb room (length l) h, is) p)
+  module _ (checks : List Check) (w : ℕ) (palette : List ℕ) (l : List ℤ) (i target : ℕ) where
+    abbrev ns : List ℕ
+    ns = map packed (remapOf w l i target)
 
-pub remove-is : (s : Sheet) (i : ℕ) → removeEntryOf s i ≡ removeTo (otherChecks s i) (s .w) (s .palette) (s .indices) i (nearestOther (s .lab) (s .k) i)
+    long : length ns ≡ length (placesFrom (pos i) 0 l)
+    long = length-map (remapOf w l i target) packed ∙ remap-length w l i target
+
+    abbrev made : Op
+    made = op (PaletteRemove i (rgbAt palette i) noLab) (length (placesFrom (pos i) 0 l))
+
+    listing : Listing (removeTo handed checks w palette l i target) ns (firstOf checks) (result (handed made))
+    listing = record {
+      refuses = λ z out. remove-refused handed w palette l i target out checks (firstOf checks) refl z;
+      short = λ z out h. remove-short handed w palette l i target out (omega (arith, long)) ∙ remove-past handed w palette l i target out checks z;
+      lists = λ z out h. remove-done handed w palette l i target out (length (placesFrom (pos i) 0 l)) (rgbAt palette i) noLab (over ns out) refl (omega (arith, long)) refl refl refl ∙ remove-past handed w palette l i target out checks z;
+      counts = count-made made ∙ sym long;
+    }
+
+    none-made : noRemoval (result (handed made)) ≡ alone 16
+    unfolding noRemoval
+    none-made = refl
+
+    -- ---- with scratch
+    module _ {call : List ℕ → WithList R} (is : call ≡ removeTo handed checks w palette l i target) (room : ℕ) where
+      pub short-remap : {r r′ : Told R} {f g s : List ℕ} {places : ℕ} → room < length l → remapping r f ≡ call g → r′ ≡ noRemoval r → InScratch (count r′) places s (remapping r′) (needingRemap room (length l) call)
+      unfolding needingRemap
+      short-remap {r} h d e =
+          rw (e, count-none r)
+          (scratch-none (λ out k. rw (lt-ltb room (length l) h, is)
+          (ap (λ (a : Told R). remapping a out) (none-same remapping (λ f. f .answer) (λ f. f .list) (λ r f. refl) (λ r f. refl) count alone count-alone listing noRemoval none-refused none-made (rw is at d) out))))
+
+      pub remap-in : {r : Told R} {f : List ℕ} (s : List ℕ) (m places : ℕ) → length l ≤ room → room ≡ length s → m ≡ min places (length s) → remapping r f ≡ call (take m s)
+          → InScratch (count r) places (f ++ drop m s) (remapping r) (needingRemap room (length l) call)
+      unfolding needingRemap
+      remap-in {r} {f} s m places h k q d =
+          scratch-then (listed-in remapping (λ f. f .answer) (λ f. f .list) (λ r f. refl) (λ r f. refl) count alone count-alone listing s f r m places q
+          (λ z. omega (arith, long, places-few (pos i) 0 l)) (rw is at d))
+          (λ out after j p. rw (le-ltb room (length l) h, is) p)
+
+pub remove-is : (s : Sheet) (i : ℕ) → let into = substitute (s .lab) (s .k) i in removeEntryOf s i ≡ removeTo (λ made. replacement made into) (otherChecks s i) (s .w) (s .palette) (s .indices) i (into .index)
 unfolding removeEntryOf
 remove-is s i = refl
 
-pub merge-is : (s : Sheet) (from into : ℕ) → mergeEntriesOf s from into ≡ removeTo (mergeChecks s from into) (s .w) (s .palette) (s .indices) from into
+pub merge-is : (s : Sheet) (from into : ℕ) → mergeEntriesOf s from into ≡ removeTo (λ made. made) (mergeChecks s from into) (s .w) (s .palette) (s .indices) from into
 unfolding mergeEntriesOf
 merge-is s from into = refl

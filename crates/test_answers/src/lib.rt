@@ -11,11 +11,13 @@ use base::MadeEdit;
 use base::MadeOp;
 use base::Next;
 use base::Removal;
+use base::Removed;
 use base::Truth;
 use selection::Chosen;
 use selection::Shifted;
 use test_inputs::Outcome;
 use test_inputs::mix;
+use test_inputs::mix_doubles;
 use test_inputs::mix_edit;
 use test_inputs::mix_index;
 use test_inputs::mix_number;
@@ -58,10 +60,16 @@ pub fn of_counted(c: Counted) -> Outcome {
     }
 }
 
+// The distance that is handed back beside an answer.
+fn with_distance(t: Outcome, distance: f64) -> Outcome {
+    let away = [distance];
+    told(t.number, mix_doubles(t.print, &away))
+}
+
 pub fn of_found(f: Found) -> Outcome {
     match f {
-        Found::Entry(i) => of_two(0, i, FREE),
-        Found::Refused(no) => of_none(no),
+        Found::Entry { index, distance } => with_distance(of_two(0, index, FREE), distance),
+        Found::Refused(no) => with_distance(of_none(no), 1.5),
     }
 }
 
@@ -203,6 +211,18 @@ pub fn of_made(m: MadeEdit) -> Outcome {
     match m {
         MadeEdit::Edit(e) => of_edit(e, [FREE, FREE, FREE, FREE]),
         MadeEdit::Refused(no) => of_no_edit(no, [FREE, FREE, FREE, FREE]),
+    }
+}
+
+pub fn of_removed(m: Removed) -> Outcome {
+    match m {
+        Removed::Made {
+            edit,
+            count,
+            into,
+            distance,
+        } => with_distance(of_edit(edit, [count, into, FREE, FREE]), distance),
+        Removed::Refused(no) => with_distance(of_no_edit(no, [FREE, FREE, FREE, FREE]), 1.5),
     }
 }
 

@@ -17,9 +17,9 @@ use test_inputs::mix_number;
 use test_inputs::mix_sizes;
 use test_inputs::told;
 use test_lists::mark_saved;
+use test_lists::merge;
 use test_lists::push;
 use test_lists::redo;
-use test_lists::remove;
 use test_lists::replay;
 use test_lists::undo;
 
@@ -66,7 +66,7 @@ fn fill_edit(
     list: &mut [u64],
 ) -> usize {
     if a.choice.kind == 4 {
-        return removal_count(remove(25, a, w, h, k, palette, lab, indices, list));
+        return removal_count(merge(a, w, h, k, palette, lab, indices, list));
     }
     fill_list(a.seeds.seed, list);
     a.choice.size

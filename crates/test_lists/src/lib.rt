@@ -2,6 +2,7 @@
 // this file: the same functions over change structs.
 use base::Counted;
 use base::Removal;
+use base::Removed;
 pub use editor::extend;
 pub use editor::mark_saved;
 pub use editor::normalize;
@@ -190,9 +191,20 @@ pub fn shift(
     }
 }
 
-// `remove_entry` and `merge_entries`.
 pub fn remove(
-    c: usize,
+    a: Hand,
+    w: usize,
+    h: usize,
+    k: usize,
+    palette: &[u8],
+    lab: &[f64],
+    indices: &[i16],
+    out: &mut [u64],
+) -> Removed {
+    editor::remove_entry(w, h, k, palette, lab, indices, a.choice.from, out)
+}
+
+pub fn merge(
     a: Hand,
     w: usize,
     h: usize,
@@ -203,8 +215,5 @@ pub fn remove(
     out: &mut [u64],
 ) -> Removal {
     let from = a.choice.from;
-    match c {
-        24 => editor::remove_entry(w, h, k, palette, lab, indices, from, out),
-        _ => editor::merge_entries(w, h, k, palette, lab, indices, from, a.choice.into, out),
-    }
+    editor::merge_entries(w, h, k, palette, lab, indices, from, a.choice.into, out)
 }

@@ -1,12 +1,14 @@
 // The calls that list changes of a sheet.
 use test_answers::of_counted;
 use test_answers::of_removal;
+use test_answers::of_removed;
 use test_answers::of_shifted;
 use test_inputs::Hand;
 use test_inputs::Outcome;
 use test_inputs::mix_words;
 use test_inputs::told;
 use test_lists::draw;
+use test_lists::merge;
 use test_lists::remove;
 use test_lists::shift;
 
@@ -47,7 +49,6 @@ fn shifted(
 }
 
 fn removed(
-    c: usize,
     a: Hand,
     w: usize,
     h: usize,
@@ -57,7 +58,21 @@ fn removed(
     indices: &[i16],
 ) -> Outcome {
     let mut out = [FREE; 3];
-    let t = of_removal(remove(c, a, w, h, k, palette, lab, indices, &mut out));
+    let t = of_removed(remove(a, w, h, k, palette, lab, indices, &mut out));
+    told(t.number, mix_words(t.print, &out))
+}
+
+fn merged(
+    a: Hand,
+    w: usize,
+    h: usize,
+    k: usize,
+    palette: &[u8],
+    lab: &[f64],
+    indices: &[i16],
+) -> Outcome {
+    let mut out = [FREE; 3];
+    let t = of_removal(merge(a, w, h, k, palette, lab, indices, &mut out));
     told(t.number, mix_words(t.print, &out))
 }
 
@@ -73,7 +88,8 @@ pub(crate) fn list_answer(
 ) -> Outcome {
     match c {
         15 | 16 => shifted(c, a, w, h, k, palette, lab, indices),
-        24 | 25 => removed(c, a, w, h, k, palette, lab, indices),
+        24 => removed(a, w, h, k, palette, lab, indices),
+        25 => merged(a, w, h, k, palette, lab, indices),
         _ => drawn(c, a, w, h, k, palette, lab, indices),
     }
 }

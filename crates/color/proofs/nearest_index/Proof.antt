@@ -1,4 +1,4 @@
--- `nearest_index`: each test is the check in its place, and past them `nearest_in` finds the first of the nearest. Assumes nothing.
+-- `nearest_index`: each test is the check in its place, and past them the search finds the first of the nearest, with its distance. Assumes nothing.
 use mathlib.Core.Path.{_≡_, sym, ap, subst, _∙_}
 use mathlib.Core.Bool.{true, false}
 use mathlib.Core.List.{List}
@@ -14,9 +14,10 @@ use Rattle.base.specs.Checks.{firstOf, refusedOr}
 use Rattle.base.specs.declared.Lab.{Lab}
 use Rattle.base.specs.Lists.{some}
 use Rattle.color_doubles.specs.Finite.{unfit, unfitTriple}
-use Rattle.color_nearest.specs.Nearest.{FirstNearest}
+use Rattle.color_nearest.specs.Nearest.{distance, nearestOf, FirstNearest}
 use Rattle.color_nearest.specs.declared.Near.{Near}
-use Rattle.color_nearest.proofs.FirstNearest.{first-nearest}
+use Rattle.color_nearest.proofs.FirstNearest.{Found, found}
+use Rattle.base.specs.Answer.{EntryAt, entryAt}
 use Rattle.base.specs.declared.Found.the-variants.{Entry, Refused}
 use Rattle.base.specs.Answer.Told.{result, alone}
 use Rattle.base.proofs.Told.{alone-other, same-result}
@@ -27,8 +28,14 @@ use Rattle.color.proofs.nearest_index.Tie as tie
 refused : (target : Lab) (lab : List Float) (k n : ℕ) → alone n ≡ nearestIndexOf target lab k → NearestEntry target lab k (Refused n)
 refused target lab k n e = record { value = e; first = λ i h. absurd (alone-other h) }
 
-entry : (target : Lab) (lab : List Float) (k i : ℕ) → result i ≡ nearestIndexOf target lab k → FirstNearest target lab k i → NearestEntry target lab k (Entry i)
-entry target lab k i e f = record { value = e; first = λ j h. subst (FirstNearest target lab k) (same-result h) f }
+entry : (target : Lab) (lab : List Float) (k : ℕ) (s : Near) → s ≡ nearestOf target lab k → Found target lab k (nearestOf target lab k)
+    → result (entryAt (nearestOf target lab k .entry) (distance target lab (nearestOf target lab k .entry))) ≡ nearestIndexOf target lab k
+    → NearestEntry target lab k (Entry (s .entry) (s .distance))
+entry target lab k s q f e =
+    record {
+      value = rw q (ap (λ (x : Float). result (entryAt (nearestOf target lab k .entry) x)) (f .own) ∙ e);
+      first = λ m h. subst (λ (j : ℕ). FirstNearest target lab k j) (ap (λ (x : EntryAt). x .index) (rw q at (same-result h))) (f .nearest);
+    }
 
 returns : tie.Need-returns
 unfolding nearestIndexOf nearestChecks firstOf refusedOr
@@ -87,10 +94,10 @@ returns-6 : tie.Need-returns-6
 unfolding nearestIndexOf nearestChecks firstOf refusedOr
 returns-6 c =
     let h = past-storage (c .before .before .before) in
-    let e = ap (λ (s : Near). s .entry) (c .before .before .before .before .before .before .search-in .ensures .near) in
     entry _ _ _ _
-    (rw (h .few, h .sized, h .fit, past-triple (c .before), ne-eqb _ _ (c .if5 .left)) (ap result e))
-    (subst (FirstNearest _ _ _) (sym e) (first-nearest _ _ _ (past-triple (c .before)) (h .fit) (omega arith) (omega arith)))
+    (c .before .before .before .before .before .before .search-in .ensures .near)
+    (found _ _ _ (past-triple (c .before)) (h .fit) (omega arith) (omega arith))
+    (rw (h .few, h .sized, h .fit, past-triple (c .before), ne-eqb _ _ (c .if5 .left)))
 
 pub nearest-index-spec : {M : Type 1} → statement M
 nearest-index-spec =

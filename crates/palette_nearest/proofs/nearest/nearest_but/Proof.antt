@@ -1,11 +1,10 @@
--- `nearest_but`: the two parts around the entry are searched, and the nearer of the two is taken. Assumes nothing.
+-- `nearest_but`: the two parts around the entry are searched, and the nearer of the two is taken, with its distance. Assumes nothing.
 use mathlib.Core.Path.{_≡_, sym}
-use mathlib.Core.Logic.{⊎-elim}
 use Prim.Native.Nat.{_*_}
 use native.Mathlib.Omega.{arith}
 use borrow.Author.Needs.{needs}
 use lib.Seq.{length-take-le}
-use Rattle.palette_nearest.proofs.Others.{near, near-is, sum-within, is-within, nearest-from, nearest-before}
+use Rattle.palette_nearest.proofs.Others.{nearest, near-is, sum-within, is-within, nearest-from, nearest-before}
 use Rattle.palette_nearest.proofs.nearest.nearest_but.Statement.{statement}
 use Rattle.palette_nearest.proofs.nearest.nearest_but.Tie as tie
 
@@ -48,34 +47,36 @@ sub-nearest-in-3 c = search needs
 nearest-in-requires-2 : tie.Need-nearest-in-requires-2
 nearest-in-requires-2 c κs = search needs
 
-add-j : tie.Need-add-j
-add-j c = let a = c .before .before .before .before .before .before .before .before .before .before .args in omega (arith, sum-within (a .lab .now) (a .k) (a .index) (omega arith) (omega arith) _ _ _ (c .before .before .before .before .nearest-in2 .ensures))
+add-place : tie.Need-add-place
+add-place c = let a = c .before .before .before .before .before .before .before .args in omega (arith, sum-within (a .lab .now) (a .k) (a .index) (omega arith) (omega arith) _ _ _ (c .before .nearest-in2 .ensures))
 
--- the start, seen from where the two parts are searched
-abbrev start : tie.Joined1 → tie.Start
-start c = c .before .before .before .before .before .before .before .before .before
+nearer-requires : tie.Need-nearer-requires
+nearer-requires c κs = search needs
+
+-- the start, seen from where the nearer of the two is taken
+abbrev start : tie.After-nearer → tie.Start
+start c = c .before .before .before .before .before .before .before .before
 
 -- what is found is the nearest of the others
-found : (c : tie.Joined1) → let a = start c .args in c .if1 .j ≡ near (a .lab .now) (a .k) (a .index)
+found : (c : tie.After-nearer) → let a = start c .args in c .nearer .result ≡ nearest (a .lab .now) (a .k) (a .index)
 found c =
     let a = start c .args in
-    near-is (a .lab .now) (a .k) (a .index) (omega arith) (omega arith) _ _ _ _ (c .before .before .before .before .before .before .before .lab-at .ensures) (c .before .before .before .before .before .nearest-in .ensures) (c .before .before .before .nearest-in2 .ensures)
-    (⊎-elim (λ w. rw (w .0 .taken) (w .2)) (λ w. rw (w .0 .left) (w .1)) (c .if1 .came))
-
-add-result : tie.Need-add-result
-add-result c = let a = start (c .before .before) .args in omega (arith, is-within (a .lab .now) (a .k) (a .index) (omega arith) (omega arith) _ (found (c .before .before)))
+    near-is (a .lab .now) (a .k) (a .index) (omega arith) (omega arith) _ _ _ _ (c .before .before .before .before .before .before .lab-at .ensures) (c .before .before .before .before .nearest-in .ensures) (c .before .before .nearest-in2 .ensures) (c .nearer .ensures)
 
 returns : tie.Need-returns
 returns c =
-    let at = start (c .before .before) in
+    let at = start (c .before) in
     let a = at .args in
-    nearest-from (a .lab .now) (a .k) (a .index) (omega arith) (omega arith) (at .pre .2) (at .pre .4) _ (found (c .before .before)) (c .before .if2 .taken)
+    nearest-before (a .lab .now) (a .k) (a .index) (omega arith) (omega arith) (at .pre .2) (at .pre .4) _ (found (c .before)) (c .if1 .taken)
+
+add-entry : tie.Need-add-entry
+add-entry c = let a = start (c .before) .args in omega (arith, is-within (a .lab .now) (a .k) (a .index) (omega arith) (omega arith) _ (found (c .before)))
 
 returns-2 : tie.Need-returns-2
 returns-2 c =
     let at = start (c .before) in
     let a = at .args in
-    nearest-before (a .lab .now) (a .k) (a .index) (omega arith) (omega arith) (at .pre .2) (at .pre .4) _ (found (c .before)) (c .if2 .left)
+    nearest-from (a .lab .now) (a .k) (a .index) (omega arith) (omega arith) (at .pre .2) (at .pre .4) _ (found (c .before)) (c .if1 .left)
 
 pub nearest-but-spec : {M : Type 1} → statement M
 nearest-but-spec =
@@ -94,7 +95,8 @@ nearest-but-spec =
     sub-nearest-in-2
     sub-nearest-in-3
     nearest-in-requires-2
-    add-j
-    add-result
+    add-place
+    nearer-requires
     returns
+    add-entry
     returns-2)

@@ -15,7 +15,7 @@ check-requires c κs = search needs
 
 returns : tie.Need-returns
 unfolding mergeEntriesOf
-returns c = remove-refused _ _ _ _ _ _ _ _ (merge-sheet _ _ _ _ (c .before .check .ensures) (c .if1 .taken)) (c .if1 .taken)
+returns c = remove-refused _ _ _ _ _ _ _ _ _ (merge-sheet _ _ _ _ (c .before .check .ensures) (c .if1 .taken)) (c .if1 .taken)
 
 -- past the first test the sheet is well-formed
 past : (c : tie.Else1) → let a = c .before .before .before .before .before .args in WellFormed (sheetOf (a .w) (a .h) (a .k) (a .palette .now) (a .lab .now) (a .indices .now))
@@ -27,15 +27,15 @@ no-zero e = omega arith
 
 returns-2 : tie.Need-returns-2
 unfolding mergeEntriesOf
-returns-2 c = remove-refused _ _ _ _ _ _ _ _ (merge-from _ _ _ (past (c .before)) (c .if2 .taken)) no-zero
+returns-2 c = remove-refused _ _ _ _ _ _ _ _ _ (merge-from _ _ _ (past (c .before)) (c .if2 .taken)) no-zero
 
 returns-3 : tie.Need-returns-3
 unfolding mergeEntriesOf
-returns-3 c = remove-refused _ _ _ _ _ _ _ _ (merge-into _ _ _ (past (c .before .before)) (c .if3 .taken)) no-zero
+returns-3 c = remove-refused _ _ _ _ _ _ _ _ _ (merge-into _ _ _ (past (c .before .before)) (c .if3 .taken)) no-zero
 
 returns-4 : tie.Need-returns-4
 unfolding mergeEntriesOf
-returns-4 c = remove-refused _ _ _ _ _ _ _ _ (merge-same _ _ _ (past (c .before .before .before)) (c .if4 .taken)) no-zero
+returns-4 c = remove-refused _ _ _ _ _ _ _ _ _ (merge-same _ _ _ (past (c .before .before .before)) (c .if4 .taken)) no-zero
 
 remove-to-requires : tie.Need-remove-to-requires
 remove-to-requires c κs = let l = past (c .before .before .before .before) .limits in (l .w-small, l .h-small, l .indices-length, l .palette-length, omega arith, omega arith)
@@ -47,7 +47,7 @@ returns-5 : tie.Need-returns-5
 unfolding mergeEntriesOf
 returns-5 c =
     let at = c .before .before .before .before in
-    c .before .before .remove-to .ensures ∙ remove-past _ _ _ _ _ _ _ (merge-fine _ _ _ (past (at .before .before .before)) (at .before .before .if2 .left) (at .before .if3 .left) (at .if4 .left))
+    c .before .before .remove-to .ensures ∙ remove-past _ _ _ _ _ _ _ _ (merge-fine _ _ _ (past (at .before .before .before)) (at .before .before .if2 .left) (at .before .if3 .left) (at .if4 .left))
 
 pub merge-entries-spec : {M : Type 1} → statement M
 merge-entries-spec =

@@ -21,7 +21,7 @@ counted : (c : tie.After-count-on) → let a = c .before .before .before .before
 counted c = rw (as-entry (omega (arith, c .before .before .before .before .pre)) (c .before .as-index .ensures)) at (c .count-on .ensures)
 
 returns : tie.Need-returns
-returns c = remove-short _ _ _ _ _ _ (rw (counted (c .before)) at (c .if1 .taken))
+returns c = remove-short _ _ _ _ _ _ _ (rw (counted (c .before)) at (c .if1 .taken))
 
 list-rows-requires : tie.Need-list-rows-requires
 list-rows-requires c κs = let n = counted (c .before .before) in search needs
@@ -36,7 +36,7 @@ same-length : tie.Need-same-length
 same-length c = search needs
 
 returns-2 : tie.Need-returns-2
-returns-2 c = remove-done _ _ _ _ _ _ _ _ _ _ (counted (c .before .before .before .before .before .before .before)) (c .before .before .before .before .before .before .if1 .left) (c .before .rgb-at .ensures) (c .no-lab .ensures) (c .before .before .before .before .list-rows .ensures)
+returns-2 c = remove-done _ _ _ _ _ _ _ _ _ _ _ (counted (c .before .before .before .before .before .before .before)) (c .before .before .before .before .before .before .if1 .left) (c .before .rgb-at .ensures) (c .no-lab .ensures) (c .before .before .before .before .list-rows .ensures)
 
 pub remove-to-spec : {M : Type 1} → statement M
 remove-to-spec =

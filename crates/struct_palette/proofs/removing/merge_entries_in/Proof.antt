@@ -3,6 +3,7 @@ use mathlib.Core.Path.{refl, sym}
 use native.Mathlib.Omega.{arith}
 use lib.ListN.{length}
 use lib.Seq.{length-take-le}
+use Rattle.base.specs.Answer.{opCount}
 use Rattle.sheet.specs.Sheet.{Sheet, sheetOf}
 use Rattle.struct_palette.proofs.Remaps.{short-remap, remap-in, merge-is}
 use borrow.Author.Needs.{needs}
@@ -31,7 +32,7 @@ returns : tie.Need-returns
 returns c =
     let a = c .before .before .before .before .before .before .before .before .before .args in
     let s = sheet (c .before .before .before .before .before .before .before .before .before) in
-    short-remap _ _ _ _ _ _ (merge-is s (a .from) (a .into)) _ (c .before .before .before .before .before .if1 .taken) (c .before .before .before .merge-entries .ensures) (c .no-removal .ensures)
+    short-remap _ opCount (λ n. refl) (λ o. refl) _ _ _ _ _ _ (merge-is s (a .from) (a .into)) _ (c .before .before .before .before .before .if1 .taken) (c .before .before .before .merge-entries .ensures) (c .no-removal .ensures)
 
 min-usize-requires : tie.Need-min-usize-requires
 min-usize-requires c κs = search needs
@@ -52,7 +53,7 @@ returns-2 : tie.Need-returns-2
 returns-2 c =
     let a = c .before .before .before .before .before .before .before .before .before .args in
     let s = sheet (c .before .before .before .before .before .before .before .before .before) in
-    remap-in _ _ _ _ _ _ (merge-is s (a .from) (a .into)) _ (a .scratch .now) _ _ (c .before .before .before .before .before .if1 .left) refl (c .before .before .before .before .min-usize .ensures) (c .before .before .merge-entries2 .ensures)
+    remap-in _ opCount (λ n. refl) (λ o. refl) _ _ _ _ _ _ (merge-is s (a .from) (a .into)) _ (a .scratch .now) _ _ (c .before .before .before .before .before .if1 .left) refl (c .before .before .before .before .min-usize .ensures) (c .before .before .merge-entries2 .ensures)
 
 pub merge-entries-in-spec : {M : Type 1} → statement M
 merge-entries-in-spec =

@@ -45,24 +45,24 @@ use denote.Exit.{yes}
 use Rattle.struct_change.proofs.Lending.{LentAgain, LentShared, lend-mut, back-mut, lend-shr, back-shr}
 use Rattle.base.specs.declared.Change.{Change}
 use Rattle.base.proofs.Change as Change-T
-use Rattle.base.specs.declared.Removal.{Removal}
-use Rattle.base.proofs.Removal as Removal-T
-use Rattle.base.proofs.Removal.Laws as Removal-T′
+use Rattle.base.specs.declared.Removed.{Removed}
+use Rattle.base.proofs.Removed as Removed-T
+use Rattle.base.proofs.Removed.Laws as Removed-T′
 use Rattle.base.specs.Lists.{over}
 use Rattle.struct_change.specs.Struct.{packedOf}
 use Rattle.change_list.specs.Listed.{InScratch}
 use Rattle.change_list.proofs.InScratch.{copy-fits, copied}
 use Rattle.sheet.specs.Sheet.{sheetOf}
-use Rattle.palette_remove.specs.Removal.{remapped, removeEntryOf}
-use Rattle.struct_palette.specs.Scratch.{removalCount, needingRemap}
+use Rattle.palette_remove.specs.Removal.{replaced, removeEntryOf}
+use Rattle.struct_palette.specs.Scratch.{removedCount, needingRemap}
 use Rattle.struct_palette.proofs.removing.remove_entry_in as Core-f
 use Rattle.struct_palette.proofs.removing.remove_entry_in.Symbol as Core-def
 use Rattle.struct_palette.proofs.removing.remove_entry_in.Symbol.{name as #struct_palette·removing·remove-entry-in}
 use Rattle.struct_palette.proofs.removing.remove_entry_in.Met as Core-thm
-use Rattle.struct_palette.proofs.removing.removal_count as Counting-f
-use Rattle.struct_palette.proofs.removing.removal_count.Symbol as Counting-def
-use Rattle.struct_palette.proofs.removing.removal_count.Symbol.{name as #struct_palette·removing·removal-count}
-use Rattle.struct_palette.proofs.removing.removal_count.Met as Counting-thm
+use Rattle.struct_palette.proofs.removing.removed_count as Counting-f
+use Rattle.struct_palette.proofs.removing.removed_count.Symbol as Counting-def
+use Rattle.struct_palette.proofs.removing.removed_count.Symbol.{name as #struct_palette·removing·removed-count}
+use Rattle.struct_palette.proofs.removing.removed_count.Met as Counting-thm
 use Rattle.struct_change.proofs.unpack as Unpacking-f
 use Rattle.struct_change.proofs.unpack.Symbol as Unpacking-def
 use Rattle.struct_change.proofs.unpack.Symbol.{name as #struct_change·unpack}
@@ -107,24 +107,24 @@ module _ {M : Type 1} (𝓤 : URA M) (H : Heap 𝓤) (A : Atoms 𝓤) (W : Given
   abbrev to₁ : (scratch-ν : ℕ) (scratch-δ : GName) (scratch-now : List ℕ) → Core 𝓤 H A at-mem run .Ghost
   to₁ scratch-ν scratch-δ scratch-now = (((κ₀, (κ₁, (κ₂, (scratch-ν ∷ [], tt)))), (q₀, (q₁, (q₂, (fullShare, tt)))), tt, passed₁ scratch-ν scratch-δ scratch-now, (vint w64 w ∷ [], (vint w64 h ∷ [], (vint w64 k ∷ [], (sliceVal (palette-b, palette-o) (length palette) ∷ [], (sliceVal (lab-b, lab-o) (length lab) ∷ [], (sliceVal (indices-b, indices-o) (length indices) ∷ [], (vint w64 index ∷ [], (sliceVal (scratch-b, scratch-o) (length scratch) ∷ [], (vint w64 (length out) ∷ [], tt)))))))))), tt)
 
-  abbrev Said₁ : (scratch-ν : ℕ) (scratch-δ : GName) (scratch-now : List ℕ) (r : Removal) (scratch′ : List ℕ) → Type 0
-  Said₁ scratch-ν scratch-δ scratch-now r scratch′ = InScratch (removalCount r) (length out) scratch′ (remapped r) (needingRemap (length scratch-now) (length indices) (removeEntryOf (sheetOf w h k palette lab indices) index))
+  abbrev Said₁ : (scratch-ν : ℕ) (scratch-δ : GName) (scratch-now : List ℕ) (r : Removed) (scratch′ : List ℕ) → Type 0
+  Said₁ scratch-ν scratch-δ scratch-now r scratch′ = InScratch (removedCount r) (length out) scratch′ (replaced r) (needingRemap (length scratch-now) (length indices) (removeEntryOf (sheetOf w h k palette lab indices) index))
 
   goes₁ : (scratch-ν : ℕ) (scratch-δ : GName) (scratch-now : List ℕ) → ent 𝓤 (⋆ 𝓤 H A (‵ (flft (κ₀) q₀) ∷ ‵ (flft (κ₁) q₁) ∷ ‵ (flft (κ₂) q₂) ∷ ‵ (flft (scratch-ν ∷ []) fullShare) ∷ ‵ (ShrSlice (named 0) (κ₀) u8 .own (record { ptr = (palette-b, palette-o); name = palette-γ; now = palette }) (sliceVal (palette-b, palette-o) (length palette) ∷ [])) ∷ ‵ (ShrSlice (named 1) (κ₁) f64 .own (record { ptr = (lab-b, lab-o); name = lab-γ; now = lab }) (sliceVal (lab-b, lab-o) (length lab) ∷ [])) ∷ ‵ (ShrSlice (named 2) (κ₂) i16 .own (record { ptr = (indices-b, indices-o); name = indices-γ; now = indices }) (sliceVal (indices-b, indices-o) (length indices) ∷ [])) ∷ ‵ (MutSlice (named 3) (scratch-ν ∷ []) u64 .own (record { ptr = (scratch-b, scratch-o); name = scratch-δ; now = scratch-now }) (sliceVal (scratch-b, scratch-o) (length scratch) ∷ [])) ∷ [])) (Core 𝓤 H A at-mem run .pre (to₁ scratch-ν scratch-δ scratch-now))
   goes₁ scratch-ν scratch-δ scratch-now = qed W (‵ (flft (κ₀) q₀) ∷ ‵ (flft (κ₁) q₁) ∷ ‵ (flft (κ₂) q₂) ∷ ‵ (flft (scratch-ν ∷ []) fullShare) ∷ ‵ (ShrSlice (named 0) (κ₀) u8 .own (record { ptr = (palette-b, palette-o); name = palette-γ; now = palette }) (sliceVal (palette-b, palette-o) (length palette) ∷ [])) ∷ ‵ (ShrSlice (named 1) (κ₁) f64 .own (record { ptr = (lab-b, lab-o); name = lab-γ; now = lab }) (sliceVal (lab-b, lab-o) (length lab) ∷ [])) ∷ ‵ (ShrSlice (named 2) (κ₂) i16 .own (record { ptr = (indices-b, indices-o); name = indices-γ; now = indices }) (sliceVal (indices-b, indices-o) (length indices) ∷ [])) ∷ ‵ (MutSlice (named 3) (scratch-ν ∷ []) u64 .own (record { ptr = (scratch-b, scratch-o); name = scratch-δ; now = scratch-now }) (sliceVal (scratch-b, scratch-o) (length scratch) ∷ [])) ∷ []) ∵ nothing ! $ move ! (4 ∷ 0 ∷ []) $ join ! $ move ! (3 ∷ 0 ∷ []) $ join ! $ move ! (2 ∷ 0 ∷ []) $ join ! $ move ! (1 ∷ 0 ∷ []) $ join ! $ nothing ! $ owned ! usize (Is usize) (uint-makes 𝓤 H A W w64) (length out) _ (refl, out-room .0) $ fjoin ! $ move ! (5 ∷ 0 ∷ []) $ fjoin ! $ owned ! usize (Is usize) (uint-makes 𝓤 H A W w64) index _ (refl, index-fits) $ fjoin ! $ move ! (4 ∷ 0 ∷ []) $ fjoin ! $ move ! (3 ∷ 0 ∷ []) $ fjoin ! $ move ! (2 ∷ 0 ∷ []) $ fjoin ! $ owned ! usize (Is usize) (uint-makes 𝓤 H A W w64) k _ (refl, k-fits) $ fjoin ! $ owned ! usize (Is usize) (uint-makes 𝓤 H A W w64) h _ (refl, h-fits) $ fjoin ! $ owned ! usize (Is usize) (uint-makes 𝓤 H A W w64) w _ (refl, w-fits) $ fjoin ! $ move ! (1 ∷ 0 ∷ []) $ join ! $ frame ! $ done !
 
-  -- `removal_count`: what its triple binds, what it ensures
-  abbrev passed₂ : (answer : Removal) → Removal × Unit {0}
+  -- `removed_count`: what its triple binds, what it ensures
+  abbrev passed₂ : (answer : Removed) → Removed × Unit {0}
   passed₂ answer = (answer, tt)
 
-  abbrev to₂ : (answer : Removal) → Counting 𝓤 H A at-mem run .Ghost
-  to₂ answer = ((tt, tt, tt, passed₂ answer, (EL.val Removal-T.the-type Removal-T′.the-laws answer ∷ [], tt)), tt)
+  abbrev to₂ : (answer : Removed) → Counting 𝓤 H A at-mem run .Ghost
+  to₂ answer = ((tt, tt, tt, passed₂ answer, (EL.val Removed-T.the-type Removed-T′.the-laws answer ∷ [], tt)), tt)
 
-  abbrev Said₂ : (answer : Removal) (r : ℕ) → Type 0
-  Said₂ answer r = r ≡ removalCount answer
+  abbrev Said₂ : (answer : Removed) (r : ℕ) → Type 0
+  Said₂ answer r = r ≡ removedCount answer
 
-  goes₂ : (answer : Removal) (answer-is′ : Is Removal-T.the-row answer (EL.val Removal-T.the-type Removal-T′.the-laws answer ∷ [])) → ent 𝓤 (⋆ 𝓤 H A ([])) (Counting 𝓤 H A at-mem run .pre (to₂ answer))
-  goes₂ answer answer-is′ = qed W ([]) ∵ nothing ! $ nothing ! $ owned ! Removal-T.the-row (Is Removal-T.the-row) (EL.makes Removal-T.the-type Removal-T′.the-plain 𝓤 H A) answer _ answer-is′ $ fjoin ! $ move ! (1 ∷ 0 ∷ []) $ join ! $ frame ! $ done !
+  goes₂ : (answer : Removed) (answer-is′ : Is Removed-T.the-row answer (EL.val Removed-T.the-type Removed-T′.the-laws answer ∷ [])) → ent 𝓤 (⋆ 𝓤 H A ([])) (Counting 𝓤 H A at-mem run .pre (to₂ answer))
+  goes₂ answer answer-is′ = qed W ([]) ∵ nothing ! $ nothing ! $ owned ! Removed-T.the-row (Is Removed-T.the-row) (EL.makes Removed-T.the-type Removed-T′.the-plain 𝓤 H A) answer _ answer-is′ $ fjoin ! $ move ! (1 ∷ 0 ∷ []) $ join ! $ frame ! $ done !
 
   -- `unpack`: what its triple binds, what it ensures, and what it asks
   abbrev passed₃ : (scratch-ν : ℕ) (scratch-δ : GName) (scratch-now : List ℕ) (n : ℕ) (out-now : List Change) → RefT (List ℕ) × (ℕ × (RefT (List Change) × Unit {0}))
@@ -142,13 +142,13 @@ module _ {M : Type 1} (𝓤 : URA M) (H : Heap 𝓤) (A : Atoms 𝓤) (W : Given
   goes₃ : (scratch-ν : ℕ) (scratch-δ : GName) (scratch-now : List ℕ) (n : ℕ) (out-now : List Change) (n-fits′ : n < 2 ^ 64) → Asked₃ scratch-ν scratch-δ scratch-now n out-now → ent 𝓤 (⋆ 𝓤 H A (‵ (flft (scratch-ν ∷ []) fullShare) ∷ ‵ (flft (κ₄) q₄) ∷ ‵ (ShrSlice (named 3) (scratch-ν ∷ []) u64 .own (record { ptr = (scratch-b, scratch-o); name = scratch-δ; now = scratch-now }) (sliceVal (scratch-b, scratch-o) (length scratch) ∷ [])) ∷ ‵ (MutSlice (named 4) (κ₄) Change-T.the-row .own (record { ptr = (out-b, out-o); name = out-γ; now = out-now }) (sliceVal (out-b, out-o) (length out) ∷ [])) ∷ [])) (Unpacking 𝓤 H A at-mem run .pre (to₃ scratch-ν scratch-δ scratch-now n out-now))
   goes₃ scratch-ν scratch-δ scratch-now n out-now n-fits′ asked = qed W (‵ (flft (scratch-ν ∷ []) fullShare) ∷ ‵ (flft (κ₄) q₄) ∷ ‵ (ShrSlice (named 3) (scratch-ν ∷ []) u64 .own (record { ptr = (scratch-b, scratch-o); name = scratch-δ; now = scratch-now }) (sliceVal (scratch-b, scratch-o) (length scratch) ∷ [])) ∷ ‵ (MutSlice (named 4) (κ₄) Change-T.the-row .own (record { ptr = (out-b, out-o); name = out-γ; now = out-now }) (sliceVal (out-b, out-o) (length out) ∷ [])) ∷ []) ∵ says ! asked $ nothing ! $ move ! (2 ∷ 0 ∷ []) $ join ! $ move ! (1 ∷ 0 ∷ []) $ join ! $ frame ! $ nothing ! $ move ! (2 ∷ 0 ∷ []) $ fjoin ! $ owned ! usize (Is usize) (uint-makes 𝓤 H A W w64) n _ (refl, n-fits′) $ fjoin ! $ move ! (1 ∷ 0 ∷ []) $ fjoin ! $ done !
 
-  exits : (r : Removal) (scratch′ : List ℕ) (out′ : List Change) → (remapped r (map packedOf out′) ≡ needingRemap (length scratch) (length indices) (removeEntryOf (sheetOf w h k palette lab indices) index) (map packedOf out)) × (length scratch′ ≡ length scratch) → length scratch′ ≡ length scratch → length out′ ≡ length out → Is Removal-T.the-row r (EL.val Removal-T.the-type Removal-T′.the-laws r ∷ []) → ent 𝓤 (⋆ 𝓤 H A (‵ (ShrSlice (named 0) κ₀ u8 .own (record { ptr = (palette-b, palette-o); name = palette-γ; now = palette }) (sliceVal (palette-b, palette-o) (length palette) ∷ [])) ∷ ‵ (flft κ₀ q₀) ∷ ‵ (ShrSlice (named 1) κ₁ f64 .own (record { ptr = (lab-b, lab-o); name = lab-γ; now = lab }) (sliceVal (lab-b, lab-o) (length lab) ∷ [])) ∷ ‵ (flft κ₁ q₁) ∷ ‵ (ShrSlice (named 2) κ₂ i16 .own (record { ptr = (indices-b, indices-o); name = indices-γ; now = indices }) (sliceVal (indices-b, indices-o) (length indices) ∷ [])) ∷ ‵ (flft κ₂ q₂) ∷ ‵ (MutSlice (named 3) κ₃ u64 .own (record { ptr = (scratch-b, scratch-o); name = scratch-γ; now = scratch′ }) (sliceVal (scratch-b, scratch-o) (length scratch) ∷ [])) ∷ ‵ (flft κ₃ q₃) ∷ ‵ (finally Change-T.the-row out-γ out′) ∷ ‵ (flft κ₄ q₄) ∷ [])) (Post (EL.val Removal-T.the-type Removal-T′.the-laws r))
+  exits : (r : Removed) (scratch′ : List ℕ) (out′ : List Change) → (replaced r (map packedOf out′) ≡ needingRemap (length scratch) (length indices) (removeEntryOf (sheetOf w h k palette lab indices) index) (map packedOf out)) × (length scratch′ ≡ length scratch) → length scratch′ ≡ length scratch → length out′ ≡ length out → Is Removed-T.the-row r (EL.val Removed-T.the-type Removed-T′.the-laws r ∷ []) → ent 𝓤 (⋆ 𝓤 H A (‵ (ShrSlice (named 0) κ₀ u8 .own (record { ptr = (palette-b, palette-o); name = palette-γ; now = palette }) (sliceVal (palette-b, palette-o) (length palette) ∷ [])) ∷ ‵ (flft κ₀ q₀) ∷ ‵ (ShrSlice (named 1) κ₁ f64 .own (record { ptr = (lab-b, lab-o); name = lab-γ; now = lab }) (sliceVal (lab-b, lab-o) (length lab) ∷ [])) ∷ ‵ (flft κ₁ q₁) ∷ ‵ (ShrSlice (named 2) κ₂ i16 .own (record { ptr = (indices-b, indices-o); name = indices-γ; now = indices }) (sliceVal (indices-b, indices-o) (length indices) ∷ [])) ∷ ‵ (flft κ₂ q₂) ∷ ‵ (MutSlice (named 3) κ₃ u64 .own (record { ptr = (scratch-b, scratch-o); name = scratch-γ; now = scratch′ }) (sliceVal (scratch-b, scratch-o) (length scratch) ∷ [])) ∷ ‵ (flft κ₃ q₃) ∷ ‵ (finally Change-T.the-row out-γ out′) ∷ ‵ (flft κ₄ q₄) ∷ [])) (Post (EL.val Removed-T.the-type Removed-T′.the-laws r))
   exits r scratch′ out′ said scratch-len out-len is =
       qed W (‵ (ShrSlice (named 0) κ₀ u8 .own (record { ptr = (palette-b, palette-o); name = palette-γ; now = palette }) (sliceVal (palette-b, palette-o) (length palette) ∷ [])) ∷ ‵ (flft κ₀ q₀) ∷ ‵ (ShrSlice (named 1) κ₁ f64 .own (record { ptr = (lab-b, lab-o); name = lab-γ; now = lab }) (sliceVal (lab-b, lab-o) (length lab) ∷ [])) ∷ ‵ (flft κ₁ q₁) ∷ ‵ (ShrSlice (named 2) κ₂ i16 .own (record { ptr = (indices-b, indices-o); name = indices-γ; now = indices }) (sliceVal (indices-b, indices-o) (length indices) ∷ [])) ∷ ‵ (flft κ₂ q₂) ∷ ‵ (MutSlice (named 3) κ₃ u64 .own (record { ptr = (scratch-b, scratch-o); name = scratch-γ; now = scratch′ }) (sliceVal (scratch-b, scratch-o) (length scratch) ∷ [])) ∷ ‵ (flft κ₃ q₃) ∷ ‵ (finally Change-T.the-row out-γ out′) ∷ ‵ (flft κ₄ q₄) ∷ []) ∵
-      suffices ! _ (ends-at 𝓤 H A f.ended stayed (f.clauses 𝓤 H A at-mem run) W ((((κ₀, (κ₁, (κ₂, (κ₃, (κ₄, tt))))), (q₀, (q₁, (q₂, (q₃, (q₄, tt))))), tt, a, vals), tt)) (EL.val Removal-T.the-type Removal-T′.the-laws r) r (tt, (tt, (tt, (tt, (tt, (tt, (tt, (scratch′, (out′, tt))))))))) (tt, (tt, (tt, (tt, (tt, (tt, (tt, (scratch-len, (out-len, tt)))))))))) $ says ! said $
-      nothing ! $ move ! (10 ∷ 0 ∷ []) $ join ! $ move ! (8 ∷ 0 ∷ []) $ join ! $ move ! (6 ∷ 0 ∷ []) $ join ! $ move ! (4 ∷ 0 ∷ []) $ join ! $ move ! (2 ∷ 0 ∷ []) $ join ! $ frame ! $ nothing ! $ move ! (5 ∷ 0 ∷ []) $ fjoin ! $ move ! (4 ∷ 0 ∷ []) $ fjoin ! $ owned ! usize (Is usize) (uint-makes 𝓤 H A W w64) index _ (refl, index-fits) $ fjoin ! $ move ! (3 ∷ 0 ∷ []) $ fjoin ! $ move ! (2 ∷ 0 ∷ []) $ fjoin ! $ move ! (1 ∷ 0 ∷ []) $ fjoin ! $ owned ! usize (Is usize) (uint-makes 𝓤 H A W w64) k _ (refl, k-fits) $ fjoin ! $ owned ! usize (Is usize) (uint-makes 𝓤 H A W w64) h _ (refl, h-fits) $ fjoin ! $ owned ! usize (Is usize) (uint-makes 𝓤 H A W w64) w _ (refl, w-fits) $ fjoin ! $ frame ! $ owned ! Removal-T.the-row (Is Removal-T.the-row) (EL.makes Removal-T.the-type Removal-T′.the-plain 𝓤 H A) r _ is $ done !
+      suffices ! _ (ends-at 𝓤 H A f.ended stayed (f.clauses 𝓤 H A at-mem run) W ((((κ₀, (κ₁, (κ₂, (κ₃, (κ₄, tt))))), (q₀, (q₁, (q₂, (q₃, (q₄, tt))))), tt, a, vals), tt)) (EL.val Removed-T.the-type Removed-T′.the-laws r) r (tt, (tt, (tt, (tt, (tt, (tt, (tt, (scratch′, (out′, tt))))))))) (tt, (tt, (tt, (tt, (tt, (tt, (tt, (scratch-len, (out-len, tt)))))))))) $ says ! said $
+      nothing ! $ move ! (10 ∷ 0 ∷ []) $ join ! $ move ! (8 ∷ 0 ∷ []) $ join ! $ move ! (6 ∷ 0 ∷ []) $ join ! $ move ! (4 ∷ 0 ∷ []) $ join ! $ move ! (2 ∷ 0 ∷ []) $ join ! $ frame ! $ nothing ! $ move ! (5 ∷ 0 ∷ []) $ fjoin ! $ move ! (4 ∷ 0 ∷ []) $ fjoin ! $ owned ! usize (Is usize) (uint-makes 𝓤 H A W w64) index _ (refl, index-fits) $ fjoin ! $ move ! (3 ∷ 0 ∷ []) $ fjoin ! $ move ! (2 ∷ 0 ∷ []) $ fjoin ! $ move ! (1 ∷ 0 ∷ []) $ fjoin ! $ owned ! usize (Is usize) (uint-makes 𝓤 H A W w64) k _ (refl, k-fits) $ fjoin ! $ owned ! usize (Is usize) (uint-makes 𝓤 H A W w64) h _ (refl, h-fits) $ fjoin ! $ owned ! usize (Is usize) (uint-makes 𝓤 H A W w64) w _ (refl, w-fits) $ fjoin ! $ frame ! $ owned ! Removed-T.the-row (Is Removed-T.the-row) (EL.makes Removed-T.the-type Removed-T′.the-plain 𝓤 H A) r _ is $ done !
 
-  module _ (C : Calls 𝓤 H) (Λ : Loops 𝓤 H) (fm : FmC 𝓤 H (W .laws) C) (known-Core : Triple 𝓤 (C #struct_palette·removing·remove-entry-in) (Core 𝓤 H A at-mem run)) (known-Counting : Triple 𝓤 (C #struct_palette·removing·removal-count) (Counting 𝓤 H A at-mem run)) (known-Unpacking : Triple 𝓤 (C #struct_change·unpack) (Unpacking 𝓤 H A at-mem run)) where
+  module _ (C : Calls 𝓤 H) (Λ : Loops 𝓤 H) (fm : FmC 𝓤 H (W .laws) C) (known-Core : Triple 𝓤 (C #struct_palette·removing·remove-entry-in) (Core 𝓤 H A at-mem run)) (known-Counting : Triple 𝓤 (C #struct_palette·removing·removed-count) (Counting 𝓤 H A at-mem run)) (known-Unpacking : Triple 𝓤 (C #struct_change·unpack) (Unpacking 𝓤 H A at-mem run)) where
     walk : ent 𝓤 (onEntry 𝓤 H A f.signature (κ₀, (κ₁, (κ₂, (κ₃, (κ₄, tt))))) (q₀, (q₁, (q₂, (q₃, (q₄, tt))))) a vals) (WpFn 𝓤 H C Λ code.function (vint w64 w ∷ vint w64 h ∷ vint w64 k ∷ sliceVal (palette-b, palette-o) (length palette) ∷ sliceVal (lab-b, lab-o) (length lab) ∷ sliceVal (indices-b, indices-o) (length indices) ∷ vint w64 index ∷ sliceVal (scratch-b, scratch-o) (length scratch) ∷ sliceVal (out-b, out-o) (length out) ∷ []) Post)
     walk =
         qed W ((‵ (flft κ₀ q₀) ⊛ ‵ (flft κ₁ q₁) ⊛ ‵ (flft κ₂ q₂) ⊛ ‵ (flft κ₃ q₃) ⊛ ‵ (flft κ₄ q₄) ⊛ ‵ ftrue) ∷ ‵ (owns (usize ∷ usize ∷ usize ∷ ShrSlice (named 0) κ₀ u8 ∷ ShrSlice (named 1) κ₁ f64 ∷ ShrSlice (named 2) κ₂ i16 ∷ usize ∷ MutSlice (named 3) κ₃ u64 ∷ MutSlice (named 4) κ₄ Change-T.the-row ∷ []) a vals) ∷ []) ∵ enter ! C Λ code.function (vint w64 w ∷ vint w64 h ∷ vint w64 k ∷ sliceVal (palette-b, palette-o) (length palette) ∷ sliceVal (lab-b, lab-o) (length lab) ∷ sliceVal (indices-b, indices-o) (length indices) ∷ vint w64 index ∷ sliceVal (scratch-b, scratch-o) (length scratch) ∷ sliceVal (out-b, out-o) (length out) ∷ []) _ $
@@ -166,19 +166,19 @@ module _ {M : Type 1} (𝓤 : URA M) (H : Heap 𝓤) (A : Atoms 𝓤) (W : Given
         move ! (15 ∷ 9 ∷ []) $ use2 W (later (some (λ (δ₁-scratch : GName). ‵ (MutSlice (named 3) (ν₁-scratch ∷ []) u64 .own (record { ptr = (scratch-b, scratch-o); name = δ₁-scratch; now = (scratch) }) (sliceVal (scratch-b, scratch-o) (length scratch) ∷ [])) ⊛ ‵ (LentAgain u64 κ₃ (ν₁-scratch ∷ []) q₃ scratch-γ scratch-b scratch-o δ₁-scratch (scratch))))) (lend-mut u64 κ₃ (ν₁-scratch ∷ []) q₃ scratch-γ scratch-b scratch-o 𝓤 H A W (named 3) (named 3) (scratch) (length scratch) (refl)) $ await ! tt $ pick ! (λ δ₁-scratch. split ! $
         move ! (13 ∷ 12 ∷ 11 ∷ 2 ∷ 8 ∷ 6 ∷ 4 ∷ 0 ∷ []) $ group ! 8 $ use1 W (raw (Core 𝓤 H A at-mem run .pre (to₁ ν₁-scratch δ₁-scratch (scratch)))) (goes₁ ν₁-scratch δ₁-scratch (scratch)) $
         calls-at ! fm (Core 𝓤 H A at-mem run) known-Core (to₁ ν₁-scratch δ₁-scratch (scratch)) (and-then ! (load ! (from ! (stop !)) (look ! 45 refl)) (and-then ! (load ! (from ! (stop !)) (look ! 43 refl)) (and-then ! (load ! (from ! (stop !)) (look ! 41 refl)) (and-then ! (load ! (from ! (stop !)) (look ! 39 refl)) (and-then ! (load ! (from ! (stop !)) (look ! 37 refl)) (and-then ! (load ! (from ! (stop !)) (look ! 35 refl)) (and-then ! (load ! (from ! (stop !)) (look ! 33 refl)) (and-then ! (load ! (from ! (stop !)) (look ! 21 refl)) (and-then ! (load ! (from ! (stop !)) (look ! 19 refl)) (no-more !)))))))))) (λ v₁.
-        use1 W (later (some (λ (r₁ : Removal). ((‵ (flft κ₀ q₀) ⊛ ‵ (flft κ₁ q₁) ⊛ ‵ (flft κ₂ q₂) ⊛ ‵ (flft (ν₁-scratch ∷ []) fullShare) ⊛ ‵ ftrue) ⊛ ‵ (Removal-T.the-row .own r₁ (v₁ ∷ []))) ⊛ raw (ensured 𝓤 H A Core-f.ended (Core-f.clauses 𝓤 H A at-mem run) (κ₀, (κ₁, (κ₂, (ν₁-scratch ∷ [], tt)))) (passed₁ ν₁-scratch δ₁-scratch (scratch)) tt r₁)))) (id⊢ 𝓤 _) $ await ! tt $ pick ! (λ r₁.
+        use1 W (later (some (λ (r₁ : Removed). ((‵ (flft κ₀ q₀) ⊛ ‵ (flft κ₁ q₁) ⊛ ‵ (flft κ₂ q₂) ⊛ ‵ (flft (ν₁-scratch ∷ []) fullShare) ⊛ ‵ ftrue) ⊛ ‵ (Removed-T.the-row .own r₁ (v₁ ∷ []))) ⊛ raw (ensured 𝓤 H A Core-f.ended (Core-f.clauses 𝓤 H A at-mem run) (κ₀, (κ₁, (κ₂, (ν₁-scratch ∷ [], tt)))) (passed₁ ν₁-scratch δ₁-scratch (scratch)) tt r₁)))) (id⊢ 𝓤 _) $ await ! tt $ pick ! (λ r₁.
         split ! $ move ! (1 ∷ []) $ use1 W (some (λ (z₁ : Unit {0} × (Unit {0} × (Unit {0} × (Unit {0} × (Unit {0} × (Unit {0} × (Unit {0} × (List ℕ × (Unit {0} × Unit {0}))))))))). ‵ (lasts Core-f.ended (κ₀, (κ₁, (κ₂, (ν₁-scratch ∷ [], tt)))) (passed₁ ν₁-scratch δ₁-scratch (scratch)) z₁) ⊛ raw (fact 𝓤 (Said₁ ν₁-scratch δ₁-scratch (scratch) r₁ (z₁ .1 .1 .1 .1 .1 .1 .1 .0))))) (id⊢ 𝓤 _) $ pick ! (λ z₁.
         split ! $ move ! (1 ∷ []) $ heard ! (Said₁ ν₁-scratch δ₁-scratch (scratch) r₁ (z₁ .1 .1 .1 .1 .1 .1 .1 .0)) (λ e₁.
         move ! (1 ∷ []) $ split ! $
         move ! (2 ∷ []) $ fsplit ! $ drop ! $ fsplit ! $ drop ! $ fsplit ! $ drop ! $ fsplit ! $ drop ! $ fsplit ! $ drop ! $ fsplit ! $ drop ! $ fsplit ! $ drop ! $ fsplit ! $ fsplit ! $ move ! (1 ∷ []) $ feqL ! (λ l₁-scratch.
         move ! (1 ∷ []) $ fsplit ! $ drop ! $
-        move ! (3 ∷ []) $ peeks ! Removal-T.the-row (Is Removal-T.the-row) (shows 𝓤 H A Removal-T.the-row) r₁ (v₁ ∷ []) (λ is₁.
-        land ! (from ! (stop !)) (init ! 30 refl (EL.lawful Removal-T.the-type Removal-T′.the-laws 𝓤 H A W tt .typed r₁ _ is₁ .0)) $ rewrite ! 30 (λ (u : Val). ‵ (fat fullShare Removal-T′.mir l₁₀ 0 u)) (ap only (EL.tells Removal-T.the-type Removal-T′.the-laws r₁ _ is₁)) refl $ drop ! $
+        move ! (3 ∷ []) $ peeks ! Removed-T.the-row (Is Removed-T.the-row) (shows 𝓤 H A Removed-T.the-row) r₁ (v₁ ∷ []) (λ is₁.
+        land ! (from ! (stop !)) (init ! 30 refl (EL.lawful Removed-T.the-type Removed-T′.the-laws 𝓤 H A W tt .typed r₁ _ is₁ .0)) $ rewrite ! 30 (λ (u : Val). ‵ (fat fullShare Removed-T′.mir l₁₀ 0 u)) (ap only (EL.tells Removed-T.the-type Removed-T′.the-laws r₁ _ is₁)) refl $ drop ! $
         move ! (2 ∷ []) $ split ! $ move ! (1 ∷ []) $ split ! $ move ! (1 ∷ []) $ split ! $ move ! (1 ∷ []) $ split ! $
         lft-end ! tt $
         move ! (0 ∷ 7 ∷ 6 ∷ []) $ use3 W (later (‵ (MutSlice (named 3) κ₃ u64 .own (record { ptr = (scratch-b, scratch-o); name = scratch-γ; now = (z₁ .1 .1 .1 .1 .1 .1 .1 .0) }) (sliceVal (scratch-b, scratch-o) (length scratch) ∷ [])) ⊛ ‵ (flft κ₃ q₃))) (back-mut u64 κ₃ (ν₁-scratch ∷ []) q₃ scratch-γ scratch-b scratch-o 𝓤 H A W (named 3) (named 0) (scratch) (length scratch) (refl) δ₁-scratch (z₁ .1 .1 .1 .1 .1 .1 .1 .0)) $ await ! tt $ split ! $
-        -- `removal_count`
-        use0 W (raw (Counting 𝓤 H A at-mem run .pre (to₂ (r₁)))) (goes₂ (r₁) (subst (λ (u : List Val). Is Removal-T.the-row r₁ u) (EL.tells Removal-T.the-type Removal-T′.the-laws r₁ _ is₁) is₁)) $
+        -- `removed_count`
+        use0 W (raw (Counting 𝓤 H A at-mem run .pre (to₂ (r₁)))) (goes₂ (r₁) (subst (λ (u : List Val). Is Removed-T.the-row r₁ u) (EL.tells Removed-T.the-type Removed-T′.the-laws r₁ _ is₁) is₁)) $
         calls-at ! fm (Counting 𝓤 H A at-mem run) known-Counting (to₂ (r₁)) (and-then ! (load ! (from ! (stop !)) (look ! 33 refl)) (no-more !)) (λ v₂.
         use1 W (later (some (λ (r₂ : ℕ). ((‵ ftrue) ⊛ ‵ (usize .own r₂ (v₂ ∷ []))) ⊛ raw (ensured 𝓤 H A Counting-f.ended (Counting-f.clauses 𝓤 H A at-mem run) tt (passed₂ (r₁)) tt r₂)))) (id⊢ 𝓤 _) $ await ! tt $ pick ! (λ r₂.
         split ! $ move ! (1 ∷ []) $ use1 W (some (λ (z₂ : Unit {0} × Unit {0}). ‵ (lasts Counting-f.ended tt (passed₂ (r₁)) z₂) ⊛ raw (fact 𝓤 (Said₂ (r₁) r₂)))) (id⊢ 𝓤 _) $ pick ! (λ z₂.
@@ -206,19 +206,19 @@ module _ {M : Type 1} (𝓤 : URA M) (H : Heap 𝓤) (A : Atoms 𝓤) (W : Given
         move ! (2 ∷ []) $ split ! $ move ! (1 ∷ []) $ split ! $
         move ! (2 ∷ []) $ lft-end ! tt $
         move ! (0 ∷ 5 ∷ []) $ use2 W (later (‵ (MutSlice (named 3) κ₃ u64 .own (record { ptr = (scratch-b, scratch-o); name = scratch-γ; now = (z₁ .1 .1 .1 .1 .1 .1 .1 .0) }) (sliceVal (scratch-b, scratch-o) (length scratch) ∷ [])) ⊛ ‵ (flft κ₃ q₃))) (back-shr u64 κ₃ (ν₃-scratch ∷ []) q₃ scratch-γ scratch-b scratch-o 𝓤 H A W (named 3) (named 0) (z₁ .1 .1 .1 .1 .1 .1 .1 .0) (length scratch) (l₁-scratch)) $ await ! tt $ split ! $
-        assigns ! (of-opd ! (load ! (from ! (stop !)) (look ! 36 refl))) (from ! (stop !)) (init ! 56 refl (EL.lawful Removal-T.the-type Removal-T′.the-laws 𝓤 H A W tt .typed r₁ _ (subst (λ (u : List Val). Is Removal-T.the-row r₁ u) (EL.tells Removal-T.the-type Removal-T′.the-laws r₁ _ is₁) is₁) .0)) $
+        assigns ! (of-opd ! (load ! (from ! (stop !)) (look ! 36 refl))) (from ! (stop !)) (init ! 56 refl (EL.lawful Removed-T.the-type Removed-T′.the-laws 𝓤 H A W tt .typed r₁ _ (subst (λ (u : List Val). Is Removed-T.the-row r₁ u) (EL.tells Removed-T.the-type Removed-T′.the-laws r₁ _ is₁) is₁) .0)) $
         returns ! (look ! 56 refl) $ forget ! 56 refl $ forget ! 54 refl $ forget ! 52 refl $ forget ! 50 refl $ forget ! 48 refl $ forget ! 46 refl $ forget ! 44 refl $ forget ! 42 refl $ forget ! 40 refl $ forget ! 38 refl $ forget ! 36 refl $ forget ! 34 refl $ forget ! 32 refl $ forget ! 30 refl $ forget ! 28 refl $ forget ! 26 refl $ forget ! 24 refl $ forget ! 22 refl $ forget ! 20 refl $ forget ! 18 refl $
         move ! (56 ∷ 57 ∷ []) $ free1 ! $ move ! (54 ∷ 55 ∷ []) $ free1 ! $ move ! (52 ∷ 53 ∷ []) $ free1 ! $ move ! (50 ∷ 51 ∷ []) $ free1 ! $ move ! (48 ∷ 49 ∷ []) $ free1 ! $ move ! (46 ∷ 47 ∷ []) $ free1 ! $ move ! (44 ∷ 45 ∷ []) $ free1 ! $ move ! (42 ∷ 43 ∷ []) $ free1 ! $ move ! (40 ∷ 41 ∷ []) $ free1 ! $ move ! (38 ∷ 39 ∷ []) $ free1 ! $ move ! (36 ∷ 37 ∷ []) $ free1 ! $ move ! (34 ∷ 35 ∷ []) $ free1 ! $ move ! (32 ∷ 33 ∷ []) $ free1 ! $ move ! (30 ∷ 31 ∷ []) $ free1 ! $ move ! (28 ∷ 29 ∷ []) $ free1 ! $ move ! (26 ∷ 27 ∷ []) $ free1 ! $ move ! (24 ∷ 25 ∷ []) $ free1 ! $ move ! (22 ∷ 23 ∷ []) $ free1 ! $ move ! (20 ∷ 21 ∷ []) $ free1 ! $ move ! (18 ∷ 19 ∷ []) $ free1 ! $ free0 ! $
-        keep ! (15 ∷ 11 ∷ 14 ∷ 10 ∷ 13 ∷ 9 ∷ 0 ∷ 1 ∷ 4 ∷ 2 ∷ []) $ by ! (exits (r₁) (z₁ .1 .1 .1 .1 .1 .1 .1 .0) (z₃ .1 .1 .0) (copied e₁ e₂ (map packedOf out) (sym (length-map out packedOf)) e₃, l₁-scratch) (l₁-scratch) (l₃-out) (subst (λ (u : List Val). Is Removal-T.the-row r₁ u) (EL.tells Removal-T.the-type Removal-T′.the-laws r₁ _ is₁) is₁)))))))))))))))))))))))))))))))))))))))))))
+        keep ! (15 ∷ 11 ∷ 14 ∷ 10 ∷ 13 ∷ 9 ∷ 0 ∷ 1 ∷ 4 ∷ 2 ∷ []) $ by ! (exits (r₁) (z₁ .1 .1 .1 .1 .1 .1 .1 .0) (z₃ .1 .1 .0) (copied e₁ e₂ (map packedOf out) (sym (length-map out packedOf)) e₃, l₁-scratch) (l₁-scratch) (l₃-out) (subst (λ (u : List Val). Is Removed-T.the-row r₁ u) (EL.tells Removed-T.the-type Removed-T′.the-laws r₁ _ is₁) is₁)))))))))))))))))))))))))))))))))))))))))))
 
 module _ {M : Type 1} (𝓤 : URA M) (H : Heap 𝓤) (A : Atoms 𝓤) (W : Given 𝓤 H A) (mem : Memory → SProp 𝓤) (run : Routine → Fun 𝓤) where
-  remove-entry-walks : (C : Calls 𝓤 H) (Λ : Loops 𝓤 H) → FmC 𝓤 H (W .laws) C → Triple 𝓤 (C #struct_palette·removing·remove-entry-in) (Core 𝓤 H A mem run) → Triple 𝓤 (C #struct_palette·removing·removal-count) (Counting 𝓤 H A mem run) → Triple 𝓤 (C #struct_change·unpack) (Unpacking 𝓤 H A mem run) → Walks 𝓤 H A f.ended stayed (WpFn 𝓤 H C Λ code.function) (f.clauses 𝓤 H A mem run)
+  remove-entry-walks : (C : Calls 𝓤 H) (Λ : Loops 𝓤 H) → FmC 𝓤 H (W .laws) C → Triple 𝓤 (C #struct_palette·removing·remove-entry-in) (Core 𝓤 H A mem run) → Triple 𝓤 (C #struct_palette·removing·removed-count) (Counting 𝓤 H A mem run) → Triple 𝓤 (C #struct_change·unpack) (Unpacking 𝓤 H A mem run) → Walks 𝓤 H A f.ended stayed (WpFn 𝓤 H C Λ code.function) (f.clauses 𝓤 H A mem run)
   remove-entry-walks C Λ fm known-Core known-Counting known-Unpacking = walked 𝓤 H A f.ended stayed (f.clauses 𝓤 H A mem run) (WpFn 𝓤 H C Λ code.function)
       (λ κs. (uint-vals w64, (uint-vals w64, (uint-vals w64, (slice-vals, (slice-vals, (slice-vals, (uint-vals w64, (slice-vals, (slice-vals, tt)))))))))) (λ κs. (uint-tells w64, (uint-tells w64, (uint-tells w64, (shr-slice-tells (named 0) (κs .0) u8, (shr-slice-tells (named 1) (κs .1 .0) f64, (shr-slice-tells (named 2) (κs .1 .1 .0) i16, (uint-tells w64, (mut-slice-tells (named 3) (κs .1 .1 .1 .0) u64, (mut-slice-tells (named 4) (κs .1 .1 .1 .1 .0) Change-T.the-row, tt))))))))))
       (λ κs qs bounds a g are. via 𝓤 _ (fst∗ 𝓤 _ (emp 𝓤))
       (walk 𝓤 H A W mem run (κs .0) (κs .1 .0) (κs .1 .1 .0) (κs .1 .1 .1 .0) (κs .1 .1 .1 .1 .0) (qs .0) (qs .1 .0) (qs .1 .1 .0) (qs .1 .1 .1 .0) (qs .1 .1 .1 .1 .0) (a .0) (a .1 .0) (a .1 .1 .0) (a .1 .1 .1 .0 .ptr .0) (a .1 .1 .1 .0 .ptr .1) (a .1 .1 .1 .0 .name) (a .1 .1 .1 .0 .now) (a .1 .1 .1 .1 .0 .ptr .0) (a .1 .1 .1 .1 .0 .ptr .1) (a .1 .1 .1 .1 .0 .name) (a .1 .1 .1 .1 .0 .now) (a .1 .1 .1 .1 .1 .0 .ptr .0) (a .1 .1 .1 .1 .1 .0 .ptr .1) (a .1 .1 .1 .1 .1 .0 .name) (a .1 .1 .1 .1 .1 .0 .now) (a .1 .1 .1 .1 .1 .1 .0) (a .1 .1 .1 .1 .1 .1 .1 .0 .ptr .0) (a .1 .1 .1 .1 .1 .1 .1 .0 .ptr .1) (a .1 .1 .1 .1 .1 .1 .1 .0 .name) (a .1 .1 .1 .1 .1 .1 .1 .0 .now) (a .1 .1 .1 .1 .1 .1 .1 .1 .0 .ptr .0) (a .1 .1 .1 .1 .1 .1 .1 .1 .0 .ptr .1) (a .1 .1 .1 .1 .1 .1 .1 .1 .0 .name) (a .1 .1 .1 .1 .1 .1 .1 .1 .0 .now) (are .0 .1) (are .1 .0 .1) (are .1 .1 .0 .1) (are .1 .1 .1 .0 .0 .1) (are .1 .1 .1 .1 .0 .0 .1) (are .1 .1 .1 .1 .1 .0 .0 .1) (are .1 .1 .1 .1 .1 .1 .0 .1) (are .1 .1 .1 .1 .1 .1 .1 .0 .0 .1) (are .1 .1 .1 .1 .1 .1 .1 .1 .0 .0 .1) C Λ fm known-Core known-Counting known-Unpacking))
 
-remove-entry-meets : {M : Type 1} (𝓤 : URA M) (H : Heap 𝓤) (A : Atoms 𝓤) → Given 𝓤 H A → (mem : Memory → SProp 𝓤) (run : Routine → Fun 𝓤) (𝓣 : Tables 𝓤 H) → Triple 𝓤 (𝓣 .C #struct_palette·removing·remove-entry-in) (Core 𝓤 H A mem run) → Triple 𝓤 (𝓣 .C #struct_palette·removing·removal-count) (Counting 𝓤 H A mem run) → Triple 𝓤 (𝓣 .C #struct_change·unpack) (Unpacking 𝓤 H A mem run) → Meets 𝓤 H A f.signature (WpFn 𝓤 H (𝓣 .C) (𝓣 .Λ) code.function) (f.spec 𝓤 H A mem run)
+remove-entry-meets : {M : Type 1} (𝓤 : URA M) (H : Heap 𝓤) (A : Atoms 𝓤) → Given 𝓤 H A → (mem : Memory → SProp 𝓤) (run : Routine → Fun 𝓤) (𝓣 : Tables 𝓤 H) → Triple 𝓤 (𝓣 .C #struct_palette·removing·remove-entry-in) (Core 𝓤 H A mem run) → Triple 𝓤 (𝓣 .C #struct_palette·removing·removed-count) (Counting 𝓤 H A mem run) → Triple 𝓤 (𝓣 .C #struct_change·unpack) (Unpacking 𝓤 H A mem run) → Meets 𝓤 H A f.signature (WpFn 𝓤 H (𝓣 .C) (𝓣 .Λ) code.function) (f.spec 𝓤 H A mem run)
 remove-entry-meets 𝓤 H A W mem run 𝓣 known-Core known-Counting known-Unpacking =
     walk-meets 𝓤 H A f.ended stayed W (goes-none 𝓤 H A W 5 (λ _. usize) yes (λ κs x f. refl), (goes-none 𝓤 H A W 5 (λ _. usize) yes (λ κs x f. refl), (goes-none 𝓤 H A W 5 (λ _. usize) yes (λ κs x f. refl), (goes-none-slice 𝓤 H A W 5 (0 ∷ []) tt (plain (λ _. u8)) yes, (goes-none-slice 𝓤 H A W 5 (1 ∷ []) tt (plain (λ _. f64)) yes, (goes-none-slice 𝓤 H A W 5 (2 ∷ []) tt (plain (λ _. i16)) yes, (goes-none 𝓤 H A W 5 (λ _. usize) yes (λ κs x f. refl), (goes-slice 𝓤 H A W 5 3 tt (plain (λ _. u64)), (goes-gave-slice 𝓤 H A W 5 4 tt (plain (λ _. Change-T.the-row)), tt))))))))) (f.clauses 𝓤 H A mem run)
     (WpFn 𝓤 H (𝓣 .C) (𝓣 .Λ) code.function) (WpFn-mono 𝓤 H (W .laws) 𝓣 code.function) (remove-entry-walks 𝓤 H A W mem run (𝓣 .C) (𝓣 .Λ) (fmOf 𝓤 H (W .laws) 𝓣) known-Core known-Counting known-Unpacking)
@@ -230,5 +230,5 @@ remove-entry-spec 𝓤 H 𝓜 𝓖 𝓡 =
     (tables 𝓤 H 𝓜 𝓡 code.env .C) (tables 𝓤 H 𝓜 𝓡 code.env .Λ) #struct_palette·removing·remove-entry code.function (code.unfolded 𝓤 H 𝓜 𝓡)
     (remove-entry-meets 𝓤 H (𝓖 .A) (given-of 𝓤 H 𝓜 𝓖) (𝓜 .mem) (𝓡 .run) (tablesOf 𝓤 H 𝓜 (tables 𝓤 H 𝓜 𝓡 code.env))
     (cited 𝓤 H (Core 𝓤 H (𝓖 .A) (𝓜 .mem) (𝓡 .run)) 𝓜 𝓡 code.env #struct_palette·removing·remove-entry-in Core-def.routine code.calls-struct-palette·removing·remove-entry-in (Core-thm.met 𝓤 H 𝓜 𝓖 𝓡))
-    (cited 𝓤 H (Counting 𝓤 H (𝓖 .A) (𝓜 .mem) (𝓡 .run)) 𝓜 𝓡 code.env #struct_palette·removing·removal-count Counting-def.routine code.calls-struct-palette·removing·removal-count (Counting-thm.met 𝓤 H 𝓜 𝓖 𝓡))
+    (cited 𝓤 H (Counting 𝓤 H (𝓖 .A) (𝓜 .mem) (𝓡 .run)) 𝓜 𝓡 code.env #struct_palette·removing·removed-count Counting-def.routine code.calls-struct-palette·removing·removed-count (Counting-thm.met 𝓤 H 𝓜 𝓖 𝓡))
     (cited 𝓤 H (Unpacking 𝓤 H (𝓖 .A) (𝓜 .mem) (𝓡 .run)) 𝓜 𝓡 code.env #struct_change·unpack Unpacking-def.routine code.calls-struct-change·unpack (Unpacking-thm.met 𝓤 H 𝓜 𝓖 𝓡)))

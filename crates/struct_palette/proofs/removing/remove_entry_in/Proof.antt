@@ -3,6 +3,7 @@ use mathlib.Core.Path.{refl, sym}
 use native.Mathlib.Omega.{arith}
 use lib.ListN.{length}
 use lib.Seq.{length-take-le}
+use Rattle.base.specs.Answer.{replacementCount}
 use Rattle.sheet.specs.Sheet.{Sheet, sheetOf}
 use Rattle.struct_palette.proofs.Remaps.{short-remap, remap-in, remove-is}
 use borrow.Author.Needs.{needs}
@@ -21,8 +22,8 @@ slice-aggregate-remove-entry c = search needs
 remove-entry-requires : tie.Need-remove-entry-requires
 remove-entry-requires c κs = search needs
 
-no-removal-requires : tie.Need-no-removal-requires
-no-removal-requires c κs = search needs
+none-removed-requires : tie.Need-none-removed-requires
+none-removed-requires c κs = search needs
 
 same-length : tie.Need-same-length
 same-length c = search needs
@@ -31,7 +32,7 @@ returns : tie.Need-returns
 returns c =
     let a = c .before .before .before .before .before .before .before .before .before .args in
     let s = sheet (c .before .before .before .before .before .before .before .before .before) in
-    short-remap _ _ _ _ _ _ (remove-is s (a .index)) _ (c .before .before .before .before .before .if1 .taken) (c .before .before .before .remove-entry .ensures) (c .no-removal .ensures)
+    short-remap _ replacementCount (λ n. refl) (λ o. refl) _ _ _ _ _ _ (remove-is s (a .index)) _ (c .before .before .before .before .before .if1 .taken) (c .before .before .before .remove-entry .ensures) (c .none-removed .ensures)
 
 min-usize-requires : tie.Need-min-usize-requires
 min-usize-requires c κs = search needs
@@ -52,7 +53,7 @@ returns-2 : tie.Need-returns-2
 returns-2 c =
     let a = c .before .before .before .before .before .before .before .before .before .args in
     let s = sheet (c .before .before .before .before .before .before .before .before .before) in
-    remap-in _ _ _ _ _ _ (remove-is s (a .index)) _ (a .scratch .now) _ _ (c .before .before .before .before .before .if1 .left) refl (c .before .before .before .before .min-usize .ensures) (c .before .before .remove-entry2 .ensures)
+    remap-in _ replacementCount (λ n. refl) (λ o. refl) _ _ _ _ _ _ (remove-is s (a .index)) _ (a .scratch .now) _ _ (c .before .before .before .before .before .if1 .left) refl (c .before .before .before .before .min-usize .ensures) (c .before .before .remove-entry2 .ensures)
 
 pub remove-entry-in-spec : {M : Type 1} → statement M
 remove-entry-in-spec =
@@ -61,7 +62,7 @@ remove-entry-in-spec =
     slice-relend-prefix-remove-entry
     slice-aggregate-remove-entry
     remove-entry-requires
-    no-removal-requires
+    none-removed-requires
     same-length
     returns
     min-usize-requires
