@@ -1,6 +1,6 @@
-//! Times the proved calls beside the Rust original and prints three tables; `bench/run` builds and runs it.
+//! Times the proved calls beside the Rust original and prints four tables; `bench/run` builds and runs it.
 //!
-//! Ours is crates/c_exports, which has the loops over colours, and crates/c_tools, as `rt staticlib` compiles them. `color_platform`
+//! Ours is the crates of compare/archives.txt, as `rt staticlib` compiles them. `color_platform`
 //! and `color_exact` are one and the same color.rs of pixelforge, built over the two stand-ins for its `libm`;
 //! `pixelforge` has its editor. All get the same inputs, and the results are compared bit for bit: a difference from
 //! the exact build ends the run.
@@ -8,6 +8,7 @@
 #[path = "../compare/calls.rs"]
 #[allow(dead_code)]
 mod calls;
+mod layers;
 mod moves;
 mod sheets;
 
@@ -27,7 +28,6 @@ const PASSES: usize = 3;
 const ROUNDS: usize = 7;
 
 // A slice is handed over as its pointer and its length.
-#[link(name = "c_exports", kind = "static")]
 extern "C" {
     fn bench_lab(rgb: *const u8, bytes: usize, lab: *mut f64, doubles: usize);
     fn bench_lab_lent(rgb: *const u8, bytes: usize, lab: *mut f64, doubles: usize);
@@ -145,6 +145,8 @@ fn main() {
     sheets::print();
     println!();
     moves::print();
+    println!();
+    layers::print();
 }
 
 /// One of the 2^24 colours, each its own: every step here can be undone.

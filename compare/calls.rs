@@ -1,4 +1,5 @@
-//! Ours: crates/c_exports and crates/c_tools, as `rt staticlib` compiles them. A slice is handed over as its pointer and its length.
+//! Ours: the crates of compare/archives.txt, as `rt staticlib` compiles them; compare/run and bench/run link them. A slice is
+//! handed over as its pointer and its length.
 
 /// Declares a C function and a safe function over slices. A pointer goes with its own slice's length, no two slices
 /// overlap, and the functions called are proved to stay inside.
@@ -20,8 +21,6 @@ macro_rules! ours {
     (@ $name:ident $ret:ty [$($e:tt)*] [$($p:tt)*] [$($c:tt)*]) => {
         #[allow(clippy::too_many_arguments)]
         pub fn $name($($p)*) -> $ret {
-            #[link(name = "c_exports", kind = "static")]
-            #[link(name = "c_tools", kind = "static")]
             extern "C" {
                 fn $name($($e)*) -> $ret;
             }
@@ -30,7 +29,7 @@ macro_rules! ours {
     };
 }
 
-/// Numbers of an answer; which they are stands at each call in crates/c_exports and crates/c_tools.
+/// Numbers of an answer; which they are stands at each call in its crate.
 pub type R<'a> = &'a mut [usize; 5];
 pub type S<'a> = &'a [u16; 4];
 /// The squared distance that is handed back with an entry.
@@ -115,4 +114,7 @@ ours! {
     call_asked(question: u8, journal: [u8], state: &[usize; 6], r: R,) -> u8;
     call_next(question: u8, journal: [u8], state: &[usize; 6], number: usize, bytes: &mut [u8; 8], doubles: &mut [f64; 3], r: R,) -> u8;
     call_replay(w: usize, h: usize, palette: mut [u8], lab: mut [f64], indices: mut [i16], limited: bool, permitted: [u8], bytes: &[u8; 8], index: usize, doubles: &[f64; 3], list: [u64], scratch: mut [u8], state: State,) -> u8;
+
+    call_flatten(sizes: [usize], palettes: [u8], labs: [f64], indices: [i16], out: mut [u8], r: R,) -> u8;
+    call_repaint(sizes: [usize], palettes: [u8], labs: [f64], indices: [i16], edited: usize, w: usize, h: usize, k: usize, palette: [u8], lab: [f64], earlier: [i16], out: mut [u8], r: R,) -> u8;
 }

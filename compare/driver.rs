@@ -1,8 +1,9 @@
 //! Compares every exported call with the Rust original; `compare/run` builds and runs it.
 //!
-//! Ours is crates/c_exports and crates/c_tools, as `rt staticlib` compiles them. `pixelforge` has the Rust, with E7's two constants, over the
-//! stand-ins of bench/. What is expected of a call is document 01's checks, written here in its order, and where no number
-//! marked + applies the Rust's own answer: values, counts, refusals, and every buffer as it is after the call.
+//! Ours is the crates of compare/archives.txt, as `rt staticlib` compiles them. `pixelforge` has the Rust, with E7's two
+//! constants, over the stand-ins of bench/. What is expected of a call is document 01's checks, written here in its order,
+//! and where no number marked + applies the Rust's own answer: values, counts, refusals, and every buffer as it is after
+//! the call.
 
 mod calls;
 mod damage;
@@ -11,6 +12,7 @@ mod drawn;
 mod histories;
 mod inputs;
 mod journal;
+mod layers;
 mod lines;
 mod panel;
 mod sample;
@@ -31,6 +33,7 @@ fn main() {
     inputs::run(&mut t);
     tiled::run(&mut t);
     histories::run(&mut t);
+    layers::run(&mut t);
     panel::run(&mut t);
     let same = t.print();
     println!();

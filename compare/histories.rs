@@ -344,7 +344,7 @@ struct Picture {
     lab: Vec<[u64; 3]>,
 }
 
-struct Ledger {
+pub struct Ledger {
     w: usize,
     h: usize,
     pictures: Vec<Picture>,
@@ -368,7 +368,7 @@ fn lab_bits(rgb: [u8; 3]) -> [u64; 3] {
 
 impl Ledger {
     /// Fed the opening sheet.
-    fn open(s: &Sheet) -> Ledger {
+    pub fn open(s: &Sheet) -> Ledger {
         Ledger {
             w: s.w,
             h: s.h,
@@ -448,7 +448,7 @@ impl Ledger {
         p
     }
 
-    fn push(&mut self, p: &Permitted, op: &Op) -> u8 {
+    pub fn push(&mut self, p: &Permitted, op: &Op) -> u8 {
         let list = match op {
             Op::Pixels { changes, .. } => changes.len(),
             Op::PaletteRemove { remap, .. } => remap.len(),
@@ -473,7 +473,7 @@ impl Ledger {
         0
     }
 
-    fn undo(&mut self) -> u8 {
+    pub fn undo(&mut self) -> u8 {
         if self.standing == 0 {
             return 255;
         }
@@ -481,7 +481,7 @@ impl Ledger {
         0
     }
 
-    fn redo(&mut self) -> u8 {
+    pub fn redo(&mut self) -> u8 {
         if self.standing + 1 == self.pictures.len() {
             return 255;
         }
@@ -489,8 +489,12 @@ impl Ledger {
         0
     }
 
+    pub fn mark(&mut self) {
+        self.saved = Some(self.standing);
+    }
+
     /// That a state shows the standing picture at the ledger's positions.
-    fn agrees(&self, st: &State) -> bool {
+    pub fn agrees(&self, st: &State) -> bool {
         let saved = if st.handle.saved == NOWHERE {
             None
         } else {
@@ -782,7 +786,7 @@ fn session(t: &mut Table, draw: &mut Draw) {
                 t.tell("mark_saved", &expected, &ours, || about("mark"));
                 st.handle.saved = ours[5] as usize;
                 history.mark_saved();
-                ledger.saved = Some(ledger.standing);
+                ledger.mark();
             }
         }
         assert!(ledger.agrees(&st), "the ledger: {}", about("after a call"));

@@ -28,3 +28,7 @@ maxDistance = 65536
 -- "A journal has at most 2,147,483,647 bytes"
 abbrev pub maxJournal : ℕ
 maxJournal = 2147483647
+
+-- document 02, E1: "Up to 8 sheets of one size"
+abbrev pub maxLayers : ℕ
+maxLayers = 8

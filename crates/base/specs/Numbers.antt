@@ -66,3 +66,7 @@ listTooLong = 21
 
 abbrev pub unreadFrame : ℕ
 unreadFrame = 22
+
+-- document 02, E1
+abbrev pub layersDiffer : ℕ
+layersDiffer = 23

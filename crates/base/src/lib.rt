@@ -1,4 +1,4 @@
-// What every crate stands on: document 01's limits and its numbers 1 to 22, the types that calls take and give, entries
+// What every crate stands on: the documents' limits and numbers, the types that calls take and give, entries
 // of palette and LAB storage, tests on numbers, and laws on lists.
 //
 // specs/ says the same to the contracts: Limits and Numbers name the numbers, Checks takes the first check that applies,
@@ -49,6 +49,9 @@ pub const MAX_DISTANCE: i32 = 65_536;
 // Bytes of a journal.
 pub const MAX_JOURNAL: usize = 2_147_483_647;
 
+// Layers of a symbol: document 02, E1.
+pub const MAX_LAYERS: usize = 8;
+
 // The numbers of document 01's table, each by its word.
 pub const BAD_SHEET: u8 = 1;
 
@@ -93,6 +96,9 @@ pub const ROOT_RANGE: u8 = 20;
 pub const LIST_TOO_LONG: u8 = 21;
 
 pub const UNREAD_FRAME: u8 = 22;
+
+// Document 02, E1.
+pub const LAYERS_DIFFER: u8 = 23;
 
 // A colour of the palette: three bytes of sRGB.
 pub struct Rgb {

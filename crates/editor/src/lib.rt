@@ -62,6 +62,9 @@ pub use tool_replace::replace_color;
 pub use tile_extract::extract;
 pub use tile_extract::flip;
 pub use tile_mirror::mirror_tiles;
+// layers of one symbol: document 02, E1
+pub use layer::flatten;
+pub use layer::repaint;
 // history.rs
 pub use history::fresh;
 pub use history::mark_saved;

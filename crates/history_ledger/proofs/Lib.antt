@@ -11,5 +11,6 @@ pub mod Moves
 pub mod Struck
 pub mod Scratch
 pub mod Whole
+pub mod Layers
 pub mod Full
 pub mod Need

@@ -5,3 +5,4 @@ pub mod Journal
 pub mod Ledger
 pub mod Demand
 pub mod Laws
+pub mod Layers

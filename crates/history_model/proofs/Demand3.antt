@@ -11,6 +11,7 @@ use lib.Dec.{T, lit<, leb}
 use lib.Ieee.{Float, binary64, fits}
 use Rattle.base.specs.declared.Rgb.{Rgb}
 use Rattle.base.specs.Lists.{some}
+use Rattle.base.specs.Checks.{firstOf}
 use Rattle.color_lab.specs.Convert.{labOf}
 use Rattle.color_lab.proofs.Bytes.{lab-of-bytes, lab-fits}
 use Rattle.edit.specs.Change.{unpacked}
@@ -18,13 +19,15 @@ use Rattle.edit.specs.Storage.{numbersOf}
 use Rattle.edit.specs.Accepted.{Bytes, NewBytes}
 use Rattle.journal_write.specs.Fit.{FitChange, FitChanges}
 use Rattle.sheet.specs.Sheet.{view}
+use Rattle.sheet.specs.Checks.{sheetChecks}
 use Rattle.history_ledger.proofs.Whole.{whole-history}
 use Rattle.history_ledger.proofs.Full.{full-exactly}
 use Rattle.history_ledger.specs.Calls.{Call}
 use Rattle.history_ledger.specs.Calls.Call.{push, undo, redo, mark}
-use Rattle.history_ledger.specs.Demand.{TypedCalls}
+use Rattle.history_ledger.specs.Algebra.{WellFormedIn}
+use Rattle.history_ledger.specs.Demand.{TypedCall, TypedCalls}
 use Rattle.history_model.specs.Editing.{editing}
-use Rattle.history_model.specs.Handed.{Byte, Double, Colour, rgbOf, HandedEdit, HandedPush, sheetBy, editBy, callBy}
+use Rattle.history_model.specs.Handed.{Byte, Double, Colour, rgbOf, HandedEdit, HandedSheet, HandedPush, sheetBy, editBy, callBy}
 use Rattle.history_model.specs.Handed.HandedEdit.{pixels, set, add, remove}
 use Rattle.history_model.specs.Demand3.{Demand3}
 use Rattle.history_model.proofs.Keeps.{Curve, keeps}
@@ -38,7 +41,7 @@ unfolding some
 doubles c = let f = lab-fits c in rw (double (fits binary64 (labOf c .l)) (f .l), double (fits binary64 (labOf c .a)) (f .a), double (fits binary64 (labOf c .b)) (f .b))
 
 -- document 01's curve
-curve : Curve labOf
+pub curve : Curve labOf
 curve = record { finite = λ c h. lab-of-bytes c (omega (arith, h .r-byte)) (omega (arith, h .g-byte)) (omega (arith, h .b-byte)); doubles = doubles }
 
 -- ---- what the types give: a change of 64 bits has 16 bits for each of its numbers, and bytes are bytes
@@ -69,12 +72,15 @@ new-bytes (set i old c lab) = colour-bytes c
 new-bytes (add c) = colour-bytes c
 new-bytes (remove i c lab) = tt
 
+pub call-typed : (c : Call HandedPush) → TypedCall editing (callBy c)
+call-typed (push p) = record { new-bytes = new-bytes (p .edit); changes-fit = all-fit (p .list) }
+call-typed undo = tt
+call-typed redo = tt
+call-typed mark = tt
+
 calls-typed : (calls : List (Call HandedPush)) → TypedCalls editing (map callBy calls)
 calls-typed [] = tt
-calls-typed (push p ∷ calls) = (record { new-bytes = new-bytes (p .edit); changes-fit = all-fit (p .list) }, calls-typed calls)
-calls-typed (undo ∷ calls) = (tt, calls-typed calls)
-calls-typed (redo ∷ calls) = (tt, calls-typed calls)
-calls-typed (mark ∷ calls) = (tt, calls-typed calls)
+calls-typed (c ∷ calls) = (call-typed c, calls-typed calls)
 
 bytes-typed : (l : List Byte) → some (leb 256) (map (λ (b : Byte). b .value) l) ≡ false
 unfolding some
@@ -86,14 +92,17 @@ unfolding some
 doubles-typed [] = refl
 doubles-typed (d ∷ l) = rw (double _ (d .in-64-bits), doubles-typed l)
 
+-- a handed sheet that none of 1 to 3 refuses
+pub handed-fits : (lent : HandedSheet) → firstOf (sheetChecks [] (sheetBy lent)) ≡ 0 → WellFormedIn editing (sheetBy lent)
+handed-fits lent passes = record { typed = record { palette = bytes-typed (lent .palette); lab = doubles-typed (lent .lab) }; passes = passes }
+
 pub demand-3 : Demand3
 unfolding view
 demand-3 =
     record {
       whole-history =
           λ lent passes shorter longer b b′ scratch scratch′ c c′ handed.
-          whole-history editing (keeps labOf curve) (sheetBy lent)
-          (record { typed = record { palette = bytes-typed (lent .palette); lab = doubles-typed (lent .lab) }; passes = passes })
+          whole-history editing (keeps labOf curve) (sheetBy lent) (handed-fits lent passes)
           shorter longer b b′ scratch scratch′ c c′ (map callBy handed) (calls-typed handed);
       journal-full = full-exactly editing (keeps labOf curve);
     }

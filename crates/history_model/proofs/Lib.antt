@@ -1,6 +1,7 @@
 pub mod Recordable
 pub mod Keeps
 pub mod Demand3
+pub mod Layers
 pub mod Answers
 pub mod PushChecks
 pub mod Accepting

@@ -1,5 +1,6 @@
 pub mod Editing
 pub mod Handed
 pub mod Demand3
+pub mod Layers
 pub mod Calls
 pub mod Replay

@@ -14,7 +14,7 @@ use Rattle.base.proofs.Back.{never}
 use Rattle.sheet.specs.Sheet.{stray}
 use Rattle.sheet_diff.specs.Tables.{slotOf}
 
-slot-small : (z : ℤ) → stray 255 z ≡ false → slotOf z < 256
+pub slot-small : (z : ℤ) → stray 255 z ≡ false → slotOf z < 256
 unfolding stray slotOf
 slot-small (pos n) e = omega (arith, leb-false 255 n e)
 slot-small (negsuc n) e = omega arith

@@ -27,7 +27,7 @@ fn number(c: Rgb) -> u32
 
 // Fills a table with the number of what each index shows: at 0 of the transparent one, at n + 1 of
 // entry n.
-fn fill_shades(palette: &[u8], table: &mut [u32; 256])
+pub fn fill_shades(palette: &[u8], table: &mut [u32; 256])
     requires { ⌜ (length (now palette) ≡ 765) × (length (now table) ≡ 256) ⌝ }
     ensures { λ _. ⌜ Shades 255 (now (palette .entry)) (now (table .exit)) ⌝ }
 {
@@ -40,7 +40,7 @@ fn fill_shades(palette: &[u8], table: &mut [u32; 256])
 }
 
 // The number of what an index shows, out of its palette's table.
-fn shade_of(table: &[u32; 256], z: i16) -> u32
+pub fn shade_of(table: &[u32; 256], z: i16) -> u32
     requires { ⌜ stray 255 z ≡ false ⌝ }
     ensures { λ r. ⌜ r ≡ getD (now (table .entry)) (slotOf z) 0 ⌝ }
 {

@@ -2,4 +2,6 @@
 mod diff;
 mod masking;
 
+pub use diff::fill_shades;
+pub use diff::shade_of;
 pub use masking::diff_mask;

@@ -1,0 +1,235 @@
+-- A call on a layer leaves a sheet of the same size that none of 1 to 3 refuses, whatever the journal's length and the
+-- call's scratch: in a journal of permitted length every state on the way has a trace, and what scratch or journal refuse
+-- leaves the state as it was. Assumes nothing.
+use mathlib.Core.Path.{_≡_, refl, sym, ap, subst, _∙_}
+use mathlib.Core.Bool.{Bool, true, false, cond}
+use mathlib.Core.List.{List, [], _∷_}
+use mathlib.Core.Option.{Option, none, some}
+use Prim.Native.Nat.{ℕ, zero, suc, _+_, _-_, _*_, _≤_, _<_}
+use native.Mathlib.Omega.{arith}
+use lib.ListN.{length, take, drop}
+use lib.Dec.{ltb, leb, eqb}
+use borrow.Author.Tests.{lt-ltb, ltb-true, ltb-false}
+use Rattle.base.specs.Limits.{maxJournal}
+use Rattle.base.specs.Numbers.{noSpace}
+use Rattle.base.specs.Checks.{Check, firstOf, refusedOr}
+use Rattle.base.specs.declared.Handle.{Handle}
+use Rattle.base.specs.declared.Edit.{Edit}
+use Rattle.base.specs.declared.Edit.the-variants.{Pixels, PaletteSet, PaletteAdd, PaletteRemove}
+use Rattle.color_lab.specs.Convert.{labOf}
+use Rattle.sheet.specs.Sheet.{Sheet, view}
+use Rattle.sheet.specs.Checks.{WellFormed}
+use Rattle.sheet.proofs.Judging.{none-applied}
+use Rattle.edit.specs.Change.{Change}
+use Rattle.edit.specs.Apply.{redone, reverted}
+use Rattle.journal_record.specs.Record as records
+use Rattle.journal_record.specs.Record.{readBack, readForth}
+use Rattle.journal_read.specs.Sound.{undoable, redoable}
+use Rattle.history_ledger.specs.Algebra.{Taken, WellFormedIn}
+use Rattle.history_ledger.specs.Calls.{Call, Outcome, play, lend, guarded, refused, still, done}
+use Rattle.history_ledger.specs.Calls.Call.{push, undo, redo, mark}
+use Rattle.history_ledger.specs.Demand.{TypedCall}
+use Rattle.history_ledger.specs.Handle.{steppedBack, steppedForth}
+use Rattle.history_ledger.specs.Journal.{State, opened, step, stepOver, entryChecks, pushChecks, moveChecks, shortScratch}
+use Rattle.history_ledger.specs.Journal.{pushOf, undoOf, redoOf, markOf, pushed}
+use Rattle.history_ledger.proofs.Trace as trace
+use Rattle.history_ledger.proofs.Trace.{Trace, Holds, begin, begins}
+use Rattle.history_ledger.proofs.Scratch.{any-room}
+use Rattle.history_ledger.proofs.Refusals.{when-passes, each-passes}
+use Rattle.history_ledger.proofs.Whole.{runs}
+use Rattle.history_model.specs.Editing.{Given, editing, taken, undoneBy, redoneBy}
+use Rattle.history_model.proofs.Keeps.{keeps}
+use Rattle.history_model.proofs.Demand3.{curve}
+
+-- ---- the size
+pub record SameSize (s t : Sheet) : Type 0 where
+  pub width : t .w ≡ s .w
+  pub height : t .h ≡ s .h
+
+redone-size : (s : Sheet) (e : Edit) (cs : List Change) → SameSize s (redone labOf s e cs)
+unfolding redone
+redone-size s (Pixels tool) cs = record { width = refl; height = refl }
+redone-size s (PaletteSet i old new lab) cs = record { width = refl; height = refl }
+redone-size s (PaletteAdd c) cs = record { width = refl; height = refl }
+redone-size s (PaletteRemove i c lab) cs = record { width = refl; height = refl }
+
+reverted-size : (s : Sheet) (e : Edit) (cs : List Change) → SameSize s (reverted s e cs)
+unfolding reverted
+reverted-size s (Pixels tool) cs = record { width = refl; height = refl }
+reverted-size s (PaletteSet i old new lab) cs = record { width = refl; height = refl }
+reverted-size s (PaletteAdd c) cs = record { width = refl; height = refl }
+reverted-size s (PaletteRemove i c lab) cs = record { width = refl; height = refl }
+
+-- what a reading leads to
+abbrev Leads : (Sheet → Type 0) → Option (Taken Sheet) → Type 0
+Leads P none = Unit {0}
+Leads P (some r) = P (r .sheet)
+
+leads-taken : (P : Sheet → Type 0) (ok : Bool) (n : ℕ) (s : Sheet) → P s → Leads P (taken ok n s)
+leads-taken P true n s h = h
+leads-taken P false n s h = tt
+
+undone-size : (s : Sheet) (r : records.Reading) → Leads (SameSize s) (undoneBy s r)
+unfolding undoneBy
+undone-size s none = tt
+undone-size s (some r) = leads-taken (SameSize s) (undoable s (r .1) (r .2)) (r .0) (reverted s (r .1) (r .2)) (reverted-size s (r .1) (r .2))
+
+forth-size : (s : Sheet) (r : records.Reading) → Leads (SameSize s) (redoneBy labOf s r)
+unfolding redoneBy
+forth-size s none = tt
+forth-size s (some r) = leads-taken (SameSize s) (redoable s (r .1) (r .2)) (r .0) (redone labOf s (r .1) (r .2)) (redone-size s (r .1) (r .2))
+
+-- ---- what a call leaves is what was there, or what the outcome behind its checks leaves
+pub record Left {S : Type 0} (P : S → Type 0) (o : Outcome S) : Type 0 where
+  pub is : P (o .leaves)
+
+module _ {S : Type 0} (P : S → Type 0) (s : S) (h : P s) where
+  after-checks : (cs : List Check) (o : Outcome S) → Left P o → Left P (guarded s cs o)
+  unfolding refusedOr
+  after-checks cs o k = go (firstOf cs)
+    where
+      go : (n : ℕ) → Left P (refusedOr n (refused s) o)
+      go zero = k
+      go (suc n) = record { is = h }
+
+  or-still : (b : Bool) (o : Outcome S) → Left P o → Left P (cond b (still s) o)
+  or-still true o k = record { is = h }
+  or-still false o k = k
+
+-- ---- a call leaves the size, in every state
+module _ (st : State editing) where
+  abbrev Sized : State editing → Type 0
+  Sized after = SameSize (st .sheet) (after .sheet)
+
+  stands : Sized st
+  stands = record { width = refl; height = refl }
+
+  step-over : (r : Option (Taken Sheet)) (inside : ℕ → Bool) (stepped : ℕ → Handle → Handle) → Leads (SameSize (st .sheet)) r
+      → Left Sized (stepOver editing st r inside stepped)
+  unfolding stepOver
+  step-over none inside stepped h = record { is = stands }
+  step-over (some r) inside stepped h = after-checks Sized st stands _ _ (record { is = h })
+
+  sized : (room : ℕ) (c : Call Given) → Left Sized (step editing room st c)
+  unfolding pushOf undoOf redoOf pushed
+  sized room (push g) =
+      after-checks Sized st stands (entryChecks editing st g) _
+      (or-still Sized st stands (editing .isEmpty g) _
+      (after-checks Sized st stands (pushChecks editing room st g) (done (pushed editing st g))
+      (record { is = redone-size (st .sheet) (g .edit) (g .changes) })))
+  sized room undo =
+      let used : List ℕ = take (st .handle .offset) (st .journal) in
+      after-checks Sized st stands (moveChecks editing st) _
+      (or-still Sized st stands (eqb (st .handle .position) 0) _
+      (step-over (undoneBy (st .sheet) (readBack used)) (λ n. leb n (st .handle .offset)) steppedBack (undone-size (st .sheet) (readBack used))))
+  sized room redo =
+      let used : List ℕ = take (st .handle .end - st .handle .offset) (drop (st .handle .offset) (st .journal)) in
+      after-checks Sized st stands (moveChecks editing st) _
+      (or-still Sized st stands (eqb (st .handle .position) (st .handle .count)) _
+      (after-checks Sized st stands (shortScratch editing room st ∷ []) _
+      (step-over (redoneBy labOf (st .sheet) (readForth used)) (λ n. leb (st .handle .offset + n) (st .handle .end)) steppedForth
+      (forth-size (st .sheet) (readForth used)))))
+  sized room mark = record { is = stands }
+
+-- ---- a journal that is too long, or scratch that is too short, leaves everything as it was
+overlong : (room : ℕ) (st : State editing) (c : Call Given) → maxJournal < length (st .journal) → step editing room st c .leaves ≡ st
+unfolding pushOf undoOf redoOf markOf firstOf refusedOr
+overlong room st (push g) h = rw (lt-ltb maxJournal (length (st .journal)) h)
+overlong room st undo h = rw (lt-ltb maxJournal (length (st .journal)) h)
+overlong room st redo h = rw (lt-ltb maxJournal (length (st .journal)) h)
+overlong room st mark h = rw (lt-ltb maxJournal (length (st .journal)) h)
+
+applied : {S : Type 0} (s : S) (cs : List Check) (o : Outcome S) → ¬ (firstOf cs ≡ 0) → Left (λ t. t ≡ s) (guarded s cs o)
+unfolding refusedOr
+applied s cs o h = go (firstOf cs) refl
+  where
+    go : (n : ℕ) → firstOf cs ≡ n → Left (λ t. t ≡ s) (refusedOr n (refused s) o)
+    go zero e = absurd (h e)
+    go (suc n) e = record { is = refl }
+
+module _ (room : ℕ) (st : State editing) (short : room < st .sheet .w * st .sheet .h) where
+  not-enough : ¬ (cond (ltb room (st .sheet .w * st .sheet .h)) noSpace 0 ≡ 0)
+  not-enough e = omega (arith, ltb-false room (st .sheet .w * st .sheet .h) (when-passes 15 (ltb room (st .sheet .w * st .sheet .h)) e))
+
+  short-push : (g : Given) → Left (λ s. s ≡ st) (pushOf editing room st g)
+  unfolding pushOf view
+  short-push g =
+      after-checks (λ s. s ≡ st) st refl (entryChecks editing st g) _
+      (or-still (λ s. s ≡ st) st refl (editing .isEmpty g) _
+      (applied st (pushChecks editing room st g) (done (pushed editing st g)) (λ e. not-enough (each-passes (pushChecks editing room st g) e .1 .0))))
+
+  short-redo : Left (λ s. s ≡ st) (redoOf editing room st)
+  unfolding redoOf view
+  short-redo =
+      let used : List ℕ = take (st .handle .end - st .handle .offset) (drop (st .handle .offset) (st .journal)) in
+      let over = stepOver editing st (redoneBy labOf (st .sheet) (readForth used)) (λ n. leb (st .handle .offset + n) (st .handle .end)) steppedForth in
+      after-checks (λ s. s ≡ st) st refl (moveChecks editing st) _
+      (or-still (λ s. s ≡ st) st refl (eqb (st .handle .position) (st .handle .count)) _
+      (applied st (shortScratch editing room st ∷ []) over (λ e. not-enough (each-passes (shortScratch editing room st ∷ []) e .0))))
+
+-- ---- a state on the way, with scratch of `room` places
+pub record Along (room n : ℕ) (st : State editing) : Type 0 where
+  pub by : Trace editing
+  pub holds : Holds editing room n by
+  pub is : st ≡ trace.stateOf editing by
+
+pub data Lives (room : ℕ) (st : State editing) : Type 0 where
+  refuses : maxJournal < length (st .journal) → WellFormedIn editing (st .sheet) → Lives room st
+  goes : (n : ℕ) → n ≤ maxJournal → Along room n st → Lives room st
+
+along-step : {room n : ℕ} {st : State editing} → n ≤ maxJournal → Along room n st → (c : Call Given) → TypedCall editing c
+    → Along room n (step editing room st c .leaves)
+unfolding play lend
+along-step {room} {n} permitted a c t =
+    let ran = runs editing (keeps labOf curve) room n permitted (λ i. room) (λ i. omega arith) (c ∷ []) (t, tt) (a .by) (a .holds) in
+    record { by = ran .to; holds = ran .holds; is = ap (λ s. step editing room s c .leaves) (a .is) ∙ ap (λ p. p .ends) (ran .code) }
+
+-- ---- a layer of w by h
+pub record Stays (w h : ℕ) (st : State editing) : Type 0 where
+  pub width : st .sheet .w ≡ w
+  pub height : st .sheet .h ≡ h
+  pub lives : Lives (w * h) st
+
+lives-fits : {room : ℕ} {st : State editing} → Lives room st → WellFormedIn editing (st .sheet)
+lives-fits (refuses long f) = f
+lives-fits (goes n permitted a) = subst (λ s. WellFormedIn editing (s .sheet)) (sym (a .is)) (a .holds .fits)
+
+pub stays-fits : {w h : ℕ} {st : State editing} → Stays w h st → WellFormed (st .sheet)
+stays-fits {w} {h} {st} a = none-applied (st .sheet) (lives-fits (a .lives) .passes)
+
+pub opens : {w h : ℕ} (s : Sheet) (journal : List ℕ) → WellFormedIn editing s → s .w ≡ w → s .h ≡ h → Stays w h (opened editing s journal)
+unfolding view
+opens {w} {h} s journal f p q = record { width = p; height = q; lives = go (ltb maxJournal (length journal)) refl }
+  where
+    places : s .w * s .h ≤ w * h
+    places = rw (p, q) (omega arith)
+
+    go : (b : Bool) → ltb maxJournal (length journal) ≡ b → Lives (w * h) (opened editing s journal)
+    go true e = refuses (ltb-true _ _ e) f
+    go false e =
+        goes (length journal) (ltb-false _ _ e) (record { by = begin editing s journal; holds = begins editing s journal (w * h) f places; is = refl })
+
+module _ {w h : ℕ} {st : State editing} (a : Stays w h st) (room : ℕ) where
+  enough : room < w * h → (c : Call Given) → Lives (w * h) (step editing (w * h) st c .leaves) → Lives (w * h) (step editing room st c .leaves)
+  enough short (push g) k = subst (Lives (w * h)) (sym (short-push room st (rw (a .width, a .height) short) g .is)) (a .lives)
+  enough short undo k = k
+  enough short redo k = subst (Lives (w * h)) (sym (short-redo room st (rw (a .width, a .height) short) .is)) (a .lives)
+  enough short mark k = k
+
+  same : w * h ≤ room → (c : Call Given) → step editing room st c ≡ step editing (w * h) st c
+  unfolding view
+  same b c = any-room editing room (w * h) st c (rw (a .width, a .height) b) (rw (a .width, a .height) (omega arith))
+
+  pub stays : (c : Call Given) → TypedCall editing c → Stays w h (step editing room st c .leaves)
+  stays c t =
+      let size = sized st room c .is in
+      record { width = size .width ∙ a .width; height = size .height ∙ a .height; lives = by-journal (a .lives) }
+    where
+      by-scratch : (b : Bool) → ltb room (w * h) ≡ b → Lives (w * h) (step editing (w * h) st c .leaves)
+          → Lives (w * h) (step editing room st c .leaves)
+      by-scratch true e k = enough (ltb-true _ _ e) c k
+      by-scratch false e k = subst (λ o. Lives (w * h) (o .leaves)) (sym (same (ltb-false _ _ e) c)) k
+
+      by-journal : Lives (w * h) st → Lives (w * h) (step editing room st c .leaves)
+      by-journal (refuses long f) = subst (Lives (w * h)) (sym (overlong room st c long)) (a .lives)
+      by-journal (goes n permitted k) = by-scratch (ltb room (w * h)) refl (goes n permitted (along-step permitted k c t))

@@ -1,0 +1,4 @@
+pub mod Lent
+pub mod Kept
+pub mod Passing
+pub mod Flat

@@ -1,0 +1,2 @@
+pub mod Slotting
+pub mod Words
