@@ -18,6 +18,7 @@ mod panel;
 mod sample;
 mod sheet;
 mod sheets;
+mod spell;
 mod table;
 mod tiled;
 
@@ -35,6 +36,7 @@ fn main() {
     histories::run(&mut t);
     layers::run(&mut t);
     panel::run(&mut t);
+    spell::run(&mut t);
     let same = t.print();
     println!();
     println!(

@@ -46,15 +46,20 @@ fn well_formed(b: &[u8]) -> bool {
     }
 }
 
+/// The bytes of a line that is an opening frame, or none.
+pub fn opening_bytes(line: &[u8]) -> Option<Vec<u8>> {
+    bytes_of(line).filter(|b| b[0] == 0 && well_formed(b))
+}
+
 /// A sheet that is open: ours, and the Rust's history and document.
-struct Open {
-    st: State,
+pub struct Open {
+    pub st: State,
     history: History,
     doc: Document,
 }
 
 /// The sheet of an opening frame, or its number.
-fn opened(b: &[u8]) -> Result<Open, u8> {
+pub fn opened(b: &[u8]) -> Result<Open, u8> {
     let (w, h, k) = (two(b, 1), two(b, 3), usize::from(b[5]));
     if w > SIDE || h > SIDE {
         return Err(1);
@@ -168,7 +173,7 @@ fn answered(open: &mut Option<Open>, line: &[u8]) -> Vec<u8> {
 
 // Lines.
 
-fn opening(draw: &mut Draw) -> Vec<u8> {
+pub fn opening(draw: &mut Draw) -> Vec<u8> {
     let side = |draw: &mut Draw| draw.from(&[0, 1, 1, 2, 3, 3, 4, 5, 8]);
     let (w, h) = match draw.below(24) {
         0 => (64, draw.from(&[1, 2, 64])),
@@ -244,7 +249,7 @@ fn frame(open: &Option<Open>, draw: &mut Draw) -> Vec<u8> {
 }
 
 /// A frame's digits, of either case, now and then with something wrong.
-fn line(bytes: &[u8], draw: &mut Draw) -> Vec<u8> {
+pub fn line(bytes: &[u8], draw: &mut Draw) -> Vec<u8> {
     let case = draw.below(3);
     let digits = b"0123456789ABCDEF0123456789abcdef";
     let digit = |d: u8, draw: &mut Draw| {
@@ -279,27 +284,31 @@ fn line(bytes: &[u8], draw: &mut Draw) -> Vec<u8> {
 
 /// What the program prints on an input.
 fn printed(input: Vec<u8>) -> Vec<u8> {
-    let mut program = Command::new(PROGRAM)
+    printed_by(PROGRAM, input)
+}
+
+pub fn printed_by(program: &str, input: Vec<u8>) -> Vec<u8> {
+    let mut program = Command::new(program)
         .stdin(Stdio::piped())
         .stdout(Stdio::piped())
         .spawn()
-        .expect("target/bin/panel");
+        .expect("the program of target/bin");
     let mut to = program.stdin.take().unwrap();
     let writer = std::thread::spawn(move || to.write_all(&input));
     let mut out = Vec::new();
     let mut from = program.stdout.take().unwrap();
-    from.read_to_end(&mut out).expect("what panel prints");
-    writer.join().unwrap().expect("panel reads its input");
+    from.read_to_end(&mut out).expect("what it prints");
+    writer.join().unwrap().expect("it reads its input");
     assert!(program.wait().unwrap().success());
     out
 }
 
-fn words(told: &[u8]) -> Vec<u64> {
+pub fn words(told: &[u8]) -> Vec<u64> {
     told.iter().map(|&b| b.into()).collect()
 }
 
 /// What is printed for a line, as words: its bytes if they are upper-case digits, else a word that no answer has.
-fn words_of(line: &[u8]) -> Vec<u64> {
+pub fn words_of(line: &[u8]) -> Vec<u64> {
     let upper = !line.iter().any(u8::is_ascii_lowercase);
     bytes_of(line)
         .filter(|_| upper)

@@ -36,6 +36,8 @@ use Rattle.base.specs.declared.Copied.{Copied}
 use Rattle.base.specs.declared.Copied.the-variants as copied
 use Rattle.base.specs.declared.Extraction.{Extraction}
 use Rattle.base.specs.declared.Extraction.the-variants as extraction
+use Rattle.base.specs.declared.Opened.{Opened}
+use Rattle.base.specs.declared.Opened.the-variants as opened
 
 -- "A refusal returns its number alone", and so does "still"; a result is its values
 pub data Told (R : Type 0) : Type 0 where
@@ -182,6 +184,19 @@ extracted tiles entries = record { tiles = tiles; entries = entries }
 abbrev pub extractionTold : Extraction → Told Extracted
 extractionTold (extraction.Made tiles entries) = Told.result (extracted tiles entries)
 extractionTold (extraction.Refused n) = Told.alone n
+
+-- a sheet's sides and palette count
+pub record Size : Type 0 where
+  pub w : ℕ
+  pub h : ℕ
+  pub k : ℕ
+
+abbrev pub size : ℕ → ℕ → ℕ → Size
+size w h k = record { w = w; h = h; k = k }
+
+abbrev pub openedTold : Opened → Told Size
+openedTold (opened.Sheet w h k) = Told.result (size w h k)
+openedTold (opened.Refused n) = Told.alone n
 
 -- a record of the journal: its edit, where it starts and how long it is, where its changes start and how many they are; or none
 pub record Shown : Type 0 where

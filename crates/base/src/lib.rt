@@ -303,3 +303,9 @@ pub enum Extraction {
     Made { tiles: usize, entries: usize },
     Refused(u8),
 }
+
+// What a call that reads a sheet from a line answers: its sides and its palette count.
+pub enum Opened {
+    Sheet { w: usize, h: usize, k: usize },
+    Refused(u8),
+}

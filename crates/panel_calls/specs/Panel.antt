@@ -3,18 +3,14 @@
 -- `step editing` (history_ledger/specs/Journal.antt) answers it.
 use Prim.Native.Nat.{ℕ}
 use mathlib.Core.Bool.{false, cond}
-use mathlib.Core.List.{List, [], _∷_, _++_, map}
+use mathlib.Core.List.{List, [], map}
 use mathlib.Core.Option.{Option, none, some}
-use lib.Dec.{ltb, eqb}
+use lib.Dec.{eqb}
 use lib.ListN.{replicate}
-use Rattle.base.specs.Limits.{storage}
-use Rattle.base.specs.Numbers.{badSheet, unreadFrame}
-use Rattle.base.specs.Checks.{Check, _when_, checked}
-use Rattle.base.specs.Answer.{number, Done}
-use Rattle.base.specs.Lists.{over}
-use Rattle.color_doubles.specs.Arithmetic.{decimal}
+use Rattle.base.specs.Numbers.{unreadFrame}
+use Rattle.base.specs.Answer.{Told, number, Done}
+use Rattle.base.specs.Answer.Told.{result, alone}
 use Rattle.sheet.specs.Sheet.{Sheet, sheetOf}
-use Rattle.sheet.specs.Checks.{limitChecks, indexChecks}
 use Rattle.sheet.specs.Document.{newLab}
 use Rattle.base.specs.Triples.{rgbAt}
 use Rattle.base.specs.declared.Edit.{Edit}
@@ -28,11 +24,12 @@ use Rattle.history_ledger.specs.Calls.{Answer, Outcome, refused, guarded}
 use Rattle.history_ledger.specs.Calls.Call.{push, undo, redo, mark}
 use Rattle.history_ledger.specs.Journal.{State, opened, step}
 use Rattle.history_model.specs.Editing.{Given, givenOf, editing}
-use Rattle.panel_frames.specs.Reading.{frameOf, paletteIn, indicesIn, changesFrom}
+use Rattle.panel_frames.specs.Reading.{frameOf, changesFrom}
+use Rattle.panel_frames.specs.Opening.{openedOr, sheetIn}
 use Rattle.panel_frames.specs.Writing.{lineOf, numberLine}
 use Rattle.panel_frames.specs.declared.Frame.{Frame}
 use Rattle.panel_frames.specs.declared.Frame.the-variants.{Open, Pixels, Set, Add, Merge, Undo, Redo, Mark, Malformed}
-use Rattle.panel_calls.specs.Lines.{Said, said, answers}
+use Rattle.panel_lines.specs.Lines.{Said, said, answers}
 
 -- nothing before the opening; then sheet, journal and handle
 abbrev pub Panel : Type 0
@@ -83,33 +80,21 @@ shown o =
 
 -- ---- the opening
 
--- "00 w(2) h(2) k, palette, indices": storage past the entries is zero
-unfoldable pub openSheet : ℕ → ℕ → ℕ → List ℕ → Sheet
-openSheet w h k bs = sheetOf w h k (over (paletteIn k bs) (replicate storage 0)) (replicate storage (decimal 0 1)) (indicesIn w h k bs)
-
 -- LAB of the k entries worked out, and the journal zero
 unfoldable pub begun : Sheet → State editing
 begun s = opened editing (sheetOf (s .w) (s .h) (s .k) (s .palette) (newLab s) (s .indices)) (replicate journalBytes 0)
 
--- "1 also for sides over 64", then 1 and 2 of the sheet; no other number can come
-unfoldable pub openChecks : Sheet → List Check
-openChecks s = badSheet when ltb 64 (s .w) ∷ badSheet when ltb 64 (s .h) ∷ limitChecks s ++ indexChecks s
-
 -- "a failed opening (.. the sheet stays unopened) .. prints the number only"
-unfoldable pub openOf : Sheet → Said Panel
-openOf s = checked (openChecks s) (λ n. said none (numberLine n)) (said (some (begun s)) (wholeLine Done (begun s)))
+unfoldable pub opensAs : Told Sheet → Said Panel
+opensAs (result s) = said (some (begun s)) (wholeLine Done (begun s))
+opensAs (alone n) = said none (numberLine n)
+
+abbrev pub openOf : Sheet → Said Panel
+openOf s = opensAs (openedOr [] s)
 
 -- 22 for a "call before opening" and for a "malformed line"
 unfoldable pub unopenedOf : Frame → List ℕ → Said Panel
-unopenedOf (Open w h k) bs = openOf (openSheet w h k bs)
-unopenedOf (Pixels tool n) bs = said none (numberLine unreadFrame)
-unopenedOf (Set i c) bs = said none (numberLine unreadFrame)
-unopenedOf (Add c) bs = said none (numberLine unreadFrame)
-unopenedOf (Merge from into) bs = said none (numberLine unreadFrame)
-unopenedOf Undo bs = said none (numberLine unreadFrame)
-unopenedOf Redo bs = said none (numberLine unreadFrame)
-unopenedOf Mark bs = said none (numberLine unreadFrame)
-unopenedOf Malformed bs = said none (numberLine unreadFrame)
+unopenedOf f bs = opensAs (sheetIn [] f bs)
 
 -- ---- a line, and all of them
 

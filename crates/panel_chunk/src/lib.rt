@@ -6,11 +6,10 @@ ghost use mathlib.Core.Path.{_≡_};
 ghost use mathlib.Core.Bool.{true};
 ghost use Prim.Native.Nat.{_≤_};
 ghost use lib.ListN.{length, take};
-ghost use Rattle.panel_calls.specs.Lines.{chunkFed};
+ghost use Rattle.panel_lines.specs.Lines.{chunkFed, Answered};
 ghost use Rattle.panel_calls.specs.Panel.{stepOf};
 ghost use Rattle.panel_open.specs.Memory.{panelIn, Fits};
 ghost use Rattle.panel_input.specs.Chunks.{Holds};
-ghost use Rattle.panel_chunk.specs.Told.{Answered};
 
 // After a chunk: the turn, how many bytes of text were taken, and whether these were all.
 pub struct Told {

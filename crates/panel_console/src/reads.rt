@@ -14,12 +14,11 @@ use std::num::wrapping_add_u64;
 ghost use mathlib.Core.Path.{_≡_};
 ghost use mathlib.Core.Bool.{true, false};
 ghost use lib.ListN.{length, take};
-ghost use Rattle.panel_calls.specs.Lines.{chunkFed};
+ghost use Rattle.panel_lines.specs.Lines.{chunkFed, Answered, Heard};
 ghost use Rattle.panel_calls.specs.Panel.{stepOf};
 ghost use Rattle.panel_open.specs.Memory.{panelIn, Fits};
 ghost use Rattle.panel_input.specs.Chunks.{Holds};
-ghost use Rattle.panel_chunk.specs.Told.{Answered};
-ghost use Rattle.panel_console.specs.Session.{Reads, Closed, Heard, Whole};
+ghost use Rattle.panel_console.specs.Session.{Reads, Closed, Whole};
 
 // Bytes that a read asks for.
 const CHUNK: usize = 4_096;
@@ -115,7 +114,7 @@ fn answer_reads(
         ⌝ }
     requires { ⌜ Holds t (length (now line)) × (length (now out) ≡ 65536) × (length (now chunk) ≡ 4096) ⌝ }
     ensures { λ r. ⌜
-        (r .sound ≡ true → Heard
+        (r .sound ≡ true → Heard stepOf
         (panelIn (t .core) (now (palette .entry)) (now (lab .entry)) (now (indices .entry)) (now (journal .entry)))
         (take (t .len) (now (line .entry)))
         (panelIn (r .turn .core) (now (palette .exit)) (now (lab .exit)) (now (indices .exit)) (now (journal .exit)))

@@ -7,7 +7,7 @@ use lib.ListN.{length, take, drop}
 use lib.Seq.{take-at, length-take-le}
 use Rattle.base.specs.Lists.{over}
 use Rattle.journal_record.specs.Bytes.{splice}
-use Rattle.panel_calls.specs.Lines.{lastFed}
+use Rattle.panel_lines.specs.Lines.{lastFed}
 use Rattle.panel_calls.specs.Panel.{Panel, stepOf}
 use Rattle.panel_open.specs.Memory.{Steps}
 use Rattle.panel_open.specs.declared.Stepped.{Stepped}

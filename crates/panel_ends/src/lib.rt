@@ -5,7 +5,7 @@ use panel_open::Core;
 use panel_session::step;
 ghost use mathlib.Core.Path.{_≡_};
 ghost use lib.ListN.{length, take};
-ghost use Rattle.panel_calls.specs.Lines.{lastFed};
+ghost use Rattle.panel_lines.specs.Lines.{lastFed};
 ghost use Rattle.panel_calls.specs.Panel.{stepOf};
 ghost use Rattle.panel_open.specs.Memory.{panelIn, Fits};
 ghost use Rattle.panel_input.specs.Chunks.{Holds};

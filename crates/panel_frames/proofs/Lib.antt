@@ -4,3 +4,4 @@ pub mod Sizes
 pub mod Lines
 pub mod Trips
 pub mod Opened
+pub mod Opens

@@ -1,14 +1,14 @@
--- A frame that is read has no more bytes than were read. Assumes nothing.
-use Prim.Native.Nat.{ℕ, _+_, _*_, _-_, _%_, _≤_, zero-le}
+-- A frame that is read has no more bytes than were read, and is known by the front of its line. Assumes nothing.
+use Prim.Native.Nat.{ℕ, _+_, _*_, _-_, _%_, _≤_, _<_, zero-le}
 use mathlib.Core.Path.{_≡_, refl}
 use mathlib.Core.List.{List}
 use mathlib.Core.Bool.{Bool, true, false, cond}
 use native.Mathlib.Omega.{arith}
-use borrow.Author.Tests.{ltb-false, eqb-true}
+use borrow.Author.Tests.{ltb-true, ltb-false, eqb-true}
 use lib.Dec.{ltb, eqb}
 use lib.ListN.{length, take, getD}
-use lib.Seq.{take-take, length-take-le}
-use Rattle.panel_frames.specs.Reading.{two, exact, openingOf, pixelsOf, classOf, sizeOf, told}
+use lib.Seq.{take-all, take-take, length-take-le}
+use Rattle.panel_frames.specs.Reading.{two, exact, openingOf, pixelsOf, classOf, sizeOf, told, frameOf}
 use Rattle.panel_frames.specs.declared.Frame.{Frame}
 use Rattle.panel_frames.specs.declared.Frame.the-variants.{Malformed}
 
@@ -60,3 +60,17 @@ told-front l n h =
 
 pub front-size : (l : List ℕ) (n : ℕ) → n ≤ length l → sizeOf (classOf (take n l)) ≤ length l
 front-size l n h = omega (arith, class-size (take n l), length-take-le n l h)
+
+-- a frame is known by the first 16,385 bytes of its line
+pub frame-clip : (l : List ℕ) → frameOf (take 16385 l) ≡ frameOf l
+unfolding frameOf
+frame-clip l = by (ltb 16384 (length l)) refl
+  where
+    by : (t : Bool) → ltb 16384 (length l) ≡ t → frameOf (take 16385 l) ≡ frameOf l
+    by true e =
+        let h : 16384 < length l = ltb-true 16384 (length l) e in
+        let n : length (take 16385 l) ≡ 16385 = length-take-le 16385 l (omega arith) in
+        rw (n, e)
+    by false e =
+        let h : length l ≤ 16384 = ltb-false 16384 (length l) e in
+        rw (take-all 16385 l (omega arith))

@@ -11,11 +11,15 @@ pub use carry::take_bytes;
 pub use carry::take_changes;
 pub use carry::take_indices;
 pub use line::put_line;
+pub use line::put_newline;
 pub use line::put_number;
 pub use reading::decode;
 
 // Digits of the longest line that is read: 8,192 bytes.
 pub const MAX_DIGITS: usize = 16_384;
+
+// Sides of the sheets that an opening line holds.
+pub const MAX_OPEN: usize = 64;
 
 // What a line is read as. An opening's palette and indices, and the changes of a pixel frame, stay in the
 // frame's bytes.

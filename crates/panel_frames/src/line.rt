@@ -17,7 +17,7 @@ fn mark_of(b: bool) -> u8
     if b { 1 } else { 0 }
 }
 
-fn put_newline(out: &mut [u8], at: usize)
+pub fn put_newline(out: &mut [u8], at: usize)
     requires { ⌜ at + 1 ≤ length (now out) ⌝ }
     ensures { λ _. ⌜ now (out .exit) ≡ splice (now (out .entry)) at (10 ∷ []) ⌝ }
 {

@@ -1,4 +1,3 @@
-pub mod Feeding
 pub mod Turns
 pub mod Pours
 pub mod Printed

@@ -6,10 +6,10 @@ use native.Mathlib.Numerals.{add-one}
 use native.Mathlib.Omega.{arith}
 use lib.ListN.{length, take, drop, getD}
 use lib.Seq.{drop-cons}
-use Rattle.panel_calls.specs.Lines.{fed, saying, byteFed, chunkFed}
+use Rattle.panel_lines.specs.Lines.{fed, saying, byteFed, chunkFed}
 use Rattle.panel_calls.specs.Panel.{Panel, stepOf}
 use Rattle.panel_input.specs.Chunks.{Onward}
-use Rattle.panel_input.proofs.Feeding.{saying-nil, turned}
+use Rattle.panel_lines.proofs.Feeding.{saying-nil, turned}
 
 -- the bytes of a chunk from `from` to i are taken: p₀ and l₀ are state and held line before them, p and l after them, and n bytes of text are in `out`
 pub record Pouring (p₀ : Panel) (l₀ chunk : List ℕ) (from : ℕ) (p : Panel) (l out : List ℕ) (n i : ℕ) : Type 0 where

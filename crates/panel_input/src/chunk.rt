@@ -9,7 +9,7 @@ use panel_session::step;
 ghost use mathlib.Core.Path.{_≡_};
 ghost use Prim.Native.Nat.{_+_, _≤_};
 ghost use lib.ListN.{length, take, drop};
-ghost use Rattle.panel_calls.specs.Lines.{fed, saying, byteFed, chunkFed};
+ghost use Rattle.panel_lines.specs.Lines.{fed, saying, byteFed, chunkFed};
 ghost use Rattle.panel_calls.specs.Panel.{stepOf};
 ghost use Rattle.panel_open.specs.Memory.{panelIn, Fits};
 ghost use Rattle.panel_input.specs.Chunks.{Holds, Onward};

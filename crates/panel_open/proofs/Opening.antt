@@ -2,7 +2,7 @@
 use Prim.Native.Nat.{ℕ, zero, suc, _+_, _*_, _≤_, _<_}
 use mathlib.Core.Path.{_≡_, refl, sym, ap, _∙_}
 use mathlib.Core.Bool.{true}
-use mathlib.Core.List.{List, _++_, map}
+use mathlib.Core.List.{List, [], _++_, map}
 use mathlib.Core.Option.{none, some}
 use native.Mathlib.Omega.{arith}
 use borrow.Author.Tests.{lt-ltb, le-ltb}
@@ -24,8 +24,9 @@ use Rattle.history_ledger.specs.Handle.{fresh, dirty}
 use Rattle.panel_frames.specs.Reading.{paletteIn, indicesIn, indexOf}
 use Rattle.panel_frames.specs.Writing.{lineOf, numberLine}
 use Rattle.panel_open.specs.declared.Core.{Core}
-use Rattle.panel_calls.specs.Lines.{said}
-use Rattle.panel_calls.specs.Panel.{journalBytes, wholeLine, openSheet, begun, openChecks, openOf}
+use Rattle.panel_lines.specs.Lines.{said}
+use Rattle.panel_frames.specs.Opening.{openSheet, openChecks}
+use Rattle.panel_calls.specs.Panel.{journalBytes, wholeLine, begun, opensAs, openOf}
 use Rattle.panel_open.specs.Memory.{panelIn}
 
 -- ---- the buffers
@@ -49,8 +50,8 @@ module _ (w h k : ℕ) (bs : List ℕ) where
   cs = limitChecks s ++ indexChecks s
 
   -- a number that comes first
-  failed : (n : ℕ) → firstOf (openChecks s) ≡ suc n → openOf s ≡ said none (numberLine (suc n))
-  unfolding openOf refusedOr
+  failed : (n : ℕ) → firstOf (openChecks [] s) ≡ suc n → openOf s ≡ said none (numberLine (suc n))
+  unfolding opensAs refusedOr
   failed n e = rw e
 
   pub open-wide : 64 < w → openOf s ≡ said none (numberLine 1)
@@ -66,7 +67,7 @@ module _ (w h k : ℕ) (bs : List ℕ) where
   open-many a b d = failed 0 (rw (le-ltb 64 w a, le-ltb 64 h b, le-ltb 1024 w (omega arith), le-ltb 1024 h (omega arith), lt-ltb 255 k d))
 
   module _ (small-w : w ≤ 64) (small-h : h ≤ 64) where
-    same-first : firstOf (openChecks s) ≡ firstOf cs
+    same-first : firstOf (openChecks [] s) ≡ firstOf cs
     unfolding openChecks openSheet firstOf
     same-first = rw (le-ltb 64 w small-w, le-ltb 64 h small-h)
 
@@ -89,7 +90,7 @@ module _ (w h k : ℕ) (bs : List ℕ) where
         none-first = sym answered ∙ z
 
         pub open-done : openOf s ≡ said (some (begun s)) (wholeLine Done (begun s))
-        unfolding openOf refusedOr
+        unfolding opensAs refusedOr
         open-done = rw (same-first, none-first)
 
         pub lab-made : lab′ ≡ newLab s

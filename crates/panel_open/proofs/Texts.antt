@@ -11,7 +11,7 @@ use lib.ListN.{length, take}
 use lib.Seq.{length-take-le}
 use Rattle.panel_frames.specs.Writing.{lineOf, numberLine}
 use Rattle.panel_frames.proofs.Lines.{length-line}
-use Rattle.panel_calls.specs.Lines.{Said, said}
+use Rattle.panel_lines.specs.Lines.{Said, said}
 use Rattle.panel_calls.specs.Panel.{Panel}
 use Rattle.panel_open.specs.declared.Core.{Core}
 use Rattle.panel_open.specs.declared.Stepped.{Stepped}

@@ -12,7 +12,7 @@ use Rattle.journal_record.specs.Bytes.{splice}
 use Rattle.history_model.specs.Calls.{stateOf}
 use Rattle.panel_open.specs.declared.Core.{Core}
 use Rattle.panel_open.specs.declared.Stepped.{Stepped}
-use Rattle.panel_calls.specs.Lines.{Said}
+use Rattle.panel_lines.specs.Lines.{Said}
 use Rattle.panel_calls.specs.Panel.{Panel}
 
 -- the state in the buffers: before the opening, nothing in them counts

@@ -8,6 +8,7 @@ use crate::text::whole;
 use base::BAD_SHEET;
 use base::MAX_ENTRIES;
 use history::fresh;
+use panel_frames::MAX_OPEN;
 use panel_frames::take_bytes;
 use panel_frames::take_indices;
 ghost use mathlib.Core.Path.{_≡_};
@@ -18,11 +19,9 @@ ghost use lib.ListN.{length, replicate, take, drop};
 ghost use Rattle.base.specs.Limits.{storage};
 ghost use Rattle.base.specs.Lists.{over};
 ghost use Rattle.panel_frames.specs.Reading.{paletteIn, indexOf};
-ghost use Rattle.panel_calls.specs.Panel.{openSheet, openOf};
+ghost use Rattle.panel_frames.specs.Opening.{openSheet};
+ghost use Rattle.panel_calls.specs.Panel.{openOf};
 ghost use Rattle.panel_open.specs.Memory.{panelIn, Fits, Steps};
-
-// Sides of the sheets that are opened.
-const MAX_OPEN: usize = 64;
 
 // The palette of an opening frame, and zeros behind it.
 fn open_palette(bytes: &[u8], k: usize, palette: &mut [u8])

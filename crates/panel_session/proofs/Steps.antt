@@ -1,16 +1,15 @@
 -- From calls to what a line does. Assumes nothing.
-use Prim.Native.Nat.{ℕ, zero, suc, _+_, _*_, _-_, _≤_}
-use mathlib.Core.Path.{_≡_, refl, _∙_}
+use Prim.Native.Nat.{ℕ, zero, suc, _+_, _*_, _≤_}
+use mathlib.Core.Path.{_≡_, refl, ap, _∙_}
 use mathlib.Core.Bool.{true, false}
 use mathlib.Core.List.{List, [], _∷_, _++_}
-use mathlib.Core.Logic.{⊎-elim}
 use mathlib.Core.Option.{none, some}
 use native.Mathlib.Omega.{arith}
 use borrow.Author.Tests.{ne-eqb}
 use lib.IntN.{ℤ}
 use lib.Ieee.{Float}
 use lib.ListN.{length, take, drop, length-append, length-drop}
-use lib.Seq.{take-take, take-at, length-take-le, getD-take}
+use lib.Seq.{take-at, length-take-le, getD-take}
 use types.Run.{OneOf}
 use denote.Enum.Declared.{tagOf}
 use Rattle.base.specs.Answer.{numberOf}
@@ -18,14 +17,14 @@ use Rattle.sheet.specs.Sheet.{sheetOf}
 use Rattle.base.specs.declared.Moved.{Moved}
 use Rattle.history_model.specs.Calls.{stateOf, leaves}
 use Rattle.history_ledger.specs.Handle.{dirty}
-use Rattle.journal_record.proofs.LittleEndian.{drop-take}
 use Rattle.panel_frames.specs.Reading.{told, sizeOf, frameOf, changeAt, changesFrom}
 use Rattle.panel_frames.specs.Writing.{lineOf, numberLine}
 use Rattle.panel_frames.specs.declared.Frame.{Frame}
 use Rattle.panel_frames.specs.declared.Frame.the-variants.{Open, Pixels, Set, Add, Merge, Undo, Redo, Mark, Malformed}
 use Rattle.panel_frames.proofs.Frame.{the-type}
-use Rattle.panel_calls.specs.Lines.{Said, said}
-use Rattle.panel_calls.specs.Panel.{Panel, callOf, wholeLine, shown, openSheet, unopenedOf, actOf, stepOf}
+use Rattle.panel_frames.proofs.Opens.{sheet-take, sheet-other}
+use Rattle.panel_lines.specs.Lines.{Said, said}
+use Rattle.panel_calls.specs.Panel.{Panel, callOf, wholeLine, shown, opensAs, unopenedOf, actOf, stepOf}
 use Rattle.panel_open.specs.declared.Core.{Core}
 use Rattle.panel_open.specs.Memory.{panelIn, Fits}
 use Rattle.panel_open.proofs.Texts.{shut}
@@ -72,9 +71,6 @@ module _ (part indices : List ℤ) (n : ℕ) (room : n ≤ length indices) (same
 
 -- ---- a line, by its frame
 
-inner : {A : Type 0} (a n m : ℕ) (l : List A) → a + n ≤ m → take n (drop a (take m l)) ≡ take n (drop a l)
-inner a n m l h = rw (drop-take a m l) (take-take n (m - a) (drop a l) (omega arith))
-
 change-take : (l : List ℕ) (m i : ℕ) → i + 6 ≤ m → changeAt (take m l) i ≡ changeAt l i
 unfolding changeAt
 change-take l m i h =
@@ -92,22 +88,10 @@ unfolding changesFrom
 changes-take l m zero i h = refl
 changes-take l m (suc n) i h = rw (change-take l m i (omega arith), changes-take l m n (i + 6) (omega arith))
 
-open-take : (w h k : ℕ) (l : List ℕ) → openSheet w h k (take (6 + 3 * k + w * h) l) ≡ openSheet w h k l
-unfolding openSheet
-open-take w h k l = rw (inner 6 (3 * k) (6 + 3 * k + w * h) l (omega arith), inner (6 + 3 * k) (w * h) (6 + 3 * k + w * h) l (omega arith))
-
 -- only a frame's own bytes matter
 act-take : (p : Panel) (f : Frame) (l : List ℕ) → actOf p f (take (sizeOf f) l) ≡ actOf p f l
 unfolding actOf unopenedOf callOf sizeOf
-act-take none (Open w h k) l = rw (open-take w h k l)
-act-take none (Pixels tool n) l = refl
-act-take none (Set i c) l = refl
-act-take none (Add c) l = refl
-act-take none (Merge from into) l = refl
-act-take none Undo l = refl
-act-take none Redo l = refl
-act-take none Mark l = refl
-act-take none Malformed l = refl
+act-take none f l = ap opensAs (sheet-take [] f l)
 act-take (some st) (Open w h k) l = refl
 act-take (some st) (Pixels tool n) l = rw (changes-take l (2 + 6 * n) n 2 (omega arith))
 act-take (some st) (Set i c) l = refl
@@ -128,27 +112,9 @@ pub act-shut : (core : Core) (palette : List ℕ) (lab : List Float) (indices : 
 unfolding actOf
 act-shut core palette lab indices journal f bs e = rw (shut core palette lab indices journal e)
 
-among : (x : ℕ) → OneOf (1 ∷ 2 ∷ 3 ∷ 4 ∷ 5 ∷ 6 ∷ 7 ∷ 8 ∷ []) x → 1 ≤ x
-among x h =
-    ⊎-elim (λ e. omega arith) (λ h.
-    ⊎-elim (λ e. omega arith) (λ h.
-    ⊎-elim (λ e. omega arith) (λ h.
-    ⊎-elim (λ e. omega arith) (λ h.
-    ⊎-elim (λ e. omega arith) (λ h.
-    ⊎-elim (λ e. omega arith) (λ h.
-    ⊎-elim (λ e. omega arith) (λ e. omega arith) h) h) h) h) h) h) h
-
 pub unopened-call : (f : Frame) (bs : List ℕ) → OneOf (1 ∷ 2 ∷ 3 ∷ 4 ∷ 5 ∷ 6 ∷ 7 ∷ 8 ∷ []) (tagOf the-type f) → unopenedOf f bs ≡ said none (numberLine 22)
-unfolding unopenedOf
-unopened-call (Open w h k) bs o = absurd (omega (arith, among 0 o))
-unopened-call (Pixels tool n) bs o = refl
-unopened-call (Set i c) bs o = refl
-unopened-call (Add c) bs o = refl
-unopened-call (Merge from into) bs o = refl
-unopened-call Undo bs o = refl
-unopened-call Redo bs o = refl
-unopened-call Mark bs o = refl
-unopened-call Malformed bs o = refl
+unfolding unopenedOf opensAs
+unopened-call f bs o = rw (sheet-other [] f bs o)
 
 -- buffers keep their lengths
 pub refits : {core core′ : Core} {p l i j b s p′ l′ i′ j′ b′ s′ : ℕ} → Fits core p l i j b s → core′ .w * core′ .h ≤ 4096

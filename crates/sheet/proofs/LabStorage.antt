@@ -63,5 +63,9 @@ module _ (p : List ℕ) (d : List Float) (i : ℕ) where
       with-lab (labsOf (take (3 * i) p)) d i (labOf (rgbAt p i)) (labs-length (first h)) k
       ∙ rw (next, take-add (3 * i) 3 p, entry p i h, labs-more (first h) (rgbAt p i))
 
+-- as many numbers as bytes
+pub length-labs : (k : ℕ) (p : List ℕ) → length p ≡ 3 * k → length (labsOf p) ≡ 3 * k
+length-labs k p e = labs-length (colours k p e)
+
 pub filled-all : (p : List ℕ) (d : List Float) (k : ℕ) → 3 * k ≤ length p → filled p d k ≡ over (labsOf (take (3 * k) p)) d
-filled-all p d k h = over-is (labsOf (take (3 * k) p)) d (3 * k) (labs-length (colours k (take (3 * k) p) (length-take-le (3 * k) p h)))
+filled-all p d k h = over-is (labsOf (take (3 * k) p)) d (3 * k) (length-labs k (take (3 * k) p) (length-take-le (3 * k) p h))

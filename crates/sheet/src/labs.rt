@@ -9,7 +9,7 @@ ghost use Rattle.sheet.specs.Document.{labsOf};
 
 // Works out the LAB of the first k entries from their bytes. The others keep. The curve's table is made
 // once.
-pub(crate) fn fill_labs(palette: &[u8], lab: &mut [f64], k: usize)
+pub fn fill_labs(palette: &[u8], lab: &mut [f64], k: usize)
     requires { ⌜ (3 * k ≤ length (now palette)) × (3 * k ≤ length (now lab)) ⌝ }
     ensures { λ _. ⌜ now (lab .exit) ≡ over (labsOf (take (3 * k) (now (palette .entry)))) (now (lab .entry)) ⌝ }
 {

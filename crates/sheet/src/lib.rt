@@ -13,3 +13,4 @@ pub use checks::permitted_no;
 pub use document::get_at;
 pub use document::new;
 pub use document::with_lab;
+pub use labs::fill_labs;

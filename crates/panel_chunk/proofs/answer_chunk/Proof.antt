@@ -1,5 +1,6 @@
 -- `answer_chunk`: the parts of the chunk before `from` are answered. Assumes nothing.
-use Rattle.panel_chunk.proofs.Parts.{said-small, Answering, answering-none, answering-next, answering-all}
+use Rattle.panel_calls.specs.Panel.{stepOf}
+use Rattle.panel_lines.proofs.Parts.{said-small, Answering, answering-none, answering-next, answering-all}
 use Rattle.panel_open.specs.Memory.{panelIn, Fits}
 use Rattle.panel_input.specs.Chunks.{Holds}
 use lib.Seq.{length-take-le}
@@ -11,13 +12,13 @@ use Rattle.panel_chunk.proofs.answer_chunk.Statement.{statement}
 use Rattle.panel_chunk.proofs.answer_chunk.Tie as tie
 
 abbrev Inv-loop : tie.InvT-loop
-Inv-loop palette₀ lab₀ indices₀ journal₀ line₀ chunk bytes₀ list₀ out₀ s₀ said₀ from₀ palette lab indices journal line bytes list out s said from = Fits (s .core) (length palette) (length lab) (length indices) (length journal) (length bytes) (length list) × Holds s (length line) × (length out ≡ 65536) × Answering (panelIn (s₀ .core) palette₀ lab₀ indices₀ journal₀) (take (s₀ .len) line₀) chunk (panelIn (s .core) palette lab indices journal) (take (s .len) line) said from
+Inv-loop palette₀ lab₀ indices₀ journal₀ line₀ chunk bytes₀ list₀ out₀ s₀ said₀ from₀ palette lab indices journal line bytes list out s said from = Fits (s .core) (length palette) (length lab) (length indices) (length journal) (length bytes) (length list) × Holds s (length line) × (length out ≡ 65536) × Answering stepOf (panelIn (s₀ .core) palette₀ lab₀ indices₀ journal₀) (take (s₀ .len) line₀) chunk (panelIn (s .core) palette lab indices journal) (take (s .len) line) said from
 
 abbrev μ-loop : tie.MeasureT-loop
 μ-loop palette₀ lab₀ indices₀ journal₀ line₀ chunk bytes₀ list₀ out₀ s₀ said₀ from₀ palette lab indices journal line bytes list out s said from = length chunk - from
 
 loop-holds : tie.Need-loop-holds Inv-loop μ-loop
-loop-holds c = let p = c .before .before .before .before .before .before .before .before .pre in (p .0, p .1 .0, p .1 .1, answering-none _ _ _)
+loop-holds c = let p = c .before .before .before .before .before .before .before .before .pre in (p .0, p .1 .0, p .1 .1, answering-none stepOf _ _ _)
 
 pour-requires : tie.Need-pour-requires Inv-loop μ-loop
 pour-requires c κs =
@@ -42,7 +43,7 @@ add-said c =
     let p = c .before .before .before .before .before .before .before .before .before .before .before .before .before .before .before .before .before .before .before .pour in
     let l = c .before .before .before .before .before .before .before .before .before .before .before .before .before .before .before .before .before .before .before .before .before .before .before .before .before .before .before .before .before .loop in
     let v = l .inv in
-    omega (arith, said-small (l .said) (l .from) (p .result .turn .at) (c .before .send .result .n) (p .last .1 .1 .1 .1 .1 .1 .1 .1 .1 .1 .1 .0) (c .before .before .before .before .before .before .before .before .before .before .before .before .before .before .before .before .before .before .before .before .before .before .before .before .before .before .before .before .before .before .before .before .before .before .before .before .before .before .args .chunk .now) (c .before .send .ensures .fits) (p .kept .1 .1 .1 .1 .1 .1 .1 .1 .1 .1 .1 .0 ∙ v .2) (v .3 .few) (v .3 .high) (c .before .before .before .before .before .before .before .before .before .before .before .before .before .before .before .before .before .before .before .before .before .before .before .before .before .before .before .before .before .before .before .before .before .before .before .before .before .before .pre .1 .2))
+    omega (arith, said-small (l .said) (l .from) (p .result .turn .at) (c .before .send .result .n) (p .last .1 .1 .1 .1 .1 .1 .1 .1 .1 .1 .1 .0) (c .before .before .before .before .before .before .before .before .before .before .before .before .before .before .before .before .before .before .before .before .before .before .before .before .before .before .before .before .before .before .before .before .before .before .before .before .before .before .args .chunk .now) (c .before .send .ensures .fits) (omega (arith, p .kept .1 .1 .1 .1 .1 .1 .1 .1 .1 .1 .1 .0, v .2)) (v .3 .few) (v .3 .high) (c .before .before .before .before .before .before .before .before .before .before .before .before .before .before .before .before .before .before .before .before .before .before .before .before .before .before .before .before .before .before .before .before .before .before .before .before .before .before .pre .1 .2))
 
 same-length : tie.Need-same-length Inv-loop μ-loop
 same-length c =
@@ -109,7 +110,8 @@ loop-again c =
     let l = c .before .before .before .before .before .before .before .before .before .before .before .before .before .before .before .before .before .before .before .before .before .before .before .before .before .before .before .before .before .before .before .loop in
     let v = l .inv in
     let room = p .kept .1 .1 .1 .1 .1 .1 .1 .1 .1 .1 .1 .0 ∙ v .2 in
-    (p .ensures .1 .0, p .ensures .1 .1 .0, room, answering-next _ _ _ _ _ (l .said) (l .from) (v .3) _ _ _ _ (p .result .turn .at) (sent .result .n) (c .before .before .before .before .before .before .before .before .before .before .before .before .before .before .before .before .before .before .before .before .before .before .before .before .before .before .before .before .before .before .loop-test .taken) (p .ensures .0) (p .ensures .1 .1 .1) (omega (arith, room, p .ensures .1 .1 .1 .fits)) (sent .ensures .fits) (c .if1 .left))
+    let o = p .ensures .1 .1 .1 in
+    (p .ensures .1 .0, p .ensures .1 .1 .0, room, answering-next stepOf _ _ _ _ _ (l .said) (l .from) (v .3) _ _ _ _ (p .result .turn .at) (sent .result .n) (o .some (c .before .before .before .before .before .before .before .before .before .before .before .before .before .before .before .before .before .before .before .before .before .before .before .before .before .before .before .before .before .before .loop-test .taken)) (o .inside) (o .fits) (p .ensures .0) (omega (arith, room, p .ensures .1 .1 .1 .fits)) (sent .ensures .fits) (c .if1 .left))
 
 same-length-9 : tie.Need-same-length-9 Inv-loop μ-loop
 same-length-9 c =
@@ -160,7 +162,7 @@ same-length-16 c =
     omega (arith, v .2, start .pre .1 .1)
 
 returns-2 : tie.Need-returns-2 Inv-loop μ-loop
-returns-2 c = let l = c .before .loop in let v = l .inv in (λ e. answering-all _ _ _ _ _ (l .said) (l .from) (v .3) (c .loop-test .left), (v .0, v .1))
+returns-2 c = let l = c .before .loop in let v = l .inv in (λ e. answering-all stepOf _ _ _ _ _ (l .said) (l .from) (v .3) (c .loop-test .left), (v .0, v .1))
 
 pub answer-chunk-spec : {M : Type 1} → statement M
 answer-chunk-spec =

@@ -1,5 +1,6 @@
 -- `answer_all`: nothing is open at first, then the reads, then the line that is held. Assumes nothing.
-use Rattle.panel_console.proofs.Sessions.{false-true, session-printed}
+use Rattle.panel_lines.proofs.Hearing.{false-true}
+use Rattle.panel_console.proofs.Sessions.{session-printed}
 use borrow.Author.Tests.{not-true, not-false}
 use lib.Seq.{length-take-le}
 use native.Mathlib.Omega.{arith}

@@ -1,6 +1,7 @@
 -- `answer_reads`: what was read so far is answered. Assumes nothing.
-use Rattle.panel_console.proofs.Sessions.{false-true, heard-none, heard-next}
-use Rattle.panel_console.specs.Session.{Heard}
+use Rattle.panel_calls.specs.Panel.{stepOf}
+use Rattle.panel_lines.specs.Lines.{Heard}
+use Rattle.panel_lines.proofs.Hearing.{false-true, heard-none, heard-next}
 use Rattle.panel_open.specs.Memory.{panelIn, Fits}
 use Rattle.panel_input.specs.Chunks.{Holds}
 use borrow.Author.Tests.{not-true, not-false}
@@ -13,13 +14,13 @@ use Rattle.panel_console.proofs.reads.answer_reads.Statement.{statement
 use Rattle.panel_console.proofs.reads.answer_reads.Tie as tie
 
 abbrev Inv-loop : tie.InvT-loop
-Inv-loop palette₀ lab₀ indices₀ journal₀ line₀ chunk₀ bytes₀ list₀ out₀ input s₀ reads₀ heard₀ said₀ last₀ palette lab indices journal line chunk bytes list out s reads heard said last = Fits (s .core) (length palette) (length lab) (length indices) (length journal) (length bytes) (length list) × Holds s (length line) × (length out ≡ 65536) × (length chunk ≡ 4096) × (reads ≤ 18446744073709551615) × Heard (panelIn (s₀ .core) palette₀ lab₀ indices₀ journal₀) (take (s₀ .len) line₀) (panelIn (s .core) palette lab indices journal) (take (s .len) line) heard said
+Inv-loop palette₀ lab₀ indices₀ journal₀ line₀ chunk₀ bytes₀ list₀ out₀ input s₀ reads₀ heard₀ said₀ last₀ palette lab indices journal line chunk bytes list out s reads heard said last = Fits (s .core) (length palette) (length lab) (length indices) (length journal) (length bytes) (length list) × Holds s (length line) × (length out ≡ 65536) × (length chunk ≡ 4096) × (reads ≤ 18446744073709551615) × Heard stepOf (panelIn (s₀ .core) palette₀ lab₀ indices₀ journal₀) (take (s₀ .len) line₀) (panelIn (s .core) palette lab indices journal) (take (s .len) line) heard said
 
 abbrev μ-loop : tie.MeasureT-loop
 μ-loop palette₀ lab₀ indices₀ journal₀ line₀ chunk₀ bytes₀ list₀ out₀ input s₀ reads₀ heard₀ said₀ last₀ palette lab indices journal line chunk bytes list out s reads heard said last = 18446744073709551615 - reads
 
 loop-holds : tie.Need-loop-holds Inv-loop μ-loop
-loop-holds c = let p = c .before .before .before .before .before .before .before .before .pre in (p .0, p .1 .0, p .1 .1, p .1 .2, omega arith, heard-none _ _)
+loop-holds c = let p = c .before .before .before .before .before .before .before .before .pre in (p .0, p .1 .0, p .1 .1, p .1 .2, omega arith, heard-none stepOf _ _)
 
 answer-some-requires : tie.Need-answer-some-requires Inv-loop μ-loop
 answer-some-requires c κs = let v = c .before .before .before .before .before .before .before .before .before .before .loop .inv in (v .0, (v .1, v .2, v .3))
@@ -95,7 +96,7 @@ returns c =
     let chunk = g .last .1 .1 .1 .1 .1 .1 .0 in
     let same = g .kept .1 .1 .1 .1 .1 .1 .0 in
     let few = g .ensures .1 .0 .few in
-    (λ e. heard-next _ _ _ _ (l .heard) (l .said) (v .5) _ _ (take (g .result .n) chunk) (g .result .n) (g .result .said) _ _ (g .ensures .0 e) (length-take-le (g .result .n) chunk (omega (arith, few, same, v .3))) (c .before .before .before .wrapping-add-u64 .ensures) (c .before .before .wrapping-add-u642 .ensures), (record { ends = λ e f. g .ensures .1 .0 .ends (not-true _ (c .if1 .taken)) f; bound = λ e. absurd (false-true e) }, g .ensures .1 .1))
+    (λ e. heard-next stepOf _ _ _ _ (l .heard) (l .said) (v .5) _ _ (take (g .result .n) chunk) (g .result .n) (g .result .said) _ _ (g .ensures .0 e) (length-take-le (g .result .n) chunk (omega (arith, few, same, v .3))) (c .before .before .before .wrapping-add-u64 .ensures) (c .before .before .wrapping-add-u642 .ensures), (record { ends = λ e f. g .ensures .1 .0 .ends (not-true _ (c .if1 .taken)) f; bound = λ e. absurd (false-true e) }, g .ensures .1 .1))
 
 loop-less : tie.Need-loop-less Inv-loop μ-loop
 loop-less c = omega (arith, c .before .before .before .before .before .before .before .before .before .before .before .before .before .before .before .before .before .before .before .before .before .before .before .before .before .before .before .before .before .before .before .before .loop-test .taken)
@@ -108,7 +109,7 @@ loop-again c =
     let chunk = g .last .1 .1 .1 .1 .1 .1 .0 in
     let same = g .kept .1 .1 .1 .1 .1 .1 .0 in
     let few = g .ensures .1 .0 .few in
-    (g .ensures .1 .1 .0, g .ensures .1 .1 .1, g .kept .1 .1 .1 .1 .1 .1 .1 .1 .1 .0 ∙ v .2, same ∙ v .3, omega (arith, c .before .before .before .before .before .before .before .before .before .before .before .before .before .before .before .before .before .before .before .before .before .before .before .before .before .before .before .before .before .before .before .before .loop-test .taken), heard-next _ _ _ _ (l .heard) (l .said) (v .5) _ _ (take (g .result .n) chunk) (g .result .n) (g .result .said) _ _ (g .ensures .0 (g .ensures .1 .0 .goes-on (not-false _ (c .if1 .left)))) (length-take-le (g .result .n) chunk (omega (arith, few, same, v .3))) (c .before .before .before .wrapping-add-u64 .ensures) (c .before .before .wrapping-add-u642 .ensures))
+    (g .ensures .1 .1 .0, g .ensures .1 .1 .1, g .kept .1 .1 .1 .1 .1 .1 .1 .1 .1 .0 ∙ v .2, same ∙ v .3, omega (arith, c .before .before .before .before .before .before .before .before .before .before .before .before .before .before .before .before .before .before .before .before .before .before .before .before .before .before .before .before .before .before .before .before .loop-test .taken), heard-next stepOf _ _ _ _ (l .heard) (l .said) (v .5) _ _ (take (g .result .n) chunk) (g .result .n) (g .result .said) _ _ (g .ensures .0 (g .ensures .1 .0 .goes-on (not-false _ (c .if1 .left)))) (length-take-le (g .result .n) chunk (omega (arith, few, same, v .3))) (c .before .before .before .wrapping-add-u64 .ensures) (c .before .before .wrapping-add-u642 .ensures))
 
 same-length-10 : tie.Need-same-length-10 Inv-loop μ-loop
 same-length-10 c =

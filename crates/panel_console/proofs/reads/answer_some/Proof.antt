@@ -1,5 +1,6 @@
 -- `answer_some`: a read of nothing, or a chunk. Assumes nothing.
-use Rattle.panel_console.proofs.Sessions.{false-true, nothing-read}
+use Rattle.panel_calls.specs.Panel.{stepOf}
+use Rattle.panel_lines.proofs.Hearing.{false-true, nothing-read}
 use native.Mathlib.Omega.{arith}
 use mathlib.Core.Path.{refl, sym, _∙_}
 use borrow.Author.Needs.{needs}
@@ -24,7 +25,7 @@ same-length c = search needs
 returns : tie.Need-returns
 returns c =
     let start = c .before .before .before .before .before .before .before .before .before .before .before .before .before .before .before .before .before in
-    (λ e. nothing-read _ _, (record { few = omega arith; goes-on = c .is-sound .ensures .0; ends = λ e f. refl }, (start .pre .0, start .pre .1 .0)))
+    (λ e. nothing-read stepOf _ _, (record { few = omega arith; goes-on = c .is-sound .ensures .0; ends = λ e f. refl }, (start .pre .0, start .pre .1 .0)))
 
 slice-reshare-prefix-answer-chunk : tie.Need-slice-reshare-prefix-answer-chunk
 slice-reshare-prefix-answer-chunk c = search needs

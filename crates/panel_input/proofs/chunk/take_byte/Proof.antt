@@ -1,5 +1,7 @@
 -- `take_byte`: the line's end, a byte kept, or one too many. Assumes nothing.
-use Rattle.panel_input.proofs.Turns.{byte-ends, byte-kept, byte-skipped}
+use Rattle.panel_lines.proofs.Feeding.{byte-kept, byte-skipped}
+use Rattle.panel_calls.specs.Panel.{stepOf}
+use Rattle.panel_input.proofs.Turns.{byte-ends}
 use Rattle.panel_session.proofs.Steps.{refits}
 use Rattle.panel_open.specs.Memory.{panelIn}
 use lib.Seq.{length-take-le}
@@ -76,7 +78,7 @@ returns-2 c =
     let start = at-if1 .before .before .before .before .before .before .before .before .before in
     let a = start .args in
     let hold = start .pre .1 .0 in
-    (byte-kept (panelIn (a .t .core) (a .palette .now) (a .lab .now) (a .indices .now) (a .journal .now)) (a .line .now) (a .out .now) (a .t .len) (a .t .at) (a .b) (hold .line-length) (c .if2 .taken) (at-if1 .if1 .left), (start .pre .0, (record { line-length = length-set (a .line .now) (a .t .len) (a .b) ∙ hold .line-length; within = omega arith }, omega arith)))
+    (byte-kept stepOf (panelIn (a .t .core) (a .palette .now) (a .lab .now) (a .indices .now) (a .journal .now)) (a .line .now) (a .out .now) (a .t .len) (a .t .at) (a .b) (hold .line-length) (at-if1 .if1 .left) (c .if2 .taken), (start .pre .0, (record { line-length = length-set (a .line .now) (a .t .len) (a .b) ∙ hold .line-length; within = omega arith }, omega arith)))
 
 returns-3 : tie.Need-returns-3
 returns-3 c =
@@ -84,7 +86,7 @@ returns-3 c =
     let start = at-if1 .before .before .before .before .before .before .before .before .before in
     let a = start .args in
     let hold = start .pre .1 .0 in
-    (byte-skipped (panelIn (a .t .core) (a .palette .now) (a .lab .now) (a .indices .now) (a .journal .now)) (a .line .now) (a .out .now) (a .t .len) (a .t .at) (a .b) (hold .line-length) (hold .within) (c .if2 .left) (at-if1 .if1 .left), (start .pre .0, (record { line-length = hold .line-length; within = hold .within }, omega arith)))
+    (byte-skipped stepOf (panelIn (a .t .core) (a .palette .now) (a .lab .now) (a .indices .now) (a .journal .now)) (a .line .now) (a .out .now) (a .t .len) (a .t .at) (a .b) (hold .line-length) (at-if1 .if1 .left) (hold .within) (c .if2 .left), (start .pre .0, (record { line-length = hold .line-length; within = hold .within }, omega arith)))
 
 pub take-byte-spec : {M : Type 1} → statement M
 take-byte-spec =

@@ -2,7 +2,7 @@
 use Rattle.panel_open.proofs.Opening.{open-wide, open-tall, open-many, open-failed, open-done, lab-made, open-state, open-text, new-is}
 use Rattle.panel_open.proofs.Texts.{told-steps, told-failed}
 use Rattle.panel_calls.specs.Panel.{Panel}
-use Rattle.panel_calls.specs.Lines.{Said}
+use Rattle.panel_lines.specs.Lines.{Said}
 use lib.Seq.{length-take-le}
 use native.Mathlib.Omega.{arith}
 use native.Mathlib.Nat.{mul-le-mul}

@@ -1,6 +1,7 @@
 -- `unopened`: an opening, or 22. Assumes nothing.
 use Rattle.panel_open.proofs.Texts.{told-failed}
 use Rattle.panel_session.proofs.Steps.{unopened-call}
+use Rattle.panel_frames.specs.Opening.{sheetIn}
 use Rattle.panel_calls.specs.Panel.{unopenedOf}
 use Rattle.panel_frames.specs.Reading.{sizeOf}
 use borrow.Author.Needs.{needs}
@@ -36,7 +37,7 @@ same-length-5 : tie.Need-same-length-5
 same-length-5 c = search needs
 
 returns : tie.Need-returns
-unfolding unopenedOf
+unfolding unopenedOf sheetIn
 returns c =
     let at-open-sheet = c .before .before .before .before .before .before .before .before .before in
     let at-frame = at-open-sheet .before .before .before .before .before .before .before in

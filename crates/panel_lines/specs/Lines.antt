@@ -1,5 +1,6 @@
 -- The lines of an input, and what a program prints that answers line by line: `step` is what one line does to a state. Definitions only. Assumes nothing.
-use Prim.Native.Nat.{ℕ}
+use mathlib.Core.Path.{_≡_}
+use Prim.Native.Nat.{ℕ, _%_, _^_}
 use mathlib.Core.Bool.{cond}
 use mathlib.Core.List.{List, [], _∷_, _++_}
 use lib.Dec.{ltb, eqb}
@@ -80,3 +81,24 @@ module _ {S : Type 0} (step : S → List ℕ → Said S) where
   -- all that is printed, where the input ends
   unfoldable pub finished : Fed S → List ℕ
   finished o = o .text ++ lastFed (o .state) (o .line)
+
+-- ---- in a loop of reads and writes. No contract can say which bytes a call of C reads or writes: what a read brought is what stands in the buffer
+-- after it, and of a write it is known how many bytes it took
+
+-- state and held line are those that a chunk leaves, and as many bytes were written as its text has
+pub record Answered {S : Type 0} (s : S) (line : List ℕ) (said : ℕ) (o : Fed S) : Type 0 where
+  pub state-is : s ≡ o .state
+  pub line-is : line ≡ o .line
+  pub said-is : said ≡ length (o .text)
+
+-- a count as 64 bits show it
+abbrev pub counted : ℕ → ℕ
+counted n = n % 2 ^ 64
+
+-- from state and held line s₀, l₀ to s, l: the reads brought the bytes `input`, which were fed, and as many bytes were written as the answers have
+pub record Heard {S : Type 0} (step : S → List ℕ → Said S) (s₀ : S) (l₀ : List ℕ) (s : S) (l : List ℕ) (heard said : ℕ) : Type 0 where
+  pub input : List ℕ
+  pub state-is : s ≡ chunkFed step s₀ l₀ input .state
+  pub line-is : l ≡ chunkFed step s₀ l₀ input .line
+  pub heard-is : heard ≡ counted (length input)
+  pub said-is : said ≡ counted (length (chunkFed step s₀ l₀ input .text))

@@ -1,14 +1,15 @@
 -- Chunks of any size: what is printed is what is printed for the lines of the whole input. Assumes nothing.
-use Prim.Native.Nat.{ℕ, _≤_, _<_}
+use Prim.Native.Nat.{ℕ, _+_, _≤_, _<_}
 use mathlib.Core.Path.{_≡_, refl, sym, ap, _∙_}
 use mathlib.Core.List.{List, [], _∷_, _++_, append-assoc, append-nil}
 use mathlib.Core.Bool.{Bool, true, false, cond}
+use native.Mathlib.Numerals.{add-one}
 use native.Mathlib.Omega.{arith}
-use borrow.Author.Tests.{ltb-true, ltb-false}
+use borrow.Author.Tests.{lt-ltb, le-ltb, ltb-true, ltb-false, ne-eqb}
 use lib.Dec.{ltb, eqb}
-use lib.ListN.{length, take, length-append}
-use lib.Seq.{take-all, take-append-le, length-take-le}
-use Rattle.panel_calls.specs.Lines.{lastLine, lastFed, finished, linesFrom, linesOf, Said, joined, answers, printed, Fed, fed, held, grown, saying, byteFed, chunkFed}
+use lib.ListN.{length, take, set, length-append}
+use lib.Seq.{take-all, take-append-le, length-take-le, take-suc-set}
+use Rattle.panel_lines.specs.Lines.{lastLine, lastFed, finished, linesFrom, linesOf, Said, joined, answers, printed, Fed, fed, held, grown, saying, byteFed, chunkFed}
 
 pub saying-nil : {S : Type 0} (o : Fed S) → saying [] o ≡ o
 unfolding saying
@@ -76,3 +77,22 @@ module _ {S : Type 0} (step : S → List ℕ → Said S) (clip : (s : S) (l : Li
   pub fed-printed : (s : S) (input : List ℕ) → finished step (chunkFed step s [] input) ≡ printed step s input
   unfolding printed linesOf
   fed-printed s input = fed-lines input s []
+
+-- ---- a byte that ends no line, with a text before it
+pub fed-eq : {S : Type 0} {s s′ : S} {l l′ t t′ : List ℕ} → s ≡ s′ → l ≡ l′ → t ≡ t′ → fed s l t ≡ fed s′ l′ t′
+fed-eq e f g = rw (e, f, g)
+
+module _ {S : Type 0} (step : S → List ℕ → Said S) (s : S) (line out : List ℕ) (len at b : ℕ) (n : length line ≡ held) (other : b ≡ 10 → ⊥) where
+  -- it is kept
+  pub byte-kept : len < held → fed s (take (len + 1) (set line len b)) (take at out) ≡ saying (take at out) (byteFed step s (take len line) b)
+  unfolding saying byteFed grown
+  byte-kept h =
+      let k : length (take len line) ≡ len = length-take-le len line (omega arith) in
+      rw (ne-eqb b 10 other, k, lt-ltb len held h) (fed-eq refl (rw (add-one len) (take-suc-set line len b (omega arith))) (sym (append-nil (take at out))))
+
+  -- or it is one too many
+  pub byte-skipped : len ≤ held → held ≤ len → fed s (take len line) (take at out) ≡ saying (take at out) (byteFed step s (take len line) b)
+  unfolding saying byteFed grown
+  byte-skipped h g =
+      let k : length (take len line) ≡ len = length-take-le len line (omega arith) in
+      rw (ne-eqb b 10 other, k, le-ltb len held g) (fed-eq refl refl (sym (append-nil (take at out))))

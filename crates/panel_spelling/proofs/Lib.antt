@@ -1,0 +1,9 @@
+pub mod Digits
+pub mod Openings
+pub mod Frames
+pub mod Labs
+pub mod Accepted
+pub mod EqualLines
+pub mod ReadBack
+pub mod Canonical
+pub mod Respelling

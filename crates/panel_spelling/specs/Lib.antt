@@ -1,0 +1,2 @@
+pub mod OneSpelling
+pub mod Library
