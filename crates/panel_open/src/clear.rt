@@ -1,17 +1,7 @@
-// Storage and journal set to zero, which an opening starts from.
+// LAB storage set to zero, which an opening starts from.
 ghost use mathlib.Core.Path.{_≡_};
 ghost use lib.ListN.{length, replicate};
 ghost use Rattle.color_doubles.specs.Arithmetic.{decimal};
-
-pub(crate) fn clear_bytes(out: &mut [u8])
-    ensures { λ _. ⌜ now (out .exit) ≡ replicate (length (now (out .entry))) 0 ⌝ }
-{
-    let mut i = 0;
-    while i < out.len() {
-        out[i] = 0;
-        i += 1;
-    }
-}
 
 pub(crate) fn clear_lab(out: &mut [f64])
     ensures { λ _. ⌜ now (out .exit) ≡ replicate (length (now (out .entry))) (decimal 0 1) ⌝ }

@@ -1,12 +1,12 @@
 // The opening frame.
 use crate::Core;
 use crate::Stepped;
-use crate::clear::clear_bytes;
 use crate::clear::clear_lab;
 use crate::text::number;
 use crate::text::whole;
 use base::BAD_SHEET;
 use base::MAX_ENTRIES;
+use edit_left::clear;
 use history::fresh;
 use panel_frames::MAX_OPEN;
 use panel_frames::take_bytes;
@@ -29,7 +29,7 @@ fn open_palette(bytes: &[u8], k: usize, palette: &mut [u8])
     ensures { λ _. ⌜ now (palette .exit) ≡ over (paletteIn k (now (bytes .entry))) (replicate storage 0) ⌝ }
 {
     let end = 6 + 3 * k;
-    clear_bytes(palette);
+    clear(palette);
     take_bytes(&bytes[6..end], palette);
 }
 
@@ -80,7 +80,7 @@ pub fn open_sheet(
     open_palette(bytes, k, palette);
     open_indices(bytes, 6 + 3 * k, n, indices);
     clear_lab(lab);
-    clear_bytes(journal);
+    clear(journal);
     let answer = sheet::new(w, h, k, palette, lab, &indices[..n]);
     let no = answer.number();
     if no != 0 {

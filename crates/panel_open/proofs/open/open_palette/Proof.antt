@@ -13,8 +13,8 @@ mul-end c = search needs
 add-end : tie.Need-add-end
 add-end c = search needs
 
-clear-bytes-requires : tie.Need-clear-bytes-requires
-clear-bytes-requires c κs = search needs
+clear-requires : tie.Need-clear-requires
+clear-requires c κs = search needs
 
 sub-take-bytes : tie.Need-sub-take-bytes
 sub-take-bytes c = search needs
@@ -27,9 +27,9 @@ part-take-bytes-end c = search needs
 
 take-bytes-requires : tie.Need-take-bytes-requires
 take-bytes-requires c κs =
-    let at-clear-bytes = c .before .before .before .before in
-    let start = at-clear-bytes .before .before .before .before in
-    simp (length-take, length-drop) (omega (arith, start .pre, at-clear-bytes .clear-bytes .kept .0))
+    let at-clear = c .before .before .before .before in
+    let start = at-clear .before .before .before .before in
+    simp (length-take, length-drop) (omega (arith, start .pre, at-clear .clear .kept .0))
 
 same-length : tie.Need-same-length
 same-length c = search needs
@@ -37,9 +37,9 @@ same-length c = search needs
 returns : tie.Need-returns
 returns c =
     let at-take-bytes = c .before .before in
-    let at-clear-bytes = at-take-bytes .before .before .before .before .before in
-    let start = at-clear-bytes .before .before .before .before in
-    palette-filled (start .args .bytes .now) (start .args .k) (6 + 3 * start .args .k - 6) (start .args .palette .now) _ _ (omega arith) (start .pre .2) (at-clear-bytes .clear-bytes .ensures) (at-take-bytes .take-bytes .ensures)
+    let at-clear = at-take-bytes .before .before .before .before .before in
+    let start = at-clear .before .before .before .before in
+    palette-filled (start .args .bytes .now) (start .args .k) (6 + 3 * start .args .k - 6) (start .args .palette .now) _ _ (omega arith) (start .pre .2) (at-clear .clear .ensures) (at-take-bytes .take-bytes .ensures)
 
 pub open-palette-spec : {M : Type 1} → statement M
 open-palette-spec =
@@ -47,7 +47,7 @@ open-palette-spec =
     (tie.spec
     mul-end
     add-end
-    clear-bytes-requires
+    clear-requires
     sub-take-bytes
     part-take-bytes-start
     part-take-bytes-end

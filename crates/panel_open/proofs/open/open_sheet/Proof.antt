@@ -81,8 +81,8 @@ open-indices-requires c κs =
 clear-lab-requires : tie.Need-clear-lab-requires
 clear-lab-requires c κs = search needs
 
-clear-bytes-requires : tie.Need-clear-bytes-requires
-clear-bytes-requires c κs = search needs
+clear-requires : tie.Need-clear-requires
+clear-requires c κs = search needs
 
 slice-reshare-prefix-new : tie.Need-slice-reshare-prefix-new
 slice-reshare-prefix-new c =
@@ -184,8 +184,8 @@ returns-5 c =
     let at-if4 = at-fresh .before in
     let at-number4 = at-if4 .before in
     let at-new = at-number4 .before .before .before in
-    let at-clear-bytes = at-new .before .before .before .before .before .before in
-    let at-clear-lab = at-clear-bytes .before .before .before .before in
+    let at-clear = at-new .before .before .before .before .before .before in
+    let at-clear-lab = at-clear .before .before .before .before in
     let at-open-indices = at-clear-lab .before .before .before in
     let at-open-palette = at-open-indices .before .before .before .before in
     let at-if2 = at-open-palette .before .before .before in
@@ -197,7 +197,7 @@ returns-5 c =
     let zero = sym (at-number4 .number4 .ensures) ∙ at-if4 .if4 .left in
     let done = open-done (a .w) (a .h) (a .k) (a .bytes .now) (at-if1 .if1 .left) (at-if2 .if2 .left) (at-new .new .result) _ made zero in
     let lab = lab-made (a .w) (a .h) (a .k) (a .bytes .now) (at-if1 .if1 .left) (at-if2 .if2 .left) (at-new .new .result) _ made zero in
-    let journal = rw (f .journal-length) at (at-clear-bytes .clear-bytes .ensures) in
+    let journal = rw (f .journal-length) at (at-clear .clear .ensures) in
     told-steps _ _ _ _ _ _ _ _ _ _ _ (at-whole .whole .ensures) (open-text (a .w) (a .h) (a .k) (a .bytes .now) _ _ _ _ _ (at-open-palette .open-palette .ensures) lab (at-open-indices .open-indices .ensures) journal (at-fresh .fresh .ensures) _ (at-if4 .if4 .left) ∙ sym (ap (λ (x : Said Panel). x .text) done)) (open-state (a .w) (a .h) (a .k) (a .bytes .now) _ _ _ _ _ (at-open-palette .open-palette .ensures) lab (at-open-indices .open-indices .ensures) journal (at-fresh .fresh .ensures) ∙ sym (ap (λ (x : Said Panel). x .state) done)) (omega (arith, mul-le-mul (at-if1 .if1 .left) (at-if2 .if2 .left)))
 
 pub open-sheet-spec : {M : Type 1} → statement M
@@ -219,7 +219,7 @@ open-sheet-spec =
     add-open-indices
     open-indices-requires
     clear-lab-requires
-    clear-bytes-requires
+    clear-requires
     slice-reshare-prefix-new
     slice-aggregate-new
     new-requires
