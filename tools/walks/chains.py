@@ -88,7 +88,7 @@ def Call(C, path, args, result, said, to=None, also=None, asked=None, why=None, 
 
 def Store(x, field):
     """*X = S.FIELD; where S is the result of the last call."""
-    return Step('store', x=x, field=field)
+    return Step('store', x=x, field=field, left=False)
 
 
 def Give(field):
@@ -125,6 +125,10 @@ class Arg:
 class Fn:
     """A function: its path, parameters, result, contract, statements, the proof `end` of the contract, what it asks,
     and text that stands `before` the calls and text of `laws` before the walk."""
+    loops = False
+    # what a walk takes of the tables of functions and loops
+    TABLES = {'bind': '(C : Calls 𝓤 H) (Λ : Loops 𝓤 H) → FmC 𝓤 H (W .laws) C', 'names': 'C Λ fm', 'C': 'C',
+              'both': 'C Λ', 'at': '(𝓣 .C) (𝓣 .Λ) (fmOf 𝓤 H (W .laws) 𝓣)'}
 
     def __init__(self, path, params, result, said, steps, end, fit=None, before=None, laws=None, story='', uses=()):
         self.path, self.params, self.result, self.said, self.steps = path.split('::'), params, result, said, steps
@@ -151,7 +155,16 @@ class Fn:
             return re.sub(r'(?<![\w-])%s(?![\w-])' % re.escape(old), new, text, count=1)
         first = copy.copy(self.calls[0])
         first.text, first.said = other(first.text), other(first.said)
-        steps = [first if s is self.calls[0] else copy.copy(s) for s in self.steps]
+        return self.with_steps([first if s is self.calls[0] else copy.copy(s) for s in self.steps])
+
+    def leaving(self, x):
+        """The same function, but what x points to is left as it was."""
+        steps = [copy.copy(s) for s in self.steps]
+        next(s for s in steps if s.op == 'store' and s.x == x).left = True
+        return self.with_steps(steps)
+
+    def with_steps(self, steps):
+        """The same function with other statements."""
         return Fn('::'.join(self.path), self.params, self.result, self.said, steps, self.end, self.fit, self.before,
                   self.laws, self.story, self.uses)
 
@@ -341,8 +354,9 @@ class Fn:
     def opening(self):
         """What becomes of each parameter, and the contracts of the callees."""
         out = ['abbrev stayed : Stays (f.ended .signature .params) (f.ended .kept)\nstayed = %s\n'
-               % tup([self.stays(p) for p in self.P]),
-               '-- the contract%s that the proof cites' % ('s' if len(self.calls) > 1 else '')]
+               % tup([self.stays(p) for p in self.P])]
+        if self.calls:
+            out.append('-- the contract%s that the proof cites' % ('s' if len(self.calls) > 1 else ''))
         for c in self.cited():
             out.append('abbrev %s : %s %s → Contract 𝓤\n%s 𝓤 H A mem run = tripleOf 𝓤 H A %s-f.signature (%s-f.spec 𝓤'
                        ' H A mem run)\n'
@@ -703,6 +717,10 @@ class Fn:
         return c, at, 'r%s .%s' % (c.sub, name), c.result.owed('r' + c.sub, 'is' + c.sub, at)
 
     def do_store(self, s):
+        if s.left:
+            self.w.note('%s is left as it was' % s.x)
+            self.stored[s.x] = (s.x, self.behind(s.x))
+            return
         c, at, value, proof = self.result_field(s.field)
         if not self.noted:
             self.w.note('what was returned is stored, and the borrows are closed; the answer is the result')
@@ -771,35 +789,35 @@ class Fn:
 
     def temporaries(self, c):
         """The temporaries of a call."""
-        w = self.w
         for i, a in enumerate(c.args):
-            how = 'init' if i in c.fresh else 'store'
-            if a.how == 'mut':
-                w.line('assigns ! (addr ! (from ! (stop !))) (from ! (stop !)) (init ! «_%d» refl (tt, tt)) $'
-                       % c.tmp[i])
-            elif a.array:
-                pointer, whole = c.tmp[i]
-                n, fits = ('lit ! tt', 'lit< tt') if a.how == 'array' else (load(self.local[a.count].i),
-                    self.local[a.count].proof)
-                w.line('assigns ! (addr ! (from ! (stop !))) (from ! (stop !)) (init ! «_%d» refl (tt, tt)) $'
-                       % pointer)
-                w.line('assigns ! (agg ! %s) (from ! (stop !)) (init ! «_%d» refl (tt, (tt, (record { fits = %s },'
-                       ' tt)))) $' % (operands([load(pointer), n]), whole, fits))
-            elif a.how == 'len':
-                self.assign(part(self.idx[a.x], 1), c.tmp[i], a.kind.typed(None, '%s-room .0' % a.x), how)
-            elif a.how == 'deref':
-                self.copied_out(a.x, c.tmp[i], how)
-            elif a.how == 'local' and i in c.tmp:
-                local = self.local[a.x]
-                proof = local.proof if isinstance(a.kind, Uint) else '(%s)' % local.proof
-                self.assign(load(local.i), c.tmp[i], a.kind.typed('(%s)' % local.value, proof), how)
-            elif i in c.tmp:
-                pointer, whole = c.tmp[i]
-                w.line('assigns ! (addr ! (from ! (fld ! refl (hop ! (look-in ! «_%d» (sub ! 0 refl (whole !))) (stop'
-                       ' !))))) (from ! (stop !)) (init ! «_%d» refl (tt, tt)) $'
-                       % (self.idx[a.x], pointer))
-                w.line('assigns ! (agg ! %s) (from ! (stop !)) (init ! «_%d» refl %s) $'
-                       % (operands([load(pointer), part(self.idx[a.x], 1)]), whole, self.typed(a.x)))
+            self.temporary(c, i, a)
+
+    def temporary(self, c, i, a):
+        """The temporary of one argument, if it has one."""
+        w, how = self.w, 'init' if i in c.fresh else 'store'
+        if a.how == 'mut':
+            w.line('assigns ! (addr ! (from ! (stop !))) (from ! (stop !)) (init ! «_%d» refl (tt, tt)) $' % c.tmp[i])
+        elif a.array:
+            pointer, whole = c.tmp[i]
+            n, fits = ('lit ! tt', 'lit< tt') if a.how == 'array' else (load(self.local[a.count].i),
+                self.local[a.count].proof)
+            w.line('assigns ! (addr ! (from ! (stop !))) (from ! (stop !)) (init ! «_%d» refl (tt, tt)) $' % pointer)
+            w.line('assigns ! (agg ! %s) (from ! (stop !)) (init ! «_%d» refl (tt, (tt, (record { fits = %s }, tt)))) $'
+                   % (operands([load(pointer), n]), whole, fits))
+        elif a.how == 'len':
+            self.assign(part(self.idx[a.x], 1), c.tmp[i], a.kind.typed(None, '%s-room .0' % a.x), how)
+        elif a.how == 'deref':
+            self.copied_out(a.x, c.tmp[i], how)
+        elif a.how == 'local' and i in c.tmp:
+            local = self.local[a.x]
+            proof = local.proof if isinstance(a.kind, Uint) else '(%s)' % local.proof
+            self.assign(load(local.i), c.tmp[i], a.kind.typed('(%s)' % local.value, proof), how)
+        elif i in c.tmp:
+            pointer, whole = c.tmp[i]
+            w.line('assigns ! (addr ! (from ! (fld ! refl (hop ! (look-in ! «_%d» (sub ! 0 refl (whole !))) (stop !)))))'
+                   ' (from ! (stop !)) (init ! «_%d» refl (tt, tt)) $' % (self.idx[a.x], pointer))
+            w.line('assigns ! (agg ! %s) (from ! (stop !)) (init ! «_%d» refl %s) $'
+                   % (operands([load(pointer), part(self.idx[a.x], 1)]), whole, self.typed(a.x)))
 
     def operand(self, c, i, a):
         """Argument i, as the machine has it."""
@@ -940,6 +958,10 @@ class Fn:
                 proofs.append('(%s)' % self.behind(a.x))
         return values, proofs
 
+    def why(self, c):
+        """The proof of what a call asks."""
+        return c.why
+
     def reach(self, c):
         """The call's precondition, from what is in the context."""
         w, m, slices = self.w, c.sub, [a for a in c.args if a.slice]
@@ -947,7 +969,7 @@ class Fn:
         c.values = ''.join(' ' + v for v in values)
         to, passed = ('(to%s%s)' % (m, c.values), '(passed%s%s)' % (m, c.values)) if values else ('to' + m, 'passed'
             + m)
-        goes = 'goes%s%s%s%s' % (m, c.values, ''.join(' ' + p for p in proofs), ' (%s)' % c.why if c.asked else '')
+        goes = 'goes%s%s%s%s' % (m, c.values, ''.join(' ' + p for p in proofs), ' (%s)' % self.why(c) if c.asked else '')
         names = [('n' if a.lends else 'k') + a.x for a in slices]
         names += [{'lend': 'e', 'share': 'e', 'mut': 'e', 'array': 'e', 'front': 'e', 'give': 'o', 'copy': 'copy'}[a.how] + a.x
                   for a in slices]
@@ -998,6 +1020,10 @@ class Fn:
         w.ctx[w.ctx.index('lasts')] = 'junk-l%d' % c.m
         return values
 
+    def landing(self, c):
+        """How the local of a result gets it: it is room until then."""
+        return 'init'
+
     def land(self, c):
         """The result is stored in its local."""
         w, m, k = self.w, c.sub, c.result
@@ -1015,9 +1041,9 @@ class Fn:
         typed, equation = k.lands('r' + m, 'is' + m)
         w.line(w.pull('ores') + 'peeks ! %s (Is %s) (shows 𝓤 H A %s) r%s (v%s ∷ []) (λ is%s.' % (k.row, k.row, k.row, m,
             m, m))
-        w.line('land ! (from ! (stop !)) (init ! «_%d» refl (%s)) $ rewrite ! «_%d» (λ (u : Val). ‵ (fat fullShare %s'
+        w.line('land ! (from ! (stop !)) (%s ! «_%d» refl (%s)) $ rewrite ! «_%d» (λ (u : Val). ‵ (fat fullShare %s'
                ' l%s 0 u)) (ap only %s) refl $ drop ! $'
-               % (i, typed, i, k.mir, sub(i), equation))
+               % (self.landing(c), i, typed, i, k.mir, sub(i), equation))
         w.ctx.remove('ores')
 
     def land_array(self, c, i):
@@ -1098,17 +1124,19 @@ class Fn:
         n, cited = self.name.replace('_', '-'), self.cited()
         known = ''.join(' known-' + c.C for c in cited)
 
+        t = self.TABLES
+
         def triples(C):
             return ''.join('Triple 𝓤 (%s %s) (%s 𝓤 H A mem run) → ' % (C, self.symbol(c.path), c.C) for c in cited)
-        walk = '(walk 𝓤 H A W mem run %s C Λ fm%s)' % (self.entry(), known)
+        walk = '(walk 𝓤 H A W mem run %s %s%s)' % (self.entry(), t['names'], known)
         via = ('needs 𝓤 _ _ (λ fit.', walk + '))') if self.fit else ('via 𝓤 _ (fst∗ 𝓤 _ (emp 𝓤))', walk + ')')
-        uses = '\n'.join('    (cited 𝓤 H (%s 𝓤 H (𝓖 .A) (𝓜 .mem) (𝓡 .run)) 𝓜 𝓡 code.env %s %s-def.routine code.calls-%s'
+        uses = ''.join('\n    (cited 𝓤 H (%s 𝓤 H (𝓖 .A) (𝓜 .mem) (𝓡 .run)) 𝓜 𝓡 code.env %s %s-def.routine code.calls-%s'
                          ' (%s-thm.met 𝓤 H 𝓜 𝓖 𝓡))'
                          % (c.C, self.symbol(c.path), c.C, self.symbol(c.path)[1:].replace('_', '-'), c.C)
                          for c in cited)
         return '''module _ {ghost} (W : Given 𝓤 H A) {run} where
-  {n}-walks : (C : Calls 𝓤 H) (Λ : Loops 𝓤 H) → FmC 𝓤 H (W .laws) C → {here}Walks 𝓤 H A f.ended stayed (WpFn 𝓤 H C Λ code.function) (f.clauses 𝓤 H A mem run)
-  {n}-walks C Λ fm{known} = walked 𝓤 H A f.ended stayed (f.clauses 𝓤 H A mem run) (WpFn 𝓤 H C Λ code.function)
+  {n}-walks : {bind} → {here}Walks 𝓤 H A f.ended stayed (WpFn 𝓤 H {both} code.function) (f.clauses 𝓤 H A mem run)
+  {n}-walks {names}{known} = walked 𝓤 H A f.ended stayed (f.clauses 𝓤 H A mem run) (WpFn 𝓤 H {both} code.function)
       (λ κs. {vals}) (λ κs. {tells})
       (λ κs qs bounds a g are. {via}
       {walk}
@@ -1116,16 +1144,16 @@ class Fn:
 {n}-meets : {ghost} → Given 𝓤 H A → {run} (𝓣 : Tables 𝓤 H) → {there}Meets 𝓤 H A f.signature (WpFn 𝓤 H (𝓣 .C) (𝓣 .Λ) code.function) (f.spec 𝓤 H A mem run)
 {n}-meets 𝓤 H A W mem run 𝓣{known} =
     walk-meets 𝓤 H A f.ended stayed W {goes} (f.clauses 𝓤 H A mem run)
-    (WpFn 𝓤 H (𝓣 .C) (𝓣 .Λ) code.function) (WpFn-mono 𝓤 H (W .laws) 𝓣 code.function) ({n}-walks 𝓤 H A W mem run (𝓣 .C) (𝓣 .Λ) (fmOf 𝓤 H (W .laws) 𝓣){known})
+    (WpFn 𝓤 H (𝓣 .C) (𝓣 .Λ) code.function) (WpFn-mono 𝓤 H (W .laws) 𝓣 code.function) ({n}-walks 𝓤 H A W mem run {at}{known})
 
 pub {n}-spec : {{M : Type 1}} → stated.statement M
 unfolding code.routine tablesOf
 {n}-spec 𝓤 H 𝓜 𝓖 𝓡 =
     entered 𝓤 H (tripleOf 𝓤 H (𝓖 .A) f.signature (f.spec 𝓤 H (𝓖 .A) (𝓜 .mem) (𝓡 .run)))
     (tables 𝓤 H 𝓜 𝓡 code.env .C) (tables 𝓤 H 𝓜 𝓡 code.env .Λ) {key} code.function (code.unfolded 𝓤 H 𝓜 𝓡)
-    ({n}-meets 𝓤 H (𝓖 .A) (given-of 𝓤 H 𝓜 𝓖) (𝓜 .mem) (𝓡 .run) (tablesOf 𝓤 H 𝓜 (tables 𝓤 H 𝓜 𝓡 code.env))
-{uses})
-'''.format(ghost=GHOST, run=RUN, n=n, known=known, here=triples('C'), there=triples('𝓣 .C'), via=via[0], walk=via[1],
+    ({n}-meets 𝓤 H (𝓖 .A) (given-of 𝓤 H 𝓜 𝓖) (𝓜 .mem) (𝓡 .run) (tablesOf 𝓤 H 𝓜 (tables 𝓤 H 𝓜 𝓡 code.env)){uses})
+'''.format(ghost=GHOST, run=RUN, n=n, known=known, here=triples(t['C']), there=triples('𝓣 .C'), via=via[0], walk=via[1],
            uses=uses,
            vals=tup([self.spelt(p)[0] for p in self.P]), tells=tup([self.spelt(p)[1] for p in self.P]),
-           goes=tup([self.goes(p) for p in self.P]), key=self.symbol(self.path))
+           goes=tup([self.goes(p) for p in self.P]), key=self.symbol(self.path), bind=t['bind'], both=t['both'],
+           names=t['names'], at=t['at'])

@@ -4,6 +4,7 @@ A new parameter of a function is one entry in its list of parameters, one in the
 and its type in TYPES if no other function has it. Contracts are the text of `requires` and `ensures` in src/, without
 `now`."""
 from chains import Call, Deref, Field, Fn, Give, Len, Let, Return, Store, last
+from loops import Acc, Loop
 from kinds import Array, Bool, Enum, MutRef, MutSlice, ShrSlice, Sint, Struct, Uint, Unit
 
 USIZE = Uint('usize')
@@ -14,10 +15,10 @@ MOVED, REPLAYED, MARKED, HANDLE = map(Struct, ['Moved', 'Replayed', 'Marked', 'H
 # what a parameter is, or what it is a slice of, by its name; another type is written behind the name
 TYPES = {
     # the sheet
-    'w': 'usize', 'h': 'usize', 'k': 'usize', 'palette': 'u8', 'lab': 'f64', 'indices': 'i16',
+    'n': 'usize', 'w': 'usize', 'h': 'usize', 'k': 'usize', 'palette': 'u8', 'lab': 'f64', 'indices': 'i16',
     # an edit and the history
-    'no': 'u8', 'edit': Enum('Edit'), 'limited': Bool(), 'permitted': 'u8', 'list': 'Change', 'journal': 'u8',
-    'handle': Struct('Handle'), 'marks': 'u8',
+    'no': 'u8', 'edit': Enum('Edit'), 'kind': Enum('ListKind'), 'replay': Bool(), 'limited': Bool(), 'permitted': 'u8',
+    'list': 'Change', 'journal': 'u8', 'offset': 'usize', 'handle': Struct('Handle'), 'marks': 'u8',
     # the tools
     'area': Enum('Area'), 's': Struct('Selection'), 'points': 'i32', 'size': 'usize', 'index': 'i16', 'filled': Bool(),
     'ax': 'i32', 'ay': 'i32', 'bx': 'i32', 'b-y': 'i32', 'x': 'i32', 'y': 'i32', 'dx': 'i32', 'dy': 'i32',
@@ -67,33 +68,122 @@ base specs Checks orElse firstOf
 color_lab specs Convert labOf
 sheet specs Sheet sheetOf
 edit specs Change as flat
-edit specs Checks permittedOf
-edit specs Apply noPixels redone
+edit specs List listOf emptyPixels
+edit specs Checks permittedOf leftChecks
+edit specs Apply redone restDone
 edit_pixels specs Inside bare
-edit_head specs Apart leftChecks MarksFor Finishable
-edit_apply specs Redoable Redoable
+edit_checks specs Marks Checkable MarksFor
+edit_list specs Paintable Paintable
+edit_apply specs Redoable Redoable Finishable
+journal_write specs List Puttable
 struct_change specs Struct packedOf
-struct_edit specs Walk packedAll flatAll putUpto paintUpto checkUpto markUpto AllPuttable AllPaintable Checkable
-struct_edit proofs Told told-length
+struct_edit specs Walk packedAll flatAll walkedOf putUpto paintUpto checkUpto markUpto
 history_ledger specs Journal pushOf pushed undoOf redoOf markOf
 history_ledger specs Calls Outcome
 history_model specs Editing givenOf editing
 history_model specs Calls stateOf leaves Standing Acceptable outcomeOf
 history_model specs Replay replayChecks replayed replayOf
 history_model proofs ReplayChecks redoable
+history_push_checks specs Steps isStill Begun PushNumbered pushedOr fullNumber
+history_push specs Finish finished Finishes
+history_push proofs Pushed push-is
 struct_push specs Lent leavesLent
-struct_steps specs Phases ReplayBegun Begun PushNumbered pushedOr doneOr nonePut finished Finishes fullNumber
-struct_steps proofs Replaying opened-checkable checked-checkable checked-marks replay-number
-struct_steps proofs Replaying done-either redoable-paints redoable-finishes replay-is
-struct_push_checks proofs PushSteps begun-checkable settle-checkable settle-short settle-marks push-number
-struct_push proofs Carrying carry-puts carry-paints carry-finishes carried
-struct_push proofs Pushed push-is
 ''')
 FUNCTIONS = []
 
 
 def function(path, params, result, said, steps, end, **more):
     FUNCTIONS.append(Fn(path, params, result, said, steps, end, **more))
+
+
+def loop(path, params, result, said, **more):
+    FUNCTIONS.append(Loop(path, params, result, said, **more))
+
+
+# ---- lists packed, unpacked, copied and judged
+SLICES = words('''
+base specs Lists over some_as_some-of
+edit specs Change outside unpacked
+struct_change specs Struct packedOf structOf
+struct_change proofs Loops none packs packs-over unpacks Unpacked unpacked-none unpacked-next copies copies-over
+struct_change proofs Loops offUpto off-all
+struct_change proofs While tests
+''')
+BOTH = '(n ≤ length %s) × (n ≤ length %s)'
+loop('struct_change::slices::pack', parameters('&[list], n, &mut [flat]'), Unit(),
+     'flat′ ≡ over (take n (map packedOf list)) flat', list='list', count='n', index='i', out='flat',
+     turn=Call('Packing', 'struct_change::packed', 'list[i]', Uint('u64'), 'r ≡ packedOf each'),
+     after={'flat': 'packs list flat i'},
+     end='ap (packs list flat) done ∙ packs-over list flat n (fit .0) (fit .1)',
+     fit=BOTH % ('list', 'flat'), uses=SLICES, story='Each change is packed, and the number stored.')
+loop('struct_change::slices::unpack', parameters('&[flat], n, &mut [out]'), Unit(),
+     'map packedOf out′ ≡ over (take n flat) (map packedOf out)', list='flat', count='n', index='filled', out='out',
+     turn=Call('Unpacking', 'struct_change::unpacked', 'flat[filled]', Struct('Change'), 'r ≡ structOf each'),
+     after={'out': 'unpacks flat out i'},
+     also=('Unpacked flat out i', 'unpacked-none flat out', 'unpacked-next flat out (turn .0) (within less)'
+           ' (lt-of-lt-of-le (below less) (fit .1)) each-fits (also turn)'),
+     end='also ∙ ap (λ (m : ℕ). over (take m flat) (map packedOf out)) done',
+     fit=BOTH % ('flat', 'out'), uses=SLICES, story='Each number is unpacked, and the change stored.')
+loop('struct_change::slices::copy_front', parameters('&[list], n, &mut [out]'), Unit(),
+     'map packedOf out′ ≡ over (take n (map packedOf list)) (map packedOf out)', list='list', count='n', index='copied',
+     out='out', after={'out': 'copies list out i'},
+     end='ap (λ (m : ℕ). map packedOf (copies list out m)) done ∙ copies-over list out n (fit .0) (fit .1)',
+     fit=BOTH % ('list', 'out'), uses=SLICES, story='Each change is copied.')
+loop('struct_change::slices::any_outside', parameters('w, h, &[list], n'), Bool(),
+     'r ≡ some-of (outside w h) (map unpacked (take n (map packedOf list)))', list='list', count='n', index='i',
+     acc=Acc('off', Bool(), 'false'),
+     turn=Call('Judging', 'struct_change::slices::or_outside', 'off, w, h, list[i]', Bool(),
+               'r ≡ off || outside w h (unpacked (packedOf each))', to='off'),
+     after={'off': 'offUpto w h list i'}, end='ap (offUpto w h list) done ∙ off-all w h list n fit', within='fit',
+     fit='n ≤ length list', uses=SLICES, story='Each change is judged.')
+
+# ---- an edit's list checked, written and painted
+LISTED = words('''
+base specs Checks firstOf
+edit specs List paintedList
+edit specs Checks changeChecks
+edit_pixels specs Inside bare
+edit_checks specs Marks Checkable
+edit_list specs Paintable Paintable
+journal_write specs List Puttable
+struct_edit specs Walk flatOf flatAll none markOne checkUpto markUpto putOne putUpto PutsOne paintUpto
+struct_edit proofs Checking checkable-at checked-next stopped
+struct_edit proofs Putting puttable-at
+struct_edit proofs Painting paintable-at
+struct_change proofs While tests
+''')
+CHECKS = 'no replay (bare w h k indices) kind list'
+loop('struct_edit::check_list', parameters('no, kind, replay, w, h, k, &[indices], &mut [marks], &[list], n'), Uint('u8'),
+     '(r ≡ checkUpto {0} n) × (marks′ ≡ markUpto {0} marks n)'.format(CHECKS), list='list', count='n', index='checked',
+     acc=Acc('code', Uint('u8'), 'no', while_zero=True),
+     turn=Call('One', 'struct_edit::check_one', 'kind, replay, w, h, k, indices, lend marks, list[checked]', Uint('u8'),
+               '(r ≡ firstOf (changeChecks replay (bare w h k indices) kind (flatOf each))) × (marks′ ≡ markOne r kind w'
+               ' (flatOf each) marks-now)', to='code', asked='Checkable kind w h (length indices) (length marks-now)',
+               why='checkable-at %s i zero marks-kept (fit .1)' % CHECKS),
+     after={'code': 'checkUpto %s i' % CHECKS, 'marks': 'markUpto %s marks i' % CHECKS},
+     step='checked-next %s marks i zero e' % CHECKS, end='stopped %s marks i n upto done' % CHECKS,
+     fit='(n ≤ length list) × (no ≡ 0 → Checkable kind w h (length indices) (length marks))', uses=LISTED,
+     story='The marks are lent to each check; the loop stops at the first that applies.')
+loop('struct_edit::put_list', parameters('kind, &mut [journal], offset, &[indices], w, &[list], n'), Unit(),
+     'journal′ ≡ putUpto kind offset w indices list journal n', list='list', count='n', index='i',
+     turn=Call('One', 'struct_edit::put_one', 'kind, lend journal, offset, i, indices, w, list[i]', Unit(),
+               'journal′ ≡ putOne kind offset i w indices (flatOf each) journal-now',
+               asked='PutsOne kind offset (length journal-now) i w (length indices) (flatOf each)',
+               why='puttable-at kind list i offset w (length indices) (lt-of-lt-of-le below (fit .0)) journal-kept (fit'
+               ' .1 (lt-of-le-of-lt zero-le below))'),
+     after={'journal': 'putUpto kind offset w indices list journal i'}, end='ap journal-at done',
+     fit='(n ≤ length list) × (0 < n → Puttable kind w (length indices) (length journal - offset) (flatAll list))',
+     uses=LISTED, story='The journal is lent to the writing of each change.')
+loop('struct_edit::paint_list', parameters('kind, &mut [indices], w, &[list], n'), Unit(),
+     'indices′ ≡ paintUpto kind w list indices n', list='list', count='n', index='painted',
+     turn=Call('One', 'struct_edit::paint_one', 'kind, lend indices, w, list[painted]', Unit(),
+               'indices′ ≡ paintedList kind w (flatOf each ∷ []) indices-now',
+               asked='Paintable kind w (length indices-now) (flatOf each ∷ [])',
+               why='paintable-at kind list i w (lt-of-lt-of-le below (fit .0)) indices-kept (fit .1 (lt-of-le-of-lt'
+               ' zero-le below))'),
+     after={'indices': 'paintUpto kind w list indices i'}, end='ap indices-at done',
+     fit='(n ≤ length list) × (0 < n → Paintable kind w (length indices) (flatAll list))', uses=LISTED,
+     story='The indices are lent to the painting of each change.')
 
 
 # ---- the tools: the core leaves its list in the scratch, and the list is unpacked into out
@@ -408,59 +498,74 @@ function('struct_history::moving::mark_saved', parameters('&[journal], &mut hand
          ' returned is stored, and the borrow is closed at it.')
 
 # ---- `replay`
-REPLAYED_AS = 'replayed (r .answer) (sheetOf w h (r .k) palette′ lab′ indices′) ≡ doneOr %s %s (redone labOf %s edit %s)'
+REPLAYED_AS = 'replayed (r .answer) (sheetOf w h (r .k) palette′ lab′ indices′) ≡ doneOr %s %s %s'
+REDONE = '(redone labOf %s edit (flatAll list))'
+REPLAY_WORDS = STATE_WORDS + words('''
+edit_apply proofs Redoing redoable-finishes
+history_replay specs Steps ReplayBegun doneOr
+history_replay proofs Replaying replay-is
+struct_edit proofs Told told-length
+struct_replay proofs Listed list-asks left-asks numbered paints-ask redone-list
+''')
 PERMITTED = '(permittedOf limited permitted)'
 NAMED_SHEET = parameters('no, w, k, &mut [palette], &mut [lab], &mut [indices], edit, &[list]')
 
 
+def kind_of():
+    return Call('Kind', 'edit::list_of', 'edit', Enum('ListKind'), 'r ≡ listOf edit', to='kind')
+
+
+def walked():
+    """How many changes are written and painted."""
+    return Call('Walked', 'struct_edit::walked', 'no, n', USIZE, 'r ≡ walkedOf no n', to='m')
+
+
 def painting(why):
-    return Call('Painting', 'struct_edit::paint_list', 'no, edit, lend indices, w, list', Unit(),
-                'indices′ ≡ paintUpto no edit w list indices-now (length list)',
-                asked='no ≡ 0 → AllPaintable edit w (length indices-now) (flatAll list)', why='λ z. ' + why)
+    """The loop that paints the list."""
+    return Call('Painting', 'struct_edit::paint_list', 'kind, lend indices, w, list, m', Unit(),
+                'indices′ ≡ paintUpto kind w list indices-now m',
+                asked='(m ≤ length list) × (0 < m → Paintable kind w (length indices-now) (flatAll list))', why=why)
 
 
-def checking(first, changes, why):
-    """The loop over the list: `changes` says whether the olds are compared."""
-    bare = '(bare w h k indices)'
-    return Call('Checking', 'struct_edit::check_list', '%s, edit, %s, w, h, k, indices, lend marks, list'
-                % (first, changes), Uint('u8'),
-                '(r ≡ checkUpto {0} {1} {2} edit list (length list)) × (marks′ ≡ markUpto {0} {1} {2} edit list'
-                ' marks-now (length list))'
-                .format(first, changes, bare), to='checked', asked='%s ≡ 0 → Checkable edit w h (length indices)'
-                ' (length marks-now)' % first, why=why)
+def checking(first, replay, why):
+    """The loop over the list: on `replay` the olds are compared."""
+    checks = '%s %s (bare w h k indices) kind list' % (first, replay)
+    return Call('Checking', 'struct_edit::check_list', '%s, kind, %s, w, h, k, indices, lend marks, list, n'
+                % (first, replay), Uint('u8'),
+                '(r ≡ checkUpto {0} n) × (marks′ ≡ markUpto {0} marks-now n)'.format(checks), to='checked',
+                asked='(n ≤ length list) × (%s ≡ 0 → Checkable kind w h (length indices) (length marks-now))' % first,
+                why=why)
 
 
 function('struct_replay::op::redo_list', NAMED_SHEET, REPLAYED, '(h : ℕ) → ' + REPLAYED_AS
-         % ('no', S, S, '(flatAll list)'),
-         [painting('redoable-paints edit (flatAll list) (fit z)'),
-          Call('Finishing', 'struct_steps::finish_replay', 'no, k, give palette, give lab, give indices, edit',
-               REPLAYED,
-               '(w h : ℕ) → ' + REPLAYED_AS % ('no', sheet('-now'), sheet('-now'), '[]'), to='',
-               asked='no ≡ 0 → Finishable k (length palette-now) (length lab-now) edit',
-               why='λ z. redoable-finishes edit (flatAll list) (fit z)')],
-         'λ (h : ℕ). e₂ w h ∙ done-either w h k palette lab indices edit list no %s e₁' % last(1, 2),
-         fit='no ≡ 0 → Redoable w k palette lab indices edit (flatAll list)', uses=STATE_WORDS,
+         % ('no', S, REDONE % S),
+         [Len('n', 'list'), kind_of(), walked(),
+          painting('paints-ask w k palette lab indices edit list r₁ e₁ no r₂ e₂ fit'),
+          Call('Finishing', 'history_replay::finish_replay', 'no, k, give palette, give lab, give indices, edit',
+               REPLAYED, '(w h : ℕ) → ' + REPLAYED_AS % ('no', sheet('-now'), '(restDone labOf %s edit)' % sheet('-now')),
+               to='', asked='no ≡ 0 → Finishable k (length palette-now) (length lab-now) edit',
+               why='λ z. redoable-finishes edit (fit z)')],
+         'λ (h : ℕ). e₄ w h ∙ redone-list w k palette lab indices edit list r₁ e₁ no r₂ e₂ h %s e₃' % last(3, 1),
+         fit='no ≡ 0 → Redoable w k palette lab indices edit (flatAll list)', uses=REPLAY_WORDS,
          story='The indices are lent to the loop, and then the storage is given to the last step.')
 
-ALL = '(length marks) w h k palette lab indices %s edit list' % PERMITTED
-OPENED = 'r₁ %s (e₁ (flatAll list) (told-length list)) l₁-marks' % last(1, 10)
+ALL = ('(length marks) w h k palette lab indices %s edit list r₁ e₁ r₂ %s (e₂ (flatAll list) (told-length list))'
+       % (PERMITTED, last(2, 10)))
 function('struct_replay::op::replay_no', parameters(SHEET, EDIT, '&mut [marks]'), Uint('u8'),
          'r ≡ firstOf (replayChecks (length marks) %s %s edit (flatAll list))' % (S, PERMITTED),
-         [Len('n', 'list'),
-          Call('Opening', 'struct_steps::open_replay', 'w, h, k, palette, lab, indices, limited, permitted, edit,'
+         [Len('n', 'list'), kind_of(),
+          Call('Opening', 'history_replay::open_replay', 'w, h, k, palette, lab, indices, limited, permitted, edit,'
                ' n, lend marks', Uint('u8'),
                '(cs : List flat.Change) → length cs ≡ n → ReplayBegun (length marks-now) %s %s edit cs r marks′'
                % (S, PERMITTED), to='opened'),
-          checking('opened', 'true', 'opened-checkable %s %s (length %s) (l₁-marks)' % (ALL, OPENED, last(1, 10))),
-          Call('Leaving', 'struct_steps::left_after', 'checked, edit, w, h, indices, share marks', Uint('u8'),
-               '(cs : List flat.Change) → (checked ≡ 0 → MarksFor edit w (w * h) cs marks-now) → r ≡ orElse checked'
-               ' (firstOf (leftChecks (bare w h 0 indices) edit cs))', to='',
-               asked='checked ≡ 0 → Checkable edit w h (length indices) (length marks-now)',
-               why='checked-checkable %s %s (length %s) r₂ (l₂-marks ∙ l₁-marks) (e₂ .0)' % (ALL, OPENED, last(2, 7)))],
-         'replay-number {0} {1} r₂ r₃ (e₂ .0) (e₃ (flatAll list) (λ z. rw (e₂ .1) (checked-marks {0} {1} r₂ (e₂ .0)'
-         ' z)))'
-         .format(ALL, OPENED),
-         uses=STATE_WORDS, story='The marks are lent to each step.')
+          checking('opened', 'true', 'list-asks %s (length %s) (l₂-marks)' % (ALL, last(2, 10))),
+          Call('Leaving', 'history_replay::left_after', 'checked, edit, w, h, indices, share marks', Uint('u8'),
+               '(cs : List flat.Change) → (checked ≡ 0 → MarksFor (listOf edit) w (w * h) cs marks-now) → r ≡ orElse'
+               ' checked (firstOf (leftChecks (bare w h 0 indices) (listOf edit) cs))', to='',
+               asked='checked ≡ 0 → Checkable (listOf edit) w h (length indices) (length marks-now)',
+               why='left-asks {0} r₃ {1} e₃ (length {1}) (l₃-marks ∙ l₂-marks)'.format(ALL, last(3, 7)))],
+         'numbered %s r₃ %s e₃ l₂-marks r₄ e₄' % (ALL, last(3, 7)),
+         uses=REPLAY_WORDS, story='The marks are lent to each step.')
 
 function('struct_replay::op::replay', parameters(LENT_SHEET, EDIT, '&mut [scratch: u8]'), ANSWER,
          '(replayed r (sheetOf w h k′ palette′ lab′ indices′) ≡ replayOf (length scratch) %s %s edit (flatAll list)) ×'
@@ -474,69 +579,72 @@ function('struct_replay::op::replay', parameters(LENT_SHEET, EDIT, '&mut [scratc
                to='number'),
           Call('Redoing', 'struct_replay::op::redo_list', 'number, w, count, give palette, give lab, give indices,'
                ' edit, list', REPLAYED,
-               '(h : ℕ) → ' + REPLAYED_AS % ('number', COUNT, COUNT, '(flatAll list)'), to='s',
+               '(h : ℕ) → ' + REPLAYED_AS % ('number', COUNT, REDONE % COUNT), to='s',
                asked='number ≡ 0 → Redoable w count palette-now lab-now indices-now edit (flatAll list)',
                why='λ z. redoable (length scratch) w h k palette lab indices %s edit (flatAll list) (sym e₁ ∙ z)'
                % PERMITTED),
           Store('k', 'k'), Give('answer')],
          '(e₂ h ∙ replay-is (length scratch) %s %s edit (flatAll list) r₁ e₁, l₁-scratch)' % (S, PERMITTED),
-         uses=STATE_WORDS,
+         uses=REPLAY_WORDS,
          story="The palette count's borrow is opened and the count copied out; the sheet is lent as `&` for its"
          " checks and then given.")
 
 # ---- `push`
-ALL = '(length marks) w h k palette lab indices journal handle limited permitted edit list'
-BEGUN = 'r₁ %s (e₁ (packedAll list) (length-map list packedOf)) l₁-marks' % last(1, 12)
+PUSH_WORDS = STATE_WORDS + words('''
+struct_push_checks proofs Listed list-asks settle-asks numbered
+struct_push proofs Carrying puts-ask paints-ask finish-asks carried-out
+''')
+ALL = ('(length marks) w h k palette lab indices journal handle limited permitted edit list r₁ e₁ r₂ %s (e₂ (packedAll list)'
+       ' (length-map list packedOf))' % last(2, 12))
 function('struct_push_checks::push_no', parameters(SHEET, EDIT, '&[journal], handle, &mut [marks]'), Uint('u8'),
          'PushNumbered (length marks) %s %s r' % (STATE, GIVEN),
-         [Len('n', 'list'), Len('size', 'journal'), Field('offset', 'handle', 'offset'),
-          Call('Beginning', 'struct_push_checks::begin', 'w, h, k, palette, lab, indices, limited, permitted, edit, n,'
+         [Len('n', 'list'), Len('size', 'journal'), Field('offset', 'handle', 'offset'), kind_of(),
+          Call('Beginning', 'history_push_checks::begin', 'w, h, k, palette, lab, indices, limited, permitted, edit, n,'
                ' journal, handle, lend marks',
                Uint('u8'), '(ns : List ℕ) → length ns ≡ n → Begun (length marks-now) %s (givenOf limited permitted edit'
                ' ns) r marks′' % STATE, to='begun'),
-          checking('begun', 'false', 'begun-checkable %s %s (length %s) (l₁-marks)' % (ALL, BEGUN, last(1, 12))),
-          Call('Settling', 'struct_push_checks::settle', 'checked, edit, n, w, h, indices, share marks, size, offset',
+          checking('begun', 'false', 'list-asks %s (length %s) (l₂-marks)' % (ALL, last(2, 12))),
+          Call('Settling', 'history_push_checks::settle', 'checked, edit, n, w, h, indices, share marks, size, offset',
                Uint('u8'),
-               '(cs : List flat.Change) → (checked ≡ 0 → MarksFor edit w (w * h) cs marks-now) → r ≡ orElse (orElse'
-               ' checked (firstOf (leftChecks (bare w h 0 indices) edit cs))) (fullNumber offset edit n size)', to='',
-               asked='(checked ≡ 0 → Checkable edit w h (length indices) (length marks-now)) × (checked ≡ 0 → (n ≤'
-               ' maxChanges) × (offset ≤ maxJournal))',
-               why='settle-checkable {0} {1} (length {2}) r₂ (l₂-marks ∙ l₁-marks) (e₂ .0), settle-short {0} {1} r₂ (e₂'
-               ' .0)'
-               .format(ALL, BEGUN, last(2, 7)))],
-         'push-number {0} {1} r₂ r₃ (e₂ .0) (e₃ (flatAll list) (λ z. rw (e₂ .1) (settle-marks {0} {1} r₂ (e₂ .0) z)))'
-         .format(ALL, BEGUN),
-         uses=STATE_WORDS, story='The marks are lent to each step.')
+               '(cs : List flat.Change) → (checked ≡ 0 → MarksFor (listOf edit) w (w * h) cs marks-now) → r ≡ orElse'
+               ' (orElse checked (firstOf (leftChecks (bare w h 0 indices) (listOf edit) cs))) (fullNumber offset edit n'
+               ' size)', to='',
+               asked='(checked ≡ 0 → Checkable (listOf edit) w h (length indices) (length marks-now)) × (checked ≡ 0 →'
+               ' (n ≤ maxChanges) × (offset ≤ maxJournal))',
+               why='settle-asks {0} r₃ {1} e₃ (length {1}) (l₃-marks ∙ l₂-marks)'.format(ALL, last(3, 7)))],
+         'numbered %s r₃ %s e₃ l₂-marks r₄ e₄' % (ALL, last(3, 7)),
+         uses=PUSH_WORDS, story='The marks are lent to each step.')
 
 
 def carried(no, at):
-    return ('(limited : Bool) (permitted : List ℕ) → leaves r w h palette′ lab′ indices′ journal′ ≡ pushedOr {0}'
-            ' (noPixels edit (flatAll list)) {1} (pushed editing {1} {2})'.format(no, at, GIVEN))
+    return ('(limited : Bool) (permitted : List ℕ) → leaves r w h palette′ lab′ indices′ journal′ ≡ pushedOr {0} (isStill'
+            ' {2}) {1} (pushed editing {1} {2})'.format(no, at, GIVEN))
 
 
 def carries(no, at):
-    return '({0} ≡ 0 → Standing {1}) × ({0} ≡ 0 → noPixels edit (flatAll list) ≡ false → Acceptable {1} edit (flatAll list))'.format(no, at)
+    return ('({0} ≡ 0 → Standing {1}) × ({0} ≡ 0 → emptyPixels (listOf edit) (length (flatAll list)) ≡ false → Acceptable'
+            ' {1} edit (flatAll list))'.format(no, at))
 
 
-EACH = 'w h k palette lab indices journal handle edit list'
+EACH = 'w h k palette lab indices journal handle edit list r₁ e₁ no r₂ e₂ (fit .0) (fit .1)'
 function('struct_push::recording::carry_out',
          parameters('no, w, h, k, &mut [palette], &mut [lab], &mut [indices], edit, &[list], &mut [journal], handle'),
          MOVED, carried('no', STATE),
-         [Len('n', 'list'), Field('offset', 'handle', 'offset'),
-          Call('Writing', 'struct_edit::put_list', 'no, edit, lend journal, offset, share indices, w, list', Unit(),
-               'journal′ ≡ putUpto no edit offset w indices-now list journal-now (length list)',
-               asked='no ≡ 0 → AllPuttable edit offset (length journal-now) w (length indices-now) (flatAll list)',
-               why='λ z. carry-puts %s (fit .0 z) (fit .1 z)' % EACH),
-          painting('carry-paints %s (fit .0 z) (fit .1 z)' % EACH),
-          Call('Finishing', 'struct_push::recording::finish',
+         [Len('n', 'list'), Field('offset', 'handle', 'offset'), kind_of(), walked(),
+          Call('Writing', 'struct_edit::put_list', 'kind, lend journal, offset, share indices, w, list, m', Unit(),
+               'journal′ ≡ putUpto kind offset w indices-now list journal-now m',
+               asked='(m ≤ length list) × (0 < m → Puttable kind w (length indices-now) (length journal-now - offset)'
+               ' (flatAll list))', why='puts-ask %s' % EACH),
+          painting('paints-ask %s' % EACH),
+          Call('Finishing', 'history_push::finish',
                'no, k, give palette, give lab, give indices, edit, n, give journal, handle', MOVED,
-               '(w h : ℕ) → leaves r w h palette′ lab′ indices′ journal′ ≡ pushedOr no (nonePut edit n) {0} (finished'
-               ' {0} edit n)'.format(state('-now')),
-               to='', asked='no ≡ 0 → nonePut edit n ≡ false → Finishes k palette-now lab-now journal-now handle edit n',
-               why='λ z t. carry-finishes %s (fit .0 z) (fit .1 z) %s (l₁-journal) t' % (EACH, last(1, 2)))],
-         'λ (limited : Bool) (permitted : List ℕ). e₃ w h ∙ carried %s limited permitted no %s %s e₂ e₁ (fit .1)'
-         % (EACH, last(2, 2), last(1, 2)),
-         fit=carries('no', STATE), uses=STATE_WORDS, story='Journal and indices are lent to the loops, and then given'
+               '(w h : ℕ) → leaves r w h palette′ lab′ indices′ journal′ ≡ pushedOr no (emptyPixels (listOf edit) n) {0}'
+               ' (finished {0} edit n)'.format(state('-now')),
+               to='', asked='no ≡ 0 → emptyPixels (listOf edit) n ≡ false → Finishes k palette-now lab-now journal-now'
+               ' handle edit n', why='finish-asks %s %s (l₃-journal)' % (EACH, last(3, 1)))],
+         'λ (limited : Bool) (permitted : List ℕ). e₅ w h ∙ carried-out %s limited permitted %s %s e₄ e₃'
+         % (EACH, last(4, 1), last(3, 1)),
+         fit=carries('no', STATE), uses=PUSH_WORDS, story='Journal and indices are lent to the loops, and then given'
          ' to the last step.')
 
 function('struct_push::recording::push',
@@ -554,7 +662,7 @@ function('struct_push::recording::push',
                asked=carries('number', CALLED), why='(λ z. e₁ .stands z), λ z t. e₁ .fine z t'),
           Store('k', 'k'), Store('handle', 'handle'), Give('answer')],
          '(e₂ limited permitted ∙ push-is (length scratch) %s %s r₁ (e₁ .value), l₁-scratch)' % (STATE, GIVEN),
-         uses=STATE_WORDS,
+         uses=PUSH_WORDS,
          story='The borrows of palette count and handle are opened and both copied out; sheet and journal are lent as'
          ' `&` for the checks and then given.')
 
@@ -575,34 +683,42 @@ def small(k, now=''):
 
 PENCIL = 'pencilCall %s area points 1 (pos 1) %s'
 PUSHED = 'pushOf editing (length marks) (stateOf %s journal handle) (givenOf false permitted edit %s)'
+MAKING = 'r ≡ movedOf answer colors held'
+LEAVES = 'leaves r 6 4 palette′ lab′ indices′ journal′ ≡ '
+function(
+    'example_structs::lent::recorded',
+    parameters('k, &mut [palette], &mut [lab], &mut [indices], &[permitted], edit, &[list], &mut [journal], handle, &mut'
+               ' [marks]'), MOVED, LEAVES + PUSHED % (small('k'), '(packedAll list)'),
+    [Let('colors', 'k'), Let('held', 'handle'),
+     Call('Pushing', 'editor::structs::push', '6usize, 4usize, &mut colors, give palette, give lab, give indices,'
+          ' false, permitted, edit, list, give journal, &mut held, give marks', ANSWER,
+          '(leavesLent r 6 4 colors′ palette′ lab′ indices′ journal′ held′ ≡ pushOf editing (length marks-now)'
+          ' (stateOf %s journal-now held-now) (givenOf false permitted edit (packedAll list))) × (length marks′ ≡'
+          ' length marks-now)' % small('colors-now', '-now'), to='answer'),
+     Call('Making', 'example_structs::lent::moved', 'answer, colors, held', MOVED, MAKING, to='')],
+    'ap (λ (m : Moved). leaves m 6 4 %s %s %s %s) e₂ ∙ e₁ .0' % (last(1, 3), last(1, 4), last(1, 5), last(1, 10)),
+    uses=EXAMPLE, story='Palette count and handle are put into locals, which are lent to push.')
 function(
     'example_structs::lent::stroke',
     parameters('k, &mut [palette], &mut [lab], &mut [indices], area, &[points], &mut [scratch], &[permitted], edit,'
                ' &mut [journal], handle, &mut [marks]'), MOVED,
-    'leaves r 6 4 palette′ lab′ indices′ journal′ ≡ ' + PUSHED
-    % (small('k'), '(changesOf (%s blanks))' % (PENCIL % (small('k'), '(length scratch)'))),
-    [Let('colors', 'k'), Let('held', 'handle'),
-     Call('Blank', 'example_structs::lent::blank', '', Array('Change', 24), 'r ≡ replicate 24 noChange', to='list'),
+    LEAVES + PUSHED % (small('k'), '(changesOf (%s blanks))' % (PENCIL % (small('k'), '(length scratch)'))),
+    [Call('Blank', 'example_structs::lent::blank', '', Array('Change', 24), 'r ≡ replicate 24 noChange', to='list'),
      Call('Drawing', 'editor::structs::pencil', '6usize, 4usize, k, share palette, share lab, share indices, area,'
           ' points, 1usize, 1i16, give scratch, &mut list', COUNTED,
           '(filled r (map packedOf list′) ≡ %s (map packedOf list-now)) × (length scratch′ ≡ length scratch-now)'
           % (PENCIL % (small('k', '-now'), '(length scratch-now)')), to='drawn'),
      Call('Counting', 'example_structs::lent::count', 'drawn', USIZE, 'r ≡ countOf drawn', to='n'),
-     Call('Pushing', 'editor::structs::push', '6usize, 4usize, &mut colors, give palette, give lab, give indices,'
-          ' false, permitted, edit, front list n, give journal, &mut held, give marks', ANSWER,
-          '(leavesLent r 6 4 colors′ palette′ lab′ indices′ journal′ held′ ≡ pushOf editing (length marks-now)'
-          ' (stateOf %s journal-now held-now) (givenOf false permitted edit (packedAll list-now))) × (length marks′ ≡'
-          ' length marks-now)' % small('colors-now', '-now'), to='answer',
+     Call('Recording', 'example_structs::lent::recorded', 'k, give palette, give lab, give indices, permitted, edit,'
+          ' front list n, give journal, handle, give marks', MOVED,
+          LEAVES + 'pushOf editing (length marks-now) (stateOf %s journal-now handle) (givenOf false permitted edit'
+          ' (packedAll list-now))' % small('k', '-now'), to='',
           fits='subst (λ (l : List Change). r₃ ≤ length l) e₁ (drawn-fits %s area points 1 (pos 1) (length scratch) r₂'
-          ' (map packedOf %s) r₁ r₃ (e₂ .0) e₃)' % (small('k'), last(2, 11))),
-     Call('Making', 'example_structs::lent::moved', 'answer, colors, held', MOVED, 'r ≡ movedOf answer colors held',
-          to='')],
-    'ap (λ (m : Moved). leaves m 6 4 {0} {1} {2} {3}) e₅ ∙ e₄ .0 ∙ ap (λ (ns : List ℕ). {4}) (drawn-is ({5}) r₂ {6} r₁'
-    ' (replicate 24 noChange) r₃ (e₂ .0) e₃ e₁)'
-    .format(last(4, 3), last(4, 4), last(4, 5), last(4, 10), PUSHED % (small('k'), 'ns'),
-            PENCIL % (small('k'), '(length scratch)'), last(2, 11)), uses=EXAMPLE,
-    story='The list is a local array, palette count and handle are locals, and all three are lent: the whole array to'
-    ' the pencil, and as much of it as the pencil filled to push.')
+          ' (map packedOf %s) r₁ r₃ (e₂ .0) e₃)' % (small('k'), last(2, 11)))],
+    'e₄ ∙ ap (λ (ns : List ℕ). {0}) (drawn-is ({1}) r₂ {2} r₁ (replicate 24 noChange) r₃ (e₂ .0) e₃ e₁)'
+    .format(PUSHED % (small('k'), 'ns'), PENCIL % (small('k'), '(length scratch)'), last(2, 11)), uses=EXAMPLE,
+    story='The list is a local array, which is lent: the whole array to the pencil, and as much of it as the pencil'
+    ' filled to `recorded`.')
 
 
 def lent(name, call, own, by, also=None):
@@ -618,8 +734,7 @@ def lent(name, call, own, by, also=None):
          Call('Step', 'editor::structs::' + call,
               '6usize, 4usize, &mut colors, give palette, give lab, give indices, journal, &mut held'
               + (', give marks' if own else ''), ANSWER, '(%s)%s' % (said, also) if also else said, to='answer'),
-         Call('Making', 'example_structs::lent::moved', 'answer, colors, held', MOVED, 'r ≡ movedOf answer colors held',
-              to='')],
+         Call('Making', 'example_structs::lent::moved', 'answer, colors, held', MOVED, MAKING, to='')],
         'ap (λ (m : Moved). leaves m 6 4 {0} {1} {2} journal) e₂ ∙ e₁{3}'
         .format(last(1, 3), last(1, 4), last(1, 5), ' .0' if also else ''), uses=EXAMPLE,
         story='Palette count and handle are put into locals, which are lent for the call; what it leaves in them is'

@@ -5,7 +5,7 @@ import re
 LIBRARY = '''
 mathlib.Core.Path _≡_ refl sym ap subst _∙_
 mathlib.Core.Bool Bool true false
-Prim.Native.Nat ℕ _<_ _≤_ _^_ _*_ min
+Prim.Native.Nat ℕ _<_ _≤_ _^_ _*_ min _-_
 mathlib.Core.List [] _∷_ List map
 native.Mathlib.Omega arith
 lib.IntN ℤ pos
@@ -59,10 +59,35 @@ denote.Triple.Walked says needs Stays stay-ref stay-slice gave-slice stay-none-s
 denote.Exit yes
 Rattle.struct_change.proofs.Lending LentAgain LentShared lend-mut back-mut lend-shr back-shr
 '''
+# what a walk of a loop may use besides
+LOOPS = '''
+mathlib.Core.WellFounded WellFounded InvImage·wf
+mathlib.Core.Bool not _&&_ _||_
+Prim.Native.Nat suc _+_ zero-le
+native.Mathlib.Nat le-antisymm lt-of-le-of-lt lt-of-lt-of-le
+native.Mathlib.Numerals add-one add-one-le add-one-dec
+lib.Dec eqb eqb→eq ltb ltb→lt nltb→le
+lib.ListN getD set length-set
+lib.WfN Nat·lt-wfRel
+mir.Syntax erased imm mut tyPtr tyRef
+mir.Val vunit
+mir.Facts and-yes
+base.Fml froom fdies fauth fobor
+prog.Wp Out Env Wp atReturn afterSeq afterBlock afterTurn
+types.Kit Item runs anyQ atRet Sq
+types.Run unit-lit bin assigns-last first blocks exec Below again loops
+types.Share arr-parts
+denote.Shadow pureI
+denote.Memory pointee shares
+denote.Plain uint-copy
+denote.Slice sliceTy at-slice heres codedHoleys
+denote.Lend Held
+denote.Index row place-is elem-out elem-back elem-put looks-slice shuts-slice opens-slice closes-slice
+'''
 # the crate that declares a type
-DECLARED = {'Area': 'selection', 'Selection': 'selection', 'Shifted': 'selection'}
+DECLARED = {'Area': 'selection', 'Selection': 'selection', 'Shifted': 'selection', 'ListKind': 'edit'}
 TYPES = ['Edit', 'Change', 'Handle', 'Area', 'Selection', 'Counted', 'Shifted', 'Removed', 'Removal', 'MadeOp',
-         'Moved', 'Replayed', 'Marked', 'Answer']
+         'Moved', 'Replayed', 'Marked', 'Answer', 'ListKind']
 
 
 def words_of(text):
@@ -84,10 +109,18 @@ def inside(crate, own, part):
     return 'Rattle.%s.%s' % (crate, part, part) if crate == own else 'Rattle.%s.%s' % (crate, part)
 
 
+def library(loops):
+    """The names of each module of the library."""
+    modules = {}
+    for line in re.sub(r'\n +', ' ', LIBRARY + (LOOPS.strip() if loops else '')).strip().split('\n'):
+        module, *names = line.split(' ')
+        modules.setdefault(module, []).extend(names)
+    return modules
+
+
 def head(f, body):
     own, words, out = f.path[0], words_of(body), []
-    for line in re.sub(r'\n +', ' ', LIBRARY).strip().split('\n'):
-        module, *names = line.split(' ')
+    for module, names in library(f.loops).items():
         out += picked(module, names, words)
     for t in TYPES:
         crate = 'Rattle·' + DECLARED.get(t, 'base')
@@ -104,11 +137,13 @@ def head(f, body):
     at = '%s.%s' % (inside(own, own, 'proofs'), '.'.join(f.path[1:]))
     out += ['use %s.Key.{name as %s}' % (at, f.symbol(f.path)), 'use %s as f' % at, 'use %s.Statement as stated' % at,
             'use %s.Code as code' % at]
+    if f.loops:
+        out.append('use %s.Code.Mir as text' % at)
     return '\n'.join(comment(f) + out)
 
 
 def comment(f):
     return ['-- Written by tools/walks; do not edit.',
             '-- `%s` meets its contract: a walk of its MIR, by hand. %s' % ('::'.join([f.path[0], f.name]), f.story),
-            '-- All that the proof knows of the functions that it calls is that they meet their contracts. Assumes'
-            ' nothing.']
+            ('-- All that the proof knows of the functions that it calls is that they meet their contracts. ' if f.calls
+             else '-- ') + 'Assumes nothing.']

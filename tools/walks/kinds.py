@@ -3,7 +3,8 @@ value is its own: x < 2 ^ width for a number without sign, and Is row x vs for e
 
 WIDTH = {'u8': 8, 'u16': 16, 'u32': 32, 'u64': 64, 'usize': 64, 'i16': 16, 'i32': 32}
 # what stands for an element of a slice in the logic
-ELEMENT = {'u8': 'ℕ', 'u64': 'ℕ', 'usize': 'ℕ', 'f64': '(f64 .Denot)', 'i16': 'ℤ', 'i32': 'ℤ', 'Change': 'Change'}
+ELEMENT = {'u8': 'ℕ', 'u64': 'ℕ', 'usize': 'ℕ', 'f64': '(f64 .Denot)', 'i16': 'ℤ', 'i32': 'ℤ', 'bool': 'Bool',
+           'Change': 'Change'}
 
 
 def row_of(element):
@@ -59,7 +60,7 @@ class Sint(Value):
     def __init__(self, name):
         self.row, self.w, self.denot = name, 'w%d' % WIDTH[name], 'ℤ'
         self.vals, self.tells = 'sint-vals ' + self.w, 'sint-tells ' + self.w
-        self.makes = 'sint-makes 𝓤 H A W ' + self.w
+        self.makes, self.mir = 'sint-makes 𝓤 H A W ' + self.w, '(tyInt %s)' % self.w
 
     def val(self, x):
         return 'vint %s (ofZ %s %s)' % (self.w, self.w, x)
@@ -125,7 +126,16 @@ class Enum(Declared):
 
 
 class Unit:
-    row, denot = 'unit', 'Unit {0}'
+    row, denot, mir = 'unit', 'Unit {0}', 'tyUnit'
+
+    def val(self, r):
+        return 'vunit'
+
+    def fact(self, r):
+        return 'Unit {0}'
+
+    def owned(self, r, p):
+        return 'feqI ! (List Val) (vunit ∷ []) (vunit ∷ []) refl $ '
 
 
 class Array:

@@ -16,7 +16,7 @@ use Rattle.base.specs.declared.Counted.the-variants.{Refused}
 use Rattle.base.proofs.First.{refused-first, result-first}
 use Rattle.base.specs.declared.Edit.{Edit}
 use Rattle.edit.specs.Change.{unpacked}
-use Rattle.edit.specs.Apply.{noPixels}
+use Rattle.edit.specs.List.{listOf, emptyPixels}
 use Rattle.change_list.specs.Fronts.{Front}
 use Rattle.change_list.specs.Listed.{handed, InScratch}
 use Rattle.change_list.proofs.Handing.{listed-refused, listed-done}
@@ -62,6 +62,6 @@ module _ (edit : Edit) (list : List ℕ) where
   unfolding isEmptyOf firstOf
   empty-long h = refused-first (listTooLong when ltb maxChanges (length list) ∷ []) alone _ 21 (rw (lt-ltb maxChanges (length list) h)) (λ e. omega arith)
 
-  pub empty-told : {b : Bool} → length list ≤ maxChanges → b ≡ noPixels edit (map unpacked list) → result b ≡ isEmptyOf edit list
+  pub empty-told : {b : Bool} → length list ≤ maxChanges → b ≡ emptyPixels (listOf edit) (length list) → result b ≡ isEmptyOf edit list
   unfolding isEmptyOf firstOf
   empty-told h e = ap result e ∙ result-first (listTooLong when ltb maxChanges (length list) ∷ []) alone _ (rw (le-ltb maxChanges (length list) h))

@@ -12,7 +12,7 @@ use Rattle.base.specs.Answer.Told.{result, alone}
 use Rattle.base.specs.declared.Edit.{Edit}
 use Rattle.base.specs.declared.Edit.the-variants.{Pixels}
 use Rattle.edit.specs.Change.{unpacked}
-use Rattle.edit.specs.Apply.{noPixels}
+use Rattle.edit.specs.List.{listOf, emptyPixels}
 use Rattle.change_list.specs.Listed.{listed}
 use Rattle.change_normal.specs.Normal.{normalizeOf}
 use Rattle.base.specs.declared.MadeOp.{MadeOp}
@@ -50,4 +50,4 @@ pixelsCall tool room list out = let r = normalizeCall room list out in making (p
 
 -- ---- 21, then `is_empty`: "A `Pixels` op without changes"
 unfoldable pub isEmptyOf : Edit → List ℕ → Told Bool
-isEmptyOf edit list = checked (listTooLong when ltb maxChanges (length list) ∷ []) alone (result (noPixels edit (map unpacked list)))
+isEmptyOf edit list = checked (listTooLong when ltb maxChanges (length list) ∷ []) alone (result (emptyPixels (listOf edit) (length list)))

@@ -12,6 +12,7 @@ use base::Truth;
 use change_list::copy_out;
 use change_list::count_of;
 use change_list::counted;
+use edit::list_of;
 ghost use mathlib.Core.Path.{_≡_};
 ghost use lib.ListN.{length};
 ghost use Rattle.base.specs.Answer.{countedTold, filled, truthTold, madeOpTold};
@@ -107,7 +108,7 @@ pub fn is_empty(edit: Edit, list: &[u64]) -> Truth
     if MAX_CHANGES < list.len() {
         return Truth::Refused(LIST_TOO_LONG);
     }
-    Truth::Is(edit::is_empty(edit, list.len()))
+    Truth::Is(edit::is_empty(list_of(edit), list.len()))
 }
 
 // The journal's kind of an edit: 1 "pixels", 2 "palette_set", 3 "palette_add", 4 "palette_remove".

@@ -30,47 +30,47 @@ module _ {A : Type 0} where
   -- ---- an edit
   module _ {l : List A} {k : ℕ} (s : Store l k) where
     pub set-length : (i : ℕ) (v : List A) → length v ≡ 3 → i < k → length (stored (3 * i) v l) ≡ storage
-    set-length i v e b = stored-length (3 * i) v l e (omega arith) ∙ s .long
+    set-length i v e b = stored-length 3 (3 * i) v l e (omega arith) ∙ s .long
 
     pub set-shows : (i : ℕ) (v : List A) → length v ≡ 3 → i < k → take (3 * k) (stored (3 * i) v l) ≡ stored (3 * i) v (take (3 * k) l)
-    set-shows i v e b = stored-shows (3 * i) (3 * k) v l e (omega arith) (omega arith)
+    set-shows i v e b = stored-shows 3 (3 * i) (3 * k) v l e (omega arith) (omega arith)
 
     pub add-length : (v : List A) → length v ≡ 3 → k < maxEntries → length (stored (3 * k) v l) ≡ storage
-    add-length v e b = stored-length (3 * k) v l e (omega arith) ∙ s .long
+    add-length v e b = stored-length 3 (3 * k) v l e (omega arith) ∙ s .long
 
     pub add-shows : (v : List A) → length v ≡ 3 → k < maxEntries → take (3 * suc k) (stored (3 * k) v l) ≡ take (3 * k) l ++ v
     add-shows v e b =
         let next : 3 * suc k ≡ 3 * k + 3 = omega arith in
-        rw next (stored-more (3 * k) v l e (omega arith))
+        rw next (stored-more 3 (3 * k) v l e (omega arith))
 
     pub remove-length : (i : ℕ) → i < k → length (closed (3 * i) (3 * k) l) ≡ storage
-    remove-length i b = closed-length (3 * i) (3 * k) l (omega arith) (omega arith) ∙ s .long
+    remove-length i b = closed-length 3 (3 * i) (3 * k) l (omega arith) (omega arith) ∙ s .long
 
     pub remove-shows : (i : ℕ) → i < k → take (3 * (k - 1)) (closed (3 * i) (3 * k) l) ≡ cut (3 * i) (take (3 * k) l)
     remove-shows i b =
         let fewer : 3 * (k - 1) ≡ 3 * k - 3 = omega arith in
-        rw fewer (closed-shows (3 * i) (3 * k) l (omega arith) (omega arith))
+        rw fewer (closed-shows 3 (3 * i) (3 * k) l (omega arith) (omega arith))
 
     pub reinsert-length : (i : ℕ) (v : List A) → length v ≡ 3 → i ≤ k → k < maxEntries → length (reinserted (3 * i) (3 * k) v l) ≡ storage
-    reinsert-length i v e b c = opened-length (3 * i) (3 * k) v l e (omega arith) (omega arith) ∙ s .long
+    reinsert-length i v e b c = opened-length 3 (3 * i) (3 * k) v l e (omega arith) (omega arith) ∙ s .long
 
   -- ---- an edit undone: `now`, with m entries in use, shows what the edit made of the k of `before`
   module _ {now before : List A} {m k : ℕ} (t : Store now m) (s : Store before k) where
     pub set-back : (i : ℕ) (v : List A) {old : List A} → length v ≡ 3 → i < k → entryAt (3 * i) before ≡ old → m ≡ k
         → take (3 * m) now ≡ stored (3 * i) v (take (3 * k) before) → take (3 * m) (stored (3 * i) old now) ≡ take (3 * k) before
-    set-back i v e b o q h = rw (← o, q) (set-undone now before (3 * i) (3 * k) (omega arith) (omega arith) v e (omega arith) (rw q at h))
+    set-back i v e b o q h = rw (← o, q) (set-undone 3 now before (3 * i) (3 * k) (omega arith) (omega arith) v e (omega arith) (rw q at h))
 
     pub add-back : (v : List A) → m ≡ suc k → take (3 * m) now ≡ take (3 * k) before ++ v → take (3 * (m - 1)) now ≡ take (3 * k) before
     add-back v q h =
         let last : 3 * (m - 1) ≡ 3 * k = omega arith in
         let next : 3 * m ≡ 3 * k + 3 = omega arith in
-        rw last (add-undone now before v (3 * k) (omega arith) (rw next at h))
+        rw last (add-undone 3 now before v (3 * k) (omega arith) (rw next at h))
 
     pub remove-back : (i : ℕ) {old : List A} → i < k → entryAt (3 * i) before ≡ old → m ≡ k - 1
         → take (3 * m) now ≡ cut (3 * i) (take (3 * k) before) → take (3 * suc m) (reinserted (3 * i) (3 * m) old now) ≡ take (3 * k) before
     remove-back i b o q h =
         let next : 3 * suc m ≡ 3 * m + 3 = omega arith in
-        rw (← o, next) (remove-undone now before (3 * i) (3 * k) (omega arith) (omega arith) (3 * m) (omega arith) (omega arith) h)
+        rw (← o, next) (remove-undone 3 now before (3 * i) (3 * k) (omega arith) (omega arith) (3 * m) (omega arith) (omega arith) h)
 
 -- ---- an entry's numbers, one by one
 pub colour-entry : {l : List ℕ} {k : ℕ} → Store l k → (i : ℕ) → i < k → entryAt (3 * i) l ≡ bytesOf (rgbAt l i)

@@ -2,6 +2,7 @@ pub mod Painting
 pub mod Storage
 pub mod Entries
 pub mod FirstCheck
+pub mod Together
 pub mod Passed
 pub mod Removing
 pub mod Fits

@@ -17,10 +17,14 @@ use Rattle.base.specs.Ints.{eqZ}
 use Rattle.sheet.specs.Sheet.{Sheet, stray}
 use Rattle.base.specs.declared.Edit.{Edit}
 use Rattle.base.specs.declared.Edit.the-variants.{Pixels, PaletteSet, PaletteAdd, PaletteRemove}
+use Rattle.edit.specs.declared.ListKind.{ListKind}
+use Rattle.edit.specs.declared.ListKind.the-variants.{NoList, PixelList, RemapList}
 use Rattle.edit.specs.Change.{Change, outside, newOf, filledIn}
-use Rattle.edit.specs.Checks.{Permitted, pixel, pixelChecks, misdirected, remapChecks, leftFrom, ownChecks}
+use Rattle.edit.specs.List.{listOf}
+use Rattle.edit.specs.Checks.{Permitted, pixel, pixelChecks, misdirected, remapChecks, leftFrom, headChecks, changeChecks, leftChecks, ownChecks}
 use Rattle.base.proofs.Nowhere.{or-both}
-use Rattle.base.proofs.First.{past, skip, past-both}
+use Rattle.base.proofs.First.{past, skip}
+use Rattle.edit.proofs.Together.{OwnPassed, own-passed, own-passes}
 
 -- ---- pixels: 5 and 6
 pub record PixelsFit (s : Sheet) (cs : List Change) : Type 0 where
@@ -91,20 +95,21 @@ Passed s (PaletteAdd c) cs = s .k < maxEntries
 Passed s (PaletteRemove i c lab) cs = RemoveFits s i cs
 
 pub passed : (replay : Bool) (s : Sheet) (p : Permitted) (e : Edit) (cs : List Change) → firstOf (ownChecks replay s p e cs) ≡ 0 → Passed s e cs
-unfolding ownChecks
-passed replay s p (Pixels tool) cs e = pixels-fit replay s cs e
-passed replay s p (PaletteSet i old new lab) cs e = leb-false (s .k) i (past (noSuchEntry when leb (s .k) i) _ (omega arith) e .off)
-passed replay s p (PaletteAdd c) cs e = leb-false maxEntries (s .k) (past (paletteFull when leb maxEntries (s .k)) _ (omega arith) e .off)
-passed replay s p (PaletteRemove i c lab) cs e =
-    let a = past (noSuchEntry when leb (s .k) i) _ (omega arith) e in
-    let b = past (lastEntry when ltb (s .k) 2) _ (omega arith) (a .rest) in
-    let d = past-both (flatMap (remapChecks s i) cs) _ (past _ _ (omega arith) (b .rest) .rest) in
-    record {
-      entry = leb-false (s .k) i (a .off);
-      two = ltb-false (s .k) 2 (b .off);
-      remap = remap s i cs (d .left);
-      none-left = past (stillUsed when leftFrom (s .w) i cs 0 (s .indices)) [] (omega arith) (d .right) .off;
-    }
+unfolding headChecks changeChecks leftChecks
+passed replay s p e cs z = by-kind e (own-passed replay s p e cs z)
+  where
+    by-kind : (e : Edit) → OwnPassed replay s p e cs → Passed s e cs
+    by-kind (Pixels tool) o = pixels-fit replay s cs (o .changes)
+    by-kind (PaletteSet i old new lab) o = leb-false (s .k) i (past (noSuchEntry when leb (s .k) i) _ (omega arith) (o .head) .off)
+    by-kind (PaletteAdd c) o = leb-false maxEntries (s .k) (past (paletteFull when leb maxEntries (s .k)) _ (omega arith) (o .head) .off)
+    by-kind (PaletteRemove i c lab) o =
+        let a = past (noSuchEntry when leb (s .k) i) _ (omega arith) (o .head) in
+        record {
+          entry = leb-false (s .k) i (a .off);
+          two = ltb-false (s .k) 2 (past (lastEntry when ltb (s .k) 2) _ (omega arith) (a .rest) .off);
+          remap = remap s i cs (o .changes);
+          none-left = past (stillUsed when leftFrom (s .w) i cs 0 (s .indices)) [] (omega arith) (o .left) .off;
+        }
 
 -- ---- what replay accepts, where it looks at the olds, push accepts
 replayed : (s : Sheet) (cs : List Change) → firstOf (flatMap (pixelChecks true s) cs) ≡ 0 → firstOf (flatMap (pixelChecks false s) cs) ≡ 0
@@ -115,15 +120,26 @@ replayed s (c ∷ cs) e =
     let b = past (noSuchIndex when stray (s .k) (c .new)) _ (omega arith) (a .rest) in
     skip _ _ (a .off) ∙ skip _ _ (b .off) ∙ skip _ _ refl ∙ replayed s cs (past _ _ (omega arith) (b .rest) .rest)
 
-pub replay-unrefused : (s : Sheet) (p : Permitted) (e : Edit) (cs : List Change)
-    → firstOf (ownChecks true s p e cs) ≡ 0 → firstOf (ownChecks false s p e cs) ≡ 0
-unfolding ownChecks
-replay-unrefused s p (Pixels tool) cs e = replayed s cs e
-replay-unrefused s p (PaletteSet i old new lab) cs e =
+replayed-head : (s : Sheet) (p : Permitted) (e : Edit) → firstOf (headChecks true s p e) ≡ 0 → firstOf (headChecks false s p e) ≡ 0
+unfolding headChecks
+replayed-head s p (Pixels tool) e = e
+replayed-head s p (PaletteSet i old new lab) e =
     let a = past (noSuchEntry when leb (s .k) i) _ (omega arith) e in
     skip _ _ (a .off) ∙ skip _ _ refl ∙ past _ _ (omega arith) (a .rest) .rest
-replay-unrefused s p (PaletteAdd c) cs e = e
-replay-unrefused s p (PaletteRemove i c lab) cs e =
+replayed-head s p (PaletteAdd c) e = e
+replayed-head s p (PaletteRemove i c lab) e =
     let a = past (noSuchEntry when leb (s .k) i) _ (omega arith) e in
     let b = past (lastEntry when ltb (s .k) 2) _ (omega arith) (a .rest) in
     skip _ _ (a .off) ∙ skip _ _ (b .off) ∙ skip _ _ refl ∙ past _ _ (omega arith) (b .rest) .rest
+
+replayed-list : (s : Sheet) (l : ListKind) (cs : List Change) → firstOf (flatMap (changeChecks true s l) cs) ≡ 0 → firstOf (flatMap (changeChecks false s l) cs) ≡ 0
+unfolding changeChecks
+replayed-list s NoList cs e = e
+replayed-list s PixelList cs e = replayed s cs e
+replayed-list s (RemapList i) cs e = e
+
+pub replay-unrefused : (s : Sheet) (p : Permitted) (e : Edit) (cs : List Change)
+    → firstOf (ownChecks true s p e cs) ≡ 0 → firstOf (ownChecks false s p e cs) ≡ 0
+replay-unrefused s p e cs z =
+    let a = own-passed true s p e cs z in
+    own-passes false s p e cs (replayed-head s p e (a .head)) (replayed-list s (listOf e) cs (a .changes)) (a .left)

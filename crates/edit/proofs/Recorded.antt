@@ -9,6 +9,9 @@ use Rattle.base.specs.declared.Edit.{Edit}
 use Rattle.base.specs.declared.Edit.the-variants.{Pixels, PaletteSet, PaletteAdd, PaletteRemove}
 use Rattle.edit.specs.Change.{Change, outside, newOf, oldOf, filledIn}
 use Rattle.edit.specs.Checks.{Permitted}
+use Rattle.edit.specs.declared.ListKind.{ListKind}
+use Rattle.edit.specs.declared.ListKind.the-variants.{NoList, PixelList, RemapList}
+use Rattle.edit.specs.List.{listOf, filledList}
 use Rattle.edit.specs.Apply.{filledChanges}
 use Rattle.edit.specs.Accepted.{Accepted}
 use Rattle.base.proofs.Nowhere.{some-map}
@@ -22,11 +25,10 @@ pub record Recorded (s : Sheet) (cs : List Change) : Type 0 where
   pub news : some (λ c. stray (s .k) (newOf c)) cs ≡ false
 
 -- the list of a recorded edit, where the edit has one
-abbrev pub ListFits : Sheet → Edit → List Change → Type 0
-ListFits s (Pixels tool) cs = Recorded s cs
-ListFits s (PaletteSet i old new lab) cs = Unit {0}
-ListFits s (PaletteAdd c) cs = Unit {0}
-ListFits s (PaletteRemove i c lab) cs = Recorded s cs
+abbrev pub ListFits : Sheet → ListKind → List Change → Type 0
+ListFits s NoList cs = Unit {0}
+ListFits s PixelList cs = Recorded s cs
+ListFits s (RemapList i) cs = Recorded s cs
 
 -- filled in from the sheet that the changes are on
 filled-recorded : (s : Sheet) (cs : List Change) → WellFormed s → some (outside (s .w) (s .h)) cs ≡ false → some (λ c. stray (s .k) (newOf c)) cs ≡ false
@@ -39,12 +41,12 @@ filled-recorded s cs f o n =
       news = some-map (filledIn (s .w) (s .indices)) (λ c. stray (s .k) (newOf c)) cs ∙ n;
     }
 
-list-fits : (s : Sheet) (e : Edit) (cs : List Change) → WellFormed s → Passed s e cs → ListFits s e (filledChanges s e cs)
-unfolding filledChanges
+list-fits : (s : Sheet) (e : Edit) (cs : List Change) → WellFormed s → Passed s e cs → ListFits s (listOf e) (filledChanges s e cs)
+unfolding filledChanges filledList
 list-fits s (Pixels tool) cs f a = filled-recorded s cs f (a .inside) (a .in-range)
 list-fits s (PaletteSet i old new lab) cs f a = tt
 list-fits s (PaletteAdd c) cs f a = tt
 list-fits s (PaletteRemove i c lab) cs f a = subst (Recorded s) (a .remap .filled) (filled-recorded s cs f (a .remap .inside) (a .remap .in-range))
 
-pub recorded-list : {s : Sheet} {p : Permitted} {e : Edit} {cs : List Change} → Accepted s p e cs → ListFits s e (filledChanges s e cs)
+pub recorded-list : {s : Sheet} {p : Permitted} {e : Edit} {cs : List Change} → Accepted s p e cs → ListFits s (listOf e) (filledChanges s e cs)
 recorded-list {s} {p} {e} {cs} a = list-fits s e cs (a .fits) (passed false s p e cs (a .unrefused))

@@ -15,7 +15,8 @@ use Rattle.base.specs.declared.Edit.the-variants.{Pixels, PaletteSet, PaletteAd
 use Rattle.edit.specs.Change.{Change, painted, newOf}
 use Rattle.edit.specs.Checks.{Permitted}
 use Rattle.edit.specs.Storage.{bytesOf, numbersOf, lowered}
-use Rattle.edit.specs.Apply.{redone, nextPicture}
+use Rattle.edit.specs.List.{paintedList}
+use Rattle.edit.specs.Apply.{restDone, redone, nextPicture}
 use Rattle.edit.specs.Accepted.{NewBytes, Accepted, FiniteCurve}
 use Rattle.base.proofs.Nowhere.{nowhere-append, nowhere-weaker}
 use Rattle.edit.proofs.Painting.{painted-length, painted-nowhere}
@@ -32,14 +33,14 @@ pub record SameSize (s t : Sheet) : Type 0 where
 module _ (curve : Rgb → Lab) where
   -- no edit changes the size
   pub redone-size : (s : Sheet) (e : Edit) (cs : List Change) → SameSize s (redone curve s e cs)
-  unfolding redone
+  unfolding redone restDone paintedList
   redone-size s (Pixels tool) cs = record { w = refl; h = refl }
   redone-size s (PaletteSet i old new lab) cs = record { w = refl; h = refl }
   redone-size s (PaletteAdd c) cs = record { w = refl; h = refl }
   redone-size s (PaletteRemove i c lab) cs = record { w = refl; h = refl }
 
   shows : (s : Sheet) (e : Edit) (cs : List Change) → WellFormed s → Passed s e cs → view (redone curve s e cs) ≡ nextPicture curve (view s) e cs
-  unfolding view redone nextPicture
+  unfolding view redone restDone paintedList nextPicture
   shows s (Pixels tool) cs f a = refl
   shows s (PaletteSet i old new lab) cs f a =
       rw (set-shows (palette-store f) i (bytesOf new) refl a, set-shows (lab-store f) i (numbersOf (curve new)) refl a)
@@ -52,7 +53,7 @@ module _ (curve : Rgb → Lab) where
 
   module _ (finite : FiniteCurve curve) where
     fits : (s : Sheet) (e : Edit) (cs : List Change) → WellFormed s → Passed s e cs → NewBytes e → WellFormed (redone curve s e cs)
-    unfolding redone
+    unfolding redone restDone paintedList
     fits s (Pixels tool) cs f a b =
         let g = f .limits in
         same-size-fits g (s .k) (s .palette) (s .lab) _ (g .k-small) (g .palette-length) (g .lab-length)
@@ -63,7 +64,7 @@ module _ (curve : Rgb → Lab) where
         let v = numbersOf (curve new) in
         same-size-fits (f .limits) (s .k) _ _ (s .indices) (f .limits .k-small) (set-length (palette-store f) i (bytesOf new) refl a) (set-length (lab-store f) i v refl a) refl
         (f .in-range)
-        (rw (set-shows (lab-store f) i v refl a) (stored-nowhere unfit (3 * i) v (take (3 * s .k) (s .lab)) (finite-numbers (finite new b)) (f .fit)))
+        (rw (set-shows (lab-store f) i v refl a) (stored-nowhere 3 unfit (3 * i) v (take (3 * s .k) (s .lab)) (finite-numbers (finite new b)) (f .fit)))
     fits s (PaletteAdd c) cs f a b =
         let v = numbersOf (curve c) in
         same-size-fits (f .limits) (suc (s .k)) _ _ (s .indices) a (add-length (palette-store f) (bytesOf c) refl a) (add-length (lab-store f) v refl a) refl
@@ -74,7 +75,7 @@ module _ (curve : Rgb → Lab) where
         (remove-length (palette-store f) i (a .entry)) (remove-length (lab-store f) i (a .entry))
         (length-map (painted newOf (s .w) cs (s .indices)) (lowered i) ∙ painted-length newOf (s .w) cs (s .indices))
         (remove-in-range s i cs a (f .in-range))
-        (rw (remove-shows (lab-store f) i (a .entry)) (cut-nowhere unfit (3 * i) (take (3 * s .k) (s .lab)) (f .fit)))
+        (rw (remove-shows (lab-store f) i (a .entry)) (cut-nowhere 3 unfit (3 * i) (take (3 * s .k) (s .lab)) (f .fit)))
 
     pub redone-fits : {s : Sheet} {p : Permitted} {e : Edit} {cs : List Change} → Accepted s p e cs → WellFormed (redone curve s e cs)
     redone-fits {s} {p} {e} {cs} a = fits s e cs (a .fits) (passed false s p e cs (a .unrefused)) (a .new-bytes)

@@ -15,7 +15,8 @@ use Rattle.base.specs.declared.Edit.the-variants.{Pixels, PaletteSet, PaletteAd
 use Rattle.edit.specs.Change.{Change, painted, oldOf, filledIn}
 use Rattle.edit.specs.Checks.{Permitted}
 use Rattle.edit.specs.Storage.{bytesOf, numbersOf, raised}
-use Rattle.edit.specs.Apply.{redone, nextPicture, reverted, canRevert, filledEdit, filledChanges}
+use Rattle.edit.specs.List.{filledList}
+use Rattle.edit.specs.Apply.{restDone, redone, nextPicture, reverted, canRevert, filledEdit, filledChanges}
 use Rattle.edit.specs.Accepted.{Accepted}
 use Rattle.edit.proofs.Painting.{pixels-back, filled-outside}
 use Rattle.edit.proofs.Entries as entries
@@ -34,7 +35,7 @@ pub record Undone (s t : Sheet) (e : Edit) (cs : List Change) : Type 0 where
 module _ (curve : Rgb → Lab) (s t : Sheet) (f : WellFormed s) (g : WellFormed t) where
   can-back : (e : Edit) (cs : List Change) → Passed s e cs → view t ≡ nextPicture curve (view s) e cs
       → canRevert t (filledEdit s e) (filledChanges s e cs) ≡ true
-  unfolding view nextPicture canRevert filledEdit filledChanges
+  unfolding view nextPicture canRevert filledEdit filledChanges filledList
   can-back (Pixels tool) cs a v = rw (filled-outside (s .w) (s .indices) (t .w) (t .h) cs, ap (λ p. p .w) v, ap (λ p. p .h) v, a .inside)
   can-back (PaletteSet i old new lab) cs a v = lt-ltb i (t .k) (rw (ap (λ p. p .k) v) a)
   can-back (PaletteAdd c) cs a v = lt-ltb 0 (t .k) (omega (arith, ap (λ p. p .k) v))
@@ -43,7 +44,7 @@ module _ (curve : Rgb → Lab) (s t : Sheet) (f : WellFormed s) (g : WellFormed 
 
   shows-back : (e : Edit) (cs : List Change) → Passed s e cs → view t ≡ nextPicture curve (view s) e cs
       → view (reverted t (filledEdit s e) (filledChanges s e cs)) ≡ view s
-  unfolding view nextPicture reverted filledEdit filledChanges
+  unfolding view nextPicture reverted filledEdit filledChanges filledList
   shows-back (Pixels tool) cs a v =
       let l : painted oldOf (t .w) (map (filledIn (s .w) (s .indices)) cs) (t .indices) ≡ s .indices =
       rw (ap (λ p. p .w) v, ap (λ p. p .indices) v) (pixels-back (s .w) cs (s .indices)) in
@@ -70,7 +71,7 @@ module _ (curve : Rgb → Lab) (s t : Sheet) (f : WellFormed s) (g : WellFormed 
 
   lengths-back : (e : Edit) (cs : List Change) → Passed s e cs → view t ≡ nextPicture curve (view s) e cs
       → Long (reverted t (filledEdit s e) (filledChanges s e cs))
-  unfolding view nextPicture reverted filledEdit filledChanges
+  unfolding view nextPicture reverted filledEdit filledChanges filledList
   lengths-back (Pixels tool) cs a v = record { palette = g .limits .palette-length; lab = g .limits .lab-length }
   lengths-back (PaletteSet i old new lab) cs a v =
       let b : i < t .k = rw (ap (λ p. p .k) v) a in

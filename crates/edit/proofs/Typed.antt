@@ -16,7 +16,8 @@ use Rattle.base.specs.declared.Edit.the-variants.{Pixels, PaletteSet, PaletteAd
 use Rattle.edit.specs.Change.{Change}
 use Rattle.edit.specs.Checks.{Permitted}
 use Rattle.edit.specs.Storage.{bytesOf, numbersOf}
-use Rattle.edit.specs.Apply.{redone, reverted, filledEdit, filledChanges}
+use Rattle.edit.specs.List.{filledList, paintedList}
+use Rattle.edit.specs.Apply.{restDone, redone, reverted, filledEdit, filledChanges}
 use Rattle.edit.specs.Accepted.{Accepted}
 use Rattle.edit.proofs.Storage.{stored-nowhere, closed-nowhere, opened-nowhere, entry-nowhere}
 use Rattle.edit.proofs.Entries.{palette-store, lab-store, colour-entry, lab-entry}
@@ -42,48 +43,48 @@ module _ (big : ℕ → Bool) (wild : Float → Bool) where
     NewTame (PaletteRemove i c lab) = Unit {0}
 
     pub redone-typed : (s : Sheet) (e : Edit) (cs : List Change) → Typed s → NewTame e → Typed (redone curve s e cs)
-    unfolding redone
+    unfolding redone restDone paintedList
     redone-typed s (Pixels tool) cs t n = record { palette = t .palette; lab = t .lab }
     redone-typed s (PaletteSet i old new lab) cs t n =
         record {
-          palette = stored-nowhere big (3 * i) _ (s .palette) (n .bytes) (t .palette);
-          lab = stored-nowhere wild (3 * i) _ (s .lab) (n .numbers) (t .lab);
+          palette = stored-nowhere 3 big (3 * i) _ (s .palette) (n .bytes) (t .palette);
+          lab = stored-nowhere 3 wild (3 * i) _ (s .lab) (n .numbers) (t .lab);
         }
     redone-typed s (PaletteAdd c) cs t n =
         record {
-          palette = stored-nowhere big (3 * s .k) _ (s .palette) (n .bytes) (t .palette);
-          lab = stored-nowhere wild (3 * s .k) _ (s .lab) (n .numbers) (t .lab);
+          palette = stored-nowhere 3 big (3 * s .k) _ (s .palette) (n .bytes) (t .palette);
+          lab = stored-nowhere 3 wild (3 * s .k) _ (s .lab) (n .numbers) (t .lab);
         }
     redone-typed s (PaletteRemove i c lab) cs t n =
         record {
-          palette = closed-nowhere big (3 * i) (3 * s .k) (s .palette) (t .palette);
-          lab = closed-nowhere wild (3 * i) (3 * s .k) (s .lab) (t .lab);
+          palette = closed-nowhere 3 big (3 * i) (3 * s .k) (s .palette) (t .palette);
+          lab = closed-nowhere 3 wild (3 * i) (3 * s .k) (s .lab) (t .lab);
         }
 
   -- the old entry is one of the sheet's
   old-tame : {s : Sheet} {i : ℕ} → WellFormed s → Typed s → i < s .k → Tame (rgbAt (s .palette) i) (labAt (s .lab) i)
   old-tame {s} {i} f t b =
       record {
-        bytes = entry-nowhere big (3 * i) (s .palette) (colour-entry (palette-store f) i b) (t .palette);
-        numbers = entry-nowhere wild (3 * i) (s .lab) (lab-entry (lab-store f) i b) (t .lab);
+        bytes = entry-nowhere 3 big (3 * i) (s .palette) (colour-entry (palette-store f) i b) (t .palette);
+        numbers = entry-nowhere 3 wild (3 * i) (s .lab) (lab-entry (lab-store f) i b) (t .lab);
       }
 
   back-typed : (s t : Sheet) (e : Edit) (cs : List Change) → WellFormed s → Passed s e cs → Typed s → Typed t
       → Typed (reverted t (filledEdit s e) (filledChanges s e cs))
-  unfolding reverted filledEdit filledChanges
+  unfolding reverted filledEdit filledChanges filledList
   back-typed s t (Pixels tool) cs f a u v = record { palette = v .palette; lab = v .lab }
   back-typed s t (PaletteSet i old new lab) cs f a u v =
       let o = old-tame f u a in
       record {
-        palette = stored-nowhere big (3 * i) _ (t .palette) (o .bytes) (v .palette);
-        lab = stored-nowhere wild (3 * i) _ (t .lab) (o .numbers) (v .lab);
+        palette = stored-nowhere 3 big (3 * i) _ (t .palette) (o .bytes) (v .palette);
+        lab = stored-nowhere 3 wild (3 * i) _ (t .lab) (o .numbers) (v .lab);
       }
   back-typed s t (PaletteAdd c) cs f a u v = record { palette = v .palette; lab = v .lab }
   back-typed s t (PaletteRemove i c lab) cs f a u v =
       let o = old-tame f u (a .entry) in
       record {
-        palette = opened-nowhere big (3 * i) (3 * t .k) _ (t .palette) (o .bytes) (v .palette);
-        lab = opened-nowhere wild (3 * i) (3 * t .k) _ (t .lab) (o .numbers) (v .lab);
+        palette = opened-nowhere 3 big (3 * i) (3 * t .k) _ (t .palette) (o .bytes) (v .palette);
+        lab = opened-nowhere 3 wild (3 * i) (3 * t .k) _ (t .lab) (o .numbers) (v .lab);
       }
 
   pub reverted-typed : {s t : Sheet} {p : Permitted} {e : Edit} {cs : List Change} → Accepted s p e cs → Typed s → Typed t

@@ -1,11 +1,10 @@
 -- What `redo` and `revert` of op.rs make of a sheet, and the picture that the ledger appends. Definitions only. Assumes nothing.
 use Prim.Native.Nat.{ℕ, suc, _-_, _*_}
-use mathlib.Core.Bool.{Bool, false, not, _&&_}
+use mathlib.Core.Bool.{Bool, not, _&&_}
 use mathlib.Core.List.{List, _++_, map}
-use lib.Dec.{ltb, leb, eqb}
+use lib.Dec.{ltb, leb}
 use lib.IntN.{ℤ}
 use lib.Ieee.{Float}
-use lib.ListN.{length}
 use Rattle.base.specs.declared.Rgb.{Rgb}
 use Rattle.base.specs.declared.Lab.{Lab}
 use Rattle.base.specs.Lists.{some}
@@ -13,15 +12,9 @@ use Rattle.sheet.specs.Sheet.{Sheet, Picture, sheetOf}
 use Rattle.base.specs.Triples.{rgbAt, labAt}
 use Rattle.base.specs.declared.Edit.{Edit}
 use Rattle.base.specs.declared.Edit.the-variants.{Pixels, PaletteSet, PaletteAdd, PaletteRemove}
-use Rattle.edit.specs.Change.{Change, outside, painted, newOf, oldOf, filledIn}
+use Rattle.edit.specs.Change.{Change, outside, painted, newOf, oldOf}
+use Rattle.edit.specs.List.{listOf, filledList, paintedList}
 use Rattle.edit.specs.Storage.{bytesOf, numbersOf, stored, closed, reinserted, cut, lowered, raised}
-
--- ---- "an empty pixel list"; "a removal with no remap is not empty"
-unfoldable pub noPixels : Edit → List Change → Bool
-noPixels (Pixels tool) cs = eqb (length cs) 0
-noPixels (PaletteSet i old new lab) cs = false
-noPixels (PaletteAdd c) cs = false
-noPixels (PaletteRemove i c lab) cs = false
 
 -- the sheet with other indices; with another palette count, palette and LAB
 abbrev pub withIndices : Sheet → List ℤ → Sheet
@@ -38,21 +31,23 @@ filledEdit s (PaletteAdd c) = PaletteAdd c
 filledEdit s (PaletteRemove i c lab) = PaletteRemove i (rgbAt (s .palette) i) (labAt (s .lab) i)
 
 unfoldable pub filledChanges : Sheet → Edit → List Change → List Change
-filledChanges s (Pixels tool) cs = map (filledIn (s .w) (s .indices)) cs
-filledChanges s (PaletteSet i old new lab) cs = cs
-filledChanges s (PaletteAdd c) cs = cs
-filledChanges s (PaletteRemove i c lab) cs = cs
+filledChanges s e cs = filledList (listOf e) (s .w) (s .indices) cs
 
 module _ (curve : Rgb → Lab) where
-  -- `redo`. "Remove repaints the remap, lowers every index above the entry by one, closes the palette gap."
-  unfoldable pub redone : Sheet → Edit → List Change → Sheet
-  redone s (Pixels tool) cs = withIndices s (painted newOf (s .w) cs (s .indices))
-  redone s (PaletteSet i old new lab) cs = withEntries s (s .k) (stored (3 * i) (bytesOf new) (s .palette)) (stored (3 * i) (numbersOf (curve new)) (s .lab))
-  redone s (PaletteAdd c) cs =
+  -- what an edit does beside its list: set and add store an entry; a removal, once the remap is painted, "lowers every index above the entry by one, closes
+  -- the palette gap"
+  unfoldable pub restDone : Sheet → Edit → Sheet
+  restDone s (Pixels tool) = s
+  restDone s (PaletteSet i old new lab) = withEntries s (s .k) (stored (3 * i) (bytesOf new) (s .palette)) (stored (3 * i) (numbersOf (curve new)) (s .lab))
+  restDone s (PaletteAdd c) =
       withEntries s (suc (s .k)) (stored (3 * s .k) (bytesOf c) (s .palette)) (stored (3 * s .k) (numbersOf (curve c)) (s .lab))
-  redone s (PaletteRemove i c lab) cs =
-      withEntries (withIndices s (map (lowered i) (painted newOf (s .w) cs (s .indices)))) (s .k - 1)
+  restDone s (PaletteRemove i c lab) =
+      withEntries (withIndices s (map (lowered i) (s .indices))) (s .k - 1)
       (closed (3 * i) (3 * s .k) (s .palette)) (closed (3 * i) (3 * s .k) (s .lab))
+
+  -- `redo`: the list painted, and the rest done
+  unfoldable pub redone : Sheet → Edit → List Change → Sheet
+  redone s e cs = restDone (withIndices s (paintedList (listOf e) (s .w) cs (s .indices))) e
 
   -- the ledger: "pixels paint each new at its place, in list order; set gives the entry the colour and its LAB; add appends both; remove paints likewise,
   -- lowers every index above the entry by one, takes the entry out"

@@ -16,7 +16,10 @@ use Rattle.sheet.specs.Sheet.{Sheet, Picture, sheetOf, stray}
 use Rattle.base.specs.Triples.{rgbAt}
 use Rattle.base.specs.declared.Edit.{Edit}
 use Rattle.base.specs.declared.Edit.the-variants.{Pixels, PaletteSet, PaletteAdd, PaletteRemove}
+use Rattle.edit.specs.declared.ListKind.{ListKind}
+use Rattle.edit.specs.declared.ListKind.the-variants.{NoList, PixelList, RemapList}
 use Rattle.edit.specs.Change.{Change, place, outside}
+use Rattle.edit.specs.List.{listOf}
 
 unfoldable pub sameRgb : Rgb → Rgb → Bool
 sameRgb a b = eqb (a .r) (b .r) && (eqb (a .g) (b .g) && eqb (a .b) (b .b))
@@ -75,20 +78,34 @@ unfoldable pub leftFrom : ℕ → ℕ → List Change → ℕ → List ℤ → B
 leftFrom w i cs p [] = false
 leftFrom w i cs p (z ∷ l) = (eqZ z (pos i) && not (named w cs p)) || leftFrom w i cs (suc p) l
 
-unfoldable pub ownChecks : Bool → Sheet → Permitted → Edit → List Change → List Check
-ownChecks replay s p (Pixels tool) cs = flatMap (pixelChecks replay s) cs
-ownChecks replay s p (PaletteSet i old new lab) cs =
+-- ---- an edit's checks: before its list, of each change, and after the list
+unfoldable pub headChecks : Bool → Sheet → Permitted → Edit → List Check
+headChecks replay s p (Pixels tool) = []
+headChecks replay s p (PaletteSet i old new lab) =
     noSuchEntry when leb (s .k) i
     ∷ staleWhen replay (not (sameRgb (rgbAt (s .palette) i) old))
     ∷ colourNotPermitted when barred p new
     ∷ []
-ownChecks replay s p (PaletteAdd c) cs = paletteFull when leb maxEntries (s .k) ∷ colourNotPermitted when barred p c ∷ []
-ownChecks replay s p (PaletteRemove i c lab) cs =
+headChecks replay s p (PaletteAdd c) = paletteFull when leb maxEntries (s .k) ∷ colourNotPermitted when barred p c ∷ []
+headChecks replay s p (PaletteRemove i c lab) =
     noSuchEntry when leb (s .k) i
     ∷ lastEntry when ltb (s .k) 2
     ∷ staleWhen replay (not (sameRgb (rgbAt (s .palette) i) c))
-    ∷ flatMap (remapChecks s i) cs
-    ++ (stillUsed when leftFrom (s .w) i cs 0 (s .indices) ∷ [])
+    ∷ []
+
+-- an edit without a list does not look at the one that it is given
+unfoldable pub changeChecks : Bool → Sheet → ListKind → Change → List Check
+changeChecks replay s NoList c = []
+changeChecks replay s PixelList c = pixelChecks replay s c
+changeChecks replay s (RemapList i) c = remapChecks s i c
+
+unfoldable pub leftChecks : Sheet → ListKind → List Change → List Check
+leftChecks s NoList cs = []
+leftChecks s PixelList cs = []
+leftChecks s (RemapList i) cs = stillUsed when leftFrom (s .w) i cs 0 (s .indices) ∷ []
+
+unfoldable pub ownChecks : Bool → Sheet → Permitted → Edit → List Change → List Check
+ownChecks replay s p e cs = headChecks replay s p e ++ (flatMap (changeChecks replay s (listOf e)) cs ++ leftChecks s (listOf e) cs)
 
 -- a picture as a sheet of just its entries: on it the ledger tests what the calls test on theirs
 abbrev pub asSheet : Picture → Sheet

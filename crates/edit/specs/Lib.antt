@@ -1,4 +1,5 @@
 pub mod Change
+pub mod List
 pub mod Checks
 pub mod Storage
 pub mod Apply

@@ -1,29 +1,44 @@
-// What an edit checks, does and undoes: op.rs and palette.rs. The loops here ask their caller for what
-// they need; the calls that answer every input stand in the crates above.
+// What an edit checks, does and undoes: op.rs and palette.rs, as definitions, and the list of changes that an edit
+// goes by.
 use base::Edit;
 ghost use mathlib.Core.Path.{_≡_};
-ghost use mathlib.Core.List.{List};
-ghost use lib.ListN.{length};
-ghost use Rattle.edit.specs.Change.{Change};
-ghost use Rattle.edit.specs.Apply.{noPixels};
+ghost use Rattle.edit.specs.List.{listOf, emptyPixels};
 
-// Whether the edit, beside a list of `count` changes, is an empty list of pixels.
-pub fn is_empty(edit: Edit, count: usize) -> bool
-    ensures { λ r. ⌜ ((cs : List Change) → length cs ≡ count → r ≡ noPixels edit cs) ⌝ }
+// The list of changes that an edit goes by: none, one of pixels, or the remap of a removed entry.
+pub enum ListKind {
+    NoList,
+    PixelList,
+    RemapList { index: usize },
+}
+
+// The list that an edit goes by.
+pub fn list_of(edit: Edit) -> ListKind
+    ensures { λ r. ⌜ r ≡ listOf edit ⌝ }
 {
     match edit {
-        Edit::Pixels { tool: _ } => count == 0,
+        Edit::Pixels { tool: _ } => ListKind::PixelList,
         Edit::PaletteSet {
             index: _,
             old: _,
             new: _,
             old_lab: _,
-        } => false,
-        Edit::PaletteAdd { rgb: _ } => false,
+        } => ListKind::NoList,
+        Edit::PaletteAdd { rgb: _ } => ListKind::NoList,
         Edit::PaletteRemove {
-            index: _,
+            index,
             rgb: _,
             lab: _,
-        } => false,
+        } => ListKind::RemapList { index },
+    }
+}
+
+// Whether a list of n changes is an empty list of pixels.
+pub fn is_empty(list: ListKind, n: usize) -> bool
+    ensures { λ r. ⌜ r ≡ emptyPixels list n ⌝ }
+{
+    match list {
+        ListKind::NoList => false,
+        ListKind::PixelList => n == 0,
+        ListKind::RemapList { index: _ } => false,
     }
 }

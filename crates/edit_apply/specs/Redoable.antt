@@ -1,8 +1,8 @@
--- What filling an edit in and redoing it ask of their callers. Definitions only. Assumes nothing.
+-- What filling an edit in and doing it ask of their callers. Definitions only. Assumes nothing.
 use mathlib.Core.Path.{_≡_}
 use mathlib.Core.Bool.{Bool}
 use mathlib.Core.List.{List}
-use Prim.Native.Nat.{ℕ, _+_, _*_, _≤_}
+use Prim.Native.Nat.{ℕ, _+_, _*_, _<_, _≤_}
 use lib.IntN.{ℤ}
 use lib.Ieee.{Float}
 use Rattle.base.specs.Checks.{firstOf}
@@ -19,6 +19,13 @@ EntryIn n (Pixels tool) = Unit {0}
 EntryIn n (PaletteSet i old new lab) = 3 * i + 3 ≤ n
 EntryIn n (PaletteAdd c) = Unit {0}
 EntryIn n (PaletteRemove i c lab) = 3 * i + 3 ≤ n
+
+-- what is left to do beside the list asks: the entry lies in palette storage of n bytes and LAB storage of m numbers
+unfoldable pub Finishable : ℕ → ℕ → ℕ → Edit → Type 0
+Finishable k n m (Pixels tool) = Unit {0}
+Finishable k n m (PaletteSet i old new lab) = (3 * i + 3 ≤ n) × (3 * i + 3 ≤ m)
+Finishable k n m (PaletteAdd c) = (3 * k + 3 ≤ n) × (3 * k + 3 ≤ m)
+Finishable k n m (PaletteRemove i c lab) = (i < k) × (k ≤ 255) × (3 * k ≤ n) × (3 * k ≤ m)
 
 -- an edit that its own checks do not refuse: push's or replay's, with any colours permitted
 pub record Unrefused (s : Sheet) (e : Edit) (cs : List Change) : Type 0 where

@@ -1,4 +1,4 @@
-// An edit that no check refuses: its record filled in, and the edit done.
+// An edit that no check refuses: its record filled in, and the edit done but for its list.
 use base::Edit;
 use base::Rgb;
 use base::lab_at;
@@ -8,22 +8,17 @@ use color::rgb8_to_lab;
 use edit_entries::close_lab_gap;
 use edit_entries::close_palette_gap;
 use edit_entries::store_rgb;
-use edit_pixels::paint_news;
 use edit_renumber::lower_above;
 ghost use mathlib.Core.Path.{_≡_};
-ghost use mathlib.Core.Bool.{false};
-ghost use mathlib.Core.List.{List, map};
-ghost use Prim.Native.Nat.{ℕ, _+_, _*_, _<_, _≤_};
+ghost use mathlib.Core.List.{List};
+ghost use Prim.Native.Nat.{ℕ, _+_, _*_, _≤_};
 ghost use lib.IntN.{ℤ};
 ghost use lib.ListN.{length};
-ghost use Rattle.base.specs.Lists.{some};
 ghost use Rattle.color_lab.specs.Convert.{labOf};
 ghost use Rattle.sheet.specs.Sheet.{sheetOf};
-ghost use Rattle.edit.specs.Change.{unpacked, painted, newOf};
-ghost use Rattle.edit.specs.Storage.{bytesOf, numbersOf, stored, closed, lowered};
-ghost use Rattle.edit.specs.Apply.{filledEdit, redone};
-ghost use Rattle.edit_pixels.specs.Inside.{past};
-ghost use Rattle.edit_apply.specs.Redoable.{EntryIn, Redoable};
+ghost use Rattle.edit.specs.Storage.{bytesOf, numbersOf, stored};
+ghost use Rattle.edit.specs.Apply.{filledEdit, restDone};
+ghost use Rattle.edit_apply.specs.Redoable.{EntryIn, Finishable};
 
 // The edit with the colour and the LAB that its entry has now, as the journal keeps it.
 pub fn fill_edit(palette: &[u8], lab: &[f64], edit: Edit) -> Edit
@@ -68,7 +63,7 @@ pub fn fill_edit(palette: &[u8], lab: &[f64], edit: Edit) -> Edit
 }
 
 // Gives entry i a colour, and the LAB of that colour.
-pub fn store_entry(palette: &mut [u8], lab: &mut [f64], i: usize, c: Rgb)
+fn store_entry(palette: &mut [u8], lab: &mut [f64], i: usize, c: Rgb)
     requires { ⌜ (3 * i + 3 ≤ length (now palette)) × (3 * i + 3 ≤ length (now lab)) ⌝ }
     ensures { λ _. ⌜ now (palette .exit) ≡ stored (3 * i) (bytesOf c) (now (palette .entry)) ⌝ }
     ensures { λ _. ⌜ now (lab .exit) ≡ stored (3 * i) (numbersOf (labOf c)) (now (lab .entry)) ⌝ }
@@ -77,53 +72,22 @@ pub fn store_entry(palette: &mut [u8], lab: &mut [f64], i: usize, c: Rgb)
     put_lab(lab, i, rgb8_to_lab(c));
 }
 
-// Paints the remap, lowers every index above the entry by one, and takes the entry out of k.
-fn remove_entry(
-    w: usize,
-    k: usize,
-    palette: &mut [u8],
-    lab: &mut [f64],
-    indices: &mut [i16],
-    index: usize,
-    list: &[u64],
-)
-    requires { ⌜ (index < k) × (k ≤ 255) × (3 * k ≤ length (now palette)) × (3 * k ≤ length (now lab)) ⌝ }
-    requires { ⌜ some (past w (length (now indices))) (map unpacked (now list)) ≡ false ⌝ }
-    ensures { λ _. ⌜ now (palette .exit) ≡ closed (3 * index) (3 * k) (now (palette .entry)) ⌝ }
-    ensures { λ _. ⌜ now (lab .exit) ≡ closed (3 * index) (3 * k) (now (lab .entry)) ⌝ }
-    ensures { λ _. ⌜
-        now (indices .exit)
-        ≡ map (lowered index) (painted newOf w (map unpacked (now (list .entry))) (now (indices .entry)))
-        ⌝ }
-{
-    paint_news(indices, w, list);
-    lower_above(indices, index);
-    close_palette_gap(palette, index, k);
-    close_lab_gap(lab, index, k);
-}
-
-// Does an edit to a sheet of any height, and answers the palette count after it.
-pub fn redo_edit(
-    w: usize,
+// Does what an edit does beside its list, which is painted already, and answers the palette count after it.
+pub fn finish_edit(
     k: usize,
     palette: &mut [u8],
     lab: &mut [f64],
     indices: &mut [i16],
     edit: Edit,
-    list: &[u64],
 ) -> usize
-    requires { ⌜ Redoable w k (now palette) (now lab) (now indices) edit (map unpacked (now list)) ⌝ }
+    requires { ⌜ Finishable k (length (now palette)) (length (now lab)) edit ⌝ }
     ensures { λ r. ⌜
-        ((h : ℕ) → sheetOf w h r (now (palette .exit)) (now (lab .exit)) (now (indices .exit))
-        ≡ redone labOf (sheetOf w h k (now (palette .entry)) (now (lab .entry)) (now (indices .entry))) edit
-        (map unpacked (now (list .entry))))
+        ((w h : ℕ) → sheetOf w h r (now (palette .exit)) (now (lab .exit)) (now (indices .exit))
+        ≡ restDone labOf (sheetOf w h k (now (palette .entry)) (now (lab .entry)) (now (indices .entry))) edit)
         ⌝ }
 {
     match edit {
-        Edit::Pixels { tool: _ } => {
-            paint_news(indices, w, list);
-            k
-        }
+        Edit::Pixels { tool: _ } => k,
         Edit::PaletteSet {
             index,
             old: _,
@@ -142,7 +106,9 @@ pub fn redo_edit(
             rgb: _,
             lab: _,
         } => {
-            remove_entry(w, k, palette, lab, indices, index, list);
+            lower_above(indices, index);
+            close_palette_gap(palette, index, k);
+            close_lab_gap(lab, index, k);
             k - 1
         }
     }

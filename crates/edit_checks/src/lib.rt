@@ -1,10 +1,7 @@
-// The checks of an edit that are its own, after those of its sheet and its list. They ask their caller for what
-// they need.
-//
-// A list of changes is lent as one number of 64 bits a change.
-mod own;
+// The checks of an edit that do not see its list: those before the list, and the one after it.
+mod head;
+mod marks;
 
-pub use own::add_no;
-pub use own::is_stale;
-pub use own::own_no;
-pub use own::set_no;
+pub use head::head_no;
+pub use marks::clear_marks;
+pub use marks::left_no;

@@ -7,7 +7,7 @@ use native.Mathlib.Nat.{add-zero, zero-add, add-suc, suc-add, add-comm, sub-self
 use native.Mathlib.Numerals.{add-one}
 use lib.ListN.{length, getD, set, take, drop, length-append, length-drop, length-set, List·getD-append}
 use lib.Seq.{paste, paste-zero, paste-suc, drop-paste, getD-drop, getD-take, drop-cons, set-append-left, take-set-lt, take-suc-set, take-nil, append-snoc, length-take-le}
-use Rattle.edit.specs.Storage.{closed, reinserted}
+use Rattle.edit.specs.Storage.{closedBy, reinsertedBy}
 
 module _ {A : Type 0} where
   pub drop-take : (a n : ℕ) (l : List A) → drop a (take n l) ≡ take (n - a) (drop a l)
@@ -46,47 +46,47 @@ module _ {A : Type 0} where
       rw (e, ep, eq, en, early d (suc a) (drop (suc b) d) m b z (omega arith) k) (paste-back d a b m z h k)
 
 -- ---- the first entry taken out: j elements are moved
-pub record Closing {A : Type 0} (l : List A) (j : ℕ) (p : List A) : Type 0 where
+pub record Closing {A : Type 0} (m : ℕ) (l : List A) (j : ℕ) (p : List A) : Type 0 where
   pub long : length p ≡ length l
-  is : p ≡ paste l 0 (drop 3 l) j
+  is : p ≡ paste l 0 (drop m l) j
 
-pub closing-none : {A : Type 0} (l : List A) → Closing l 0 l
-closing-none l = record { long = refl; is = paste-zero l 0 (drop 3 l) }
+pub closing-none : {A : Type 0} (m : ℕ) (l : List A) → Closing m l 0 l
+closing-none m l = record { long = refl; is = paste-zero l 0 (drop m l) }
 
-module _ {A : Type 0} {l p : List A} {j : ℕ} (c : Closing l j p) where
-  pub closing-next : (z : A) → j + 3 < length l → Closing l (j + 1) (set p j (getD p (j + 3) z))
-  closing-next z h =
-      let n : j < length (drop 3 l) = simp length-drop (omega arith) in
-      let q : 0 + j + 3 ≡ j + 3 = omega arith in
-      let r : getD p (j + 3) z ≡ getD l (j + 3) z = rw (c .is) (rw q at (beyond l 0 (drop 3 l) j 3 z (omega arith) (omega arith))) in
+module _ {A : Type 0} {m : ℕ} {l p : List A} {j : ℕ} (c : Closing m l j p) where
+  pub closing-next : (z : A) → 0 < m → j + m < length l → Closing m l (j + 1) (set p j (getD p (j + m) z))
+  closing-next z s h =
+      let n : j < length (drop m l) = simp length-drop (omega arith) in
+      let q : 0 + j + m ≡ j + m = omega arith in
+      let r : getD p (j + m) z ≡ getD l (j + m) z = rw (c .is) (rw q at (beyond l 0 (drop m l) j m z (omega arith) (omega arith))) in
       record {
-        long = length-set p j (getD p (j + 3) z) ∙ c .long;
+        long = length-set p j (getD p (j + m) z) ∙ c .long;
         is =
-            rw (r, c .is, add-comm j 3, ← getD-drop 3 l j z, add-one)
-            (ap (λ (i : ℕ). set (paste l 0 (drop 3 l) j) i (getD (drop 3 l) j z)) (sym (zero-add j)) ∙ paste-suc l 0 (drop 3 l) j z (omega arith) n);
+            rw (r, c .is, add-comm j m, ← getD-drop m l j z, add-one)
+            (ap (λ (i : ℕ). set (paste l 0 (drop m l) j) i (getD (drop m l) j z)) (sym (zero-add j)) ∙ paste-suc l 0 (drop m l) j z (omega arith) n);
       }
 
-  pub closing-all : (n : ℕ) → j ≡ n - 3 → p ≡ closed 0 n l
-  unfolding closed
-  closing-all n e = c .is ∙ rw (e, zero-add (n - 3), drop-take 3 n l)
+  pub closing-all : (n : ℕ) → j ≡ n - m → p ≡ closedBy m 0 n l
+  unfolding closedBy
+  closing-all n e = c .is ∙ rw (e, zero-add (n - m), zero-add m, drop-take m n l)
 
 -- ---- room for an entry in front: all but the first j of n elements are moved
-pub record Opening {A : Type 0} (l : List A) (n j : ℕ) (p : List A) : Type 0 where
+pub record Opening {A : Type 0} (m : ℕ) (l : List A) (n j : ℕ) (p : List A) : Type 0 where
   pub long : length p ≡ length l
-  is : p ≡ paste l (3 + j) (drop j l) (n - j)
+  is : p ≡ paste l (m + j) (drop j l) (n - j)
 
-pub opening-none : {A : Type 0} (l : List A) (n : ℕ) → Opening l n n l
-opening-none l n = record { long = refl; is = rw (sub-self n) (paste-zero l (3 + n) (drop n l)) }
+pub opening-none : {A : Type 0} (m : ℕ) (l : List A) (n : ℕ) → Opening m l n n l
+opening-none m l n = record { long = refl; is = rw (sub-self n) (paste-zero l (m + n) (drop n l)) }
 
-module _ {A : Type 0} {l p : List A} {n j : ℕ} (c : Opening l n j p) where
-  pub opening-next : (z : A) → 0 < j → j ≤ n → n + 3 ≤ length l → Opening l n (j - 1) (set p (j - 1 + 3) (getD p (j - 1) z))
-  opening-next z h k room =
+module _ {A : Type 0} {m : ℕ} {l p : List A} {n j : ℕ} (c : Opening m l n j p) where
+  pub opening-next : (z : A) → 0 < j → j ≤ n → 0 < m → n + m ≤ length l → Opening m l n (j - 1) (set p (j - 1 + m) (getD p (j - 1) z))
+  opening-next z h k s room =
       let i : ℕ = j - 1 in
       record {
-        long = length-set p (i + 3) (getD p i z) ∙ c .long;
-        is = rw (add-comm 3 i) (up-step l p (i + 3) i (3 + j) j (n - j) (n - i) z (omega arith) (omega arith) (omega arith) (c .is) (omega arith) (omega arith));
+        long = length-set p (i + m) (getD p i z) ∙ c .long;
+        is = rw (add-comm m i) (up-step l p (i + m) i (m + j) j (n - j) (n - i) z (omega arith) (omega arith) (omega arith) (c .is) (omega arith) (omega arith));
       }
 
-  pub opening-all : j ≡ 0 → p ≡ reinserted 0 n (take 3 l) l
-  unfolding reinserted
-  opening-all e = (rw (e, add-zero, sub-zero, add-comm 3 n) at (c .is)) ∙ append-assoc (take 3 l) (take n l) (drop (n + 3) l)
+  pub opening-all : j ≡ 0 → p ≡ reinsertedBy m 0 n (take m l) l
+  unfolding reinsertedBy
+  opening-all e = (rw (e, add-zero, sub-zero, add-comm m n) at (c .is)) ∙ append-assoc (take m l) (take n l) (drop (n + m) l)

@@ -2,16 +2,22 @@
 use mathlib.Core.Path.{_≡_, refl, sym, ap, _∙_}
 use mathlib.Core.Bool.{Bool, true, false, _||_, or-true, or-false}
 use mathlib.Core.List.{List, map}
-use Prim.Native.Nat.{ℕ, zero, suc, _+_, _<_, _≤_}
+use Prim.Native.Nat.{ℕ, zero, suc, _+_, _*_, _<_, _≤_}
+use native.Mathlib.Omega.{arith}
 use borrow.Author.Tests.{eqb-true, eqb-false}
 use lib.Dec.{eqb}
-use lib.ListN.{length, getD, set, replicate, length-set}
-use lib.Seq.{getD-set-same, getD-set-other}
+use lib.ListN.{length, getD, set, take, replicate, length-set}
+use lib.Seq.{getD-set-same, getD-set-other, take-set-lt, length-take-le}
+use Rattle.base.specs.Checks.{firstOf}
+use Rattle.base.proofs.First.{past}
 use Rattle.base.proofs.Scan.{Flagged, flag-step, flag-end}
-use Rattle.edit.specs.Change.{unpacked, place}
-use Rattle.edit.specs.Checks.{named}
+use Rattle.sheet.specs.Sheet.{Sheet}
+use Rattle.edit.specs.Change.{Change, unpacked, place}
+use Rattle.edit.specs.Checks.{named, remapChecks}
 use Rattle.edit_pixels.specs.Inside.{marked, Marks}
 use Rattle.edit_pixels.proofs.Unpacking.{some-unpacked}
+use Rattle.edit_pixels.proofs.Inside.{inside}
+use Rattle.edit_remap.specs.Marked.{whenNone}
 
 -- whether a change, as a number, names p
 abbrev names : ℕ → ℕ → ℕ → Bool
@@ -48,3 +54,31 @@ module _ {w : ℕ} {list : List ℕ} {n i : ℕ} {marks : List ℕ} (m : Marking
   pub marking-all : length list ≤ i → Marks w (map unpacked list) marks
   unfolding named
   marking-all h = record { says = λ p b. flag-end (m .says p (rw (m .long) at b)) h ∙ some-unpacked (λ c. eqb (place w c) p) list }
+
+-- ---- the first m of a scratch, which were clear
+pub record MarkedTo (w : ℕ) (list : List ℕ) (m : ℕ) (start : List ℕ) (i : ℕ) (marks : List ℕ) : Type 0 where
+  pub long : length marks ≡ length start
+  pub says : take m start ≡ replicate m 0 → Marking w list m i (take m marks)
+
+module _ (w : ℕ) (list : List ℕ) (m : ℕ) (start : List ℕ) where
+  pub none-marked : m ≤ length start → MarkedTo w list m start 0 start
+  none-marked h = record { long = refl; says = λ clear. rw (length-take-le m start h) at (marking-none w list m clear) }
+
+  pub one-marked : {i : ℕ} {marks : List ℕ} (q : ℕ) → MarkedTo w list m start i marks → i < length list → q < m → q ≡ place w (unpacked (getD list i 0))
+      → MarkedTo w list m start (i + 1) (set marks q 1)
+  one-marked {i} {marks} q a h k e =
+      record { long = length-set marks q 1 ∙ a .long; says = λ clear. rw (take-set-lt m marks q 1 k) (marking-next (a .says clear) h k e) }
+
+  pub all-marked : {i : ℕ} {marks : List ℕ} → MarkedTo w list m start i marks → length list ≤ i → take m start ≡ replicate m 0 → Marks w (map unpacked list) (take m marks)
+  all-marked a h clear = marking-all (a .says clear) h
+
+-- ---- one change
+-- what a number other than 0 keeps
+pub kept : {A : Type 0} (n : ℕ) (a b : A) → (n ≡ 0 → ⊥) → b ≡ whenNone n a b
+kept zero a b h = absurd (h refl)
+kept (suc n) a b h = refl
+
+-- a change of a remap to which no check applies stands in the picture
+pub move-inside : (s : Sheet) (i n : ℕ) (c : Change) → n ≡ s .w * s .h → firstOf (remapChecks s i c) ≡ 0 → place (s .w) c < n
+unfolding remapChecks
+move-inside s i n c q e = inside (s .w) (s .h) n q c (past _ _ (omega arith) e .off)

@@ -1,5 +1,5 @@
-// The checks of a removal's list.
+// One change of a removal's list, checked, and its place marked.
 mod remap;
 
+pub use remap::mark_move;
 pub use remap::move_no;
-pub use remap::removal_no;

@@ -20,6 +20,7 @@ ghost use lib.ListN.{length, replicate};
 ghost use Rattle.sheet.specs.Sheet.{sheetOf};
 ghost use Rattle.change_list.specs.Listed.{countOf};
 ghost use Rattle.tool_draw.specs.Calls.{pencilCall};
+ghost use Rattle.struct_edit.specs.Walk.{packedAll};
 ghost use Rattle.history_ledger.specs.Journal.{pushOf, undoOf, redoOf, markOf};
 ghost use Rattle.history_model.specs.Editing.{editing, givenOf};
 ghost use Rattle.history_model.specs.Calls.{stateOf, leaves};
@@ -55,6 +56,46 @@ fn moved(answer: Answer, k: usize, handle: Handle) -> Moved
     Moved { answer, k, handle }
 }
 
+// A list of changes made a step of the history.
+fn recorded(
+    k: usize,
+    palette: &mut [u8],
+    lab: &mut [f64],
+    indices: &mut [i16],
+    permitted: &[u8],
+    edit: Edit,
+    list: &[Change],
+    journal: &mut [u8],
+    handle: Handle,
+    marks: &mut [u8],
+) -> Moved
+    ensures { λ r. ⌜ (
+        let sheet = sheetOf 6 4 k (now (palette .entry)) (now (lab .entry)) (now (indices .entry)) in
+        leaves r 6 4 (now (palette .exit)) (now (lab .exit)) (now (indices .exit)) (now (journal .exit))
+        ≡ pushOf editing (length (now (marks .entry))) (stateOf sheet (now (journal .entry)) handle)
+        (givenOf false (now (permitted .entry)) edit (packedAll (now (list .entry))))
+        ) ⌝ }
+{
+    let mut colors = k;
+    let mut held = handle;
+    let answer = push(
+        6,
+        4,
+        &mut colors,
+        palette,
+        lab,
+        indices,
+        false,
+        permitted,
+        edit,
+        list,
+        journal,
+        &mut held,
+        marks,
+    );
+    moved(answer, colors, held)
+}
+
 // A drag along points, with a brush of one pixel and entry 1, made a step of the history.
 pub(crate) fn stroke(
     k: usize,
@@ -78,8 +119,6 @@ pub(crate) fn stroke(
         (givenOf false (now (permitted .entry)) edit (changesOf drawn))
         ) ⌝ }
 {
-    let mut colors = k;
-    let mut held = handle;
     let mut list = blank();
     let drawn = pencil(
         6,
@@ -96,22 +135,18 @@ pub(crate) fn stroke(
         &mut list,
     );
     let n = count(drawn);
-    let answer = push(
-        6,
-        4,
-        &mut colors,
+    recorded(
+        k,
         palette,
         lab,
         indices,
-        false,
         permitted,
         edit,
         &list[..n],
         journal,
-        &mut held,
+        handle,
         marks,
-    );
-    moved(answer, colors, held)
+    )
 }
 
 // The last step taken back.

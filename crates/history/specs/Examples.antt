@@ -29,7 +29,7 @@ nought = fin false 0 (pos 0)
 abbrev pub rowOf : ℕ → List ℤ → ℕ → Sheet
 rowOf w indices k = sheetOf w 1 k (replicate 765 0) (replicate 765 nought) indices
 
-abbrev pub openedIn : ℕ → Sheet → State editing
+abbrev pub openedIn : ℕ → Sheet → State Sheet
 openedIn n s = opened editing s (replicate n 0)
 
 -- an edit, any colour permitted
@@ -52,21 +52,21 @@ zeroOneTwo = rowOf 3 (pos 0 ∷ pos 1 ∷ pos 2 ∷ []) 3
 abbrev pub oneIntoTwo : Given
 oneIntoTwo = removal 1 (record { x = 1; y = 0; old = pos 1; new = pos 2 } ∷ [])
 
-abbrev pub removed : Outcome (State editing)
+abbrev pub removed : Outcome (State Sheet)
 removed = pushOf editing 3 (openedIn 45 zeroOneTwo) oneIntoTwo
 
 -- "Add 10 20 30 (hexadecimal)"
 abbrev pub blueGrey : Given
 blueGrey = add (record { r = 0x10; g = 0x20; b = 0x30 })
 
-abbrev pub addedIn : ℕ → Outcome (State editing)
+abbrev pub addedIn : ℕ → Outcome (State Sheet)
 addedIn n = pushOf editing 0 (openedIn n (rowOf 0 [] 0)) blueGrey
 
 -- "Push, mark, undo, push"
 abbrev pub paint : ℕ → Given
 paint i = anyOf (Pixels 0) (record { x = 0; y = 0; old = pos 0; new = pos i } ∷ [])
 
-abbrev pub pushedAgain : Played (State editing)
+abbrev pub pushedAgain : Played (State Sheet)
 pushedAgain = play (step editing 3) (openedIn 18 zeroOneTwo) (push (paint 1) ∷ mark ∷ undo ∷ push (paint 2) ∷ [])
 
 pub record Examples : Type 0 where

@@ -6,11 +6,10 @@
 // The crate history_model's specs/Demand3.antt states what the calls do together, for every list of them: document 01's
 // demand 3.
 mod mark;
-mod op;
 
 pub use history_ledger::fresh;
 pub use history_push::push;
 pub use history_redo::redo;
+pub use history_replay::replay;
 pub use history_undo::undo;
 pub use mark::mark_saved;
-pub use op::replay;

@@ -64,7 +64,7 @@ module _ {C : Type 0} (enough : ℕ) where
   rooms-enough (c ∷ cs) a (suc n) = rooms-enough cs (a .1) n
 
 module _ (A : Algebra) (L : Laws A) where
-  open Algebra A using (view, places)
+  open Algebra A using (Sheet, view, places)
 
   pub own-histories : OwnHistories A
   own-histories sheets i fits journals longer b b′ calls ts c rooms′ c′ =
@@ -73,7 +73,7 @@ module _ (A : Algebra) (L : Laws A) where
       let enough = places (view s) in
       let same = ap (play (stepLent A) (opened A s (journals i))) (lent-again enough own) ∙ sym (alone (stepLent A) i calls (λ j. opened A (sheets j) (journals j))) in
       subst
-      (λ (first : Played (State A)).
+      (λ (first : Played (State Sheet)).
       let left = unstruck (callsIn own) (first .answers) in
       SameHistory A (unstruck (first .answers) (first .answers)) first (play (stepLent A) (opened A s longer) (lend rooms′ left)) (play (enter A) (begun A (view s)) left))
       same

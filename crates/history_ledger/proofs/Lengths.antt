@@ -11,7 +11,8 @@ use Rattle.history_ledger.specs.Algebra.{Algebra}
 use Rattle.history_ledger.specs.Laws.{Laws}
 use Rattle.history_ledger.proofs.Soundness.{exactly, sound-yes}
 use Rattle.history_ledger.proofs.Saved.{SavedWithin, saved-sound, saved-read}
-use Rattle.history_ledger.proofs.Trace.{total, Trace, Pushed, bytes, sizes, pastBytes, futureBytes, journalOf, handleOf}
+use Rattle.history_ledger.specs.Tally.{total}
+use Rattle.history_ledger.proofs.Trace.{Trace, Pushed, bytes, sizes, pastBytes, futureBytes, journalOf, handleOf}
 
 module _ (A : Algebra) (L : Laws A) where
   pub past-length : (xs : List (Pushed A)) → length (pastBytes A xs) ≡ total (sizes A xs)

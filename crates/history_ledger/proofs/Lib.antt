@@ -2,6 +2,7 @@ pub mod Soundness
 pub mod Saved
 pub mod Playing
 pub mod Refusals
+pub mod Places
 pub mod Trace
 pub mod Lengths
 pub mod Tally
@@ -13,4 +14,5 @@ pub mod Scratch
 pub mod Whole
 pub mod Layers
 pub mod Full
-pub mod Need
+pub mod Script
+pub mod Within

@@ -21,10 +21,11 @@ use Rattle.history_ledger.specs.Journal.{markOf, stepOver, undoOf, redoO
 use Rattle.history_ledger.specs.Ledger.{enter, movedTo}
 use Rattle.history_ledger.proofs.Soundness.{same-handle}
 use Rattle.history_ledger.proofs.Saved.{SavedWithin}
-use Rattle.history_ledger.proofs.Trace.{total, Trace, Holds, Pushed, Leads, Follows, sizes, journalOf, handleOf, stateOf, pastBytes, futureBytes, pastPictures, futurePictures, pictures-length}
+use Rattle.history_ledger.specs.Tally.{total}
+use Rattle.history_ledger.proofs.Trace.{Trace, Holds, Pushed, Leads, Follows, sizes, journalOf, handleOf, stateOf, pastBytes, futureBytes, pastPictures, futurePictures, pictures-length}
 use Rattle.history_ledger.proofs.Lengths.{sound-handle, take-past, take-future}
 use Rattle.history_ledger.proofs.Tally.{tallyOf, turn-fits, Stepped}
-use Rattle.history_ledger.proofs.Checks.{move-passes, mark-passes, scratch-passes}
+use Rattle.history_ledger.proofs.Checks.{move-passes, redo-passes, mark-passes, scratch-passes}
 
 module _ (A : Algebra) (L : Laws A) where
   open Algebra A using (Sheet)
@@ -72,7 +73,7 @@ module _ (A : Algebra) (L : Laws A) (room n : ℕ) (permitted : n ≤ maxJournal
           answer = Still;
           to = k;
           holds = h;
-          code = rw (move-passes A L room n permitted k h, eq-eqb _ _ last);
+          code = rw (redo-passes A L room n permitted k h, eq-eqb _ _ last);
           tally = turn-fits A n (tallyOf A k) redo (omega arith) ∙ rw (eq-eqb _ _ last′);
         }
 
@@ -171,7 +172,7 @@ module _ (A : Algebra) (L : Laws A) (room n : ℕ) (permitted : n ≤ maxJournal
               to = higher;
               holds = higher-holds;
               code =
-                  rw (move-passes A L room n permitted (below s) h, more, scratch-passes A L room n permitted (below s) h)
+                  rw (redo-passes A L room n permitted (below s) h, more, scratch-passes A L room n permitted (below s) h)
                   (steps-over A L (below s) higher _ _ _ (size (x .by)) reading inside higher-handle (sym (journals (higher .sheet) s)) (higher-holds .saves));
               tally = turn-fits A n (tallyOf A (below s)) redo (omega arith) ∙ rw (more′, one-more, append-assoc);
             }

@@ -21,13 +21,14 @@ use Rattle.history_ledger.specs.Journal.{step, pushOf, pushed, written}
 use Rattle.history_ledger.specs.Ledger.{standing, enter, appended, forget}
 use Rattle.history_ledger.proofs.Soundness.{same-handle}
 use Rattle.history_ledger.proofs.Saved.{forget-number, forget-within}
-use Rattle.history_ledger.proofs.Trace.{total, Trace, Holds, sizes, journalOf, handleOf, stateOf, ledgerOf, pastBytes, pastPictures, futurePictures, pictures-length, stands}
+use Rattle.history_ledger.specs.Tally.{total, wants, isDone}
+use Rattle.history_ledger.proofs.Trace.{Trace, Holds, sizes, journalOf, handleOf, stateOf, ledgerOf, pastBytes, pastPictures, futurePictures, pictures-length, stands}
 use Rattle.history_ledger.proofs.Lengths.{take-past, past-length}
-use Rattle.history_ledger.proofs.Tally.{tallyOf, turn-full, turn-fits, turn-stays, wants, isDone, Stepped}
-use Rattle.history_ledger.proofs.Checks.{late, late-passes, late-empty, PushChecks}
+use Rattle.history_ledger.proofs.Tally.{tallyOf, turn-full, turn-fits, turn-stays, Stepped}
+use Rattle.history_ledger.proofs.Checks.{early, early-passes, late, late-passes, late-empty, PushChecks}
 
 module _ (A : Algebra) (L : Laws A) (room n : ℕ) (k : Trace A) (h : Holds A room n k) (e : A .Edit) (c : PushChecks A room k e) where
-  open Algebra A using (EditTyped, view, givenCheck, isEmpty, make, encode, size, paint)
+  open Algebra A using (EditTyped, view, isEmpty, make, encode, size, paint)
 
   abbrev offset : ℕ
   offset = total (sizes A (k .past))
@@ -37,11 +38,11 @@ module _ (A : Algebra) (L : Laws A) (room n : ℕ) (k : Trace A) (h : Holds A ro
       → enter A (ledgerOf A k) (push e) ≡ record { answer = a; leaves = ledgerOf A k } → Stepped A room n k (push e)
   stays a d p q = record { answer = a; to = k; holds = h; code = p; tally = turn-stays A n (tallyOf A k) e a d q }
 
-  given-refuses : (m : ℕ) → givenCheck e ≡ suc m → Stepped A room n k (push e)
+  given-refuses : (m : ℕ) → early A e ≡ suc m → Stepped A room n k (push e)
   unfolding pushOf enter refusedOr
   given-refuses m g = stays (alone (suc m)) refl (rw (c .entry, g)) (rw (c .ledger, g))
 
-  module _ (g : givenCheck e ≡ 0) where
+  module _ (g : early A e ≡ 0) where
     empty-still : isEmpty e ≡ true → Stepped A room n k (push e)
     unfolding pushOf enter refusedOr
     empty-still r = stays Still refl (rw (c .entry, g, r)) (rw (c .ledger, g, late-empty A L (view (k .sheet)) e r, r))
@@ -73,8 +74,17 @@ module _ (A : Algebra) (L : Laws A) (room n : ℕ) (k : Trace A) (h : Holds A ro
 
         accepts : Accepts A (k .sheet) e
         accepts =
-            let p = late-passes A (view (k .sheet)) e l in
-            record { fits = h .fits; typed = typed; given-passes = g; not-empty = r; not-long = p .not-long; own-passes = p .own-passes }
+            let p = early-passes A e g in
+            let q = late-passes A (view (k .sheet)) e l in
+            record {
+              fits = h .fits;
+              typed = typed;
+              first-passes = p .0;
+              given-passes = p .1;
+              not-empty = r;
+              not-long = q .not-long;
+              own-passes = q .own-passes;
+            }
 
         -- the trace after it
         abbrev after : Trace A
@@ -140,20 +150,20 @@ module _ (A : Algebra) (L : Laws A) (room n : ℕ) (k : Trace A) (h : Holds A ro
             }
 
   pub sim-push : EditTyped e → Stepped A room n k (push e)
-  sim-push typed = at-given (givenCheck e) refl
+  sim-push typed = at-given (early A e) refl
     where
-      at-full : (g : givenCheck e ≡ 0) (r : isEmpty e ≡ false) (l : late A (view (k .sheet)) e ≡ 0) (w : Bool) → ltb n (offset + size e) ≡ w → Stepped A room n k (push e)
+      at-full : (g : early A e ≡ 0) (r : isEmpty e ≡ false) (l : late A (view (k .sheet)) e ≡ 0) (w : Bool) → ltb n (offset + size e) ≡ w → Stepped A room n k (push e)
       at-full g r l true q = full g r l typed (ltb-true _ _ q)
       at-full g r l false q = accepted g r l typed (ltb-false _ _ q)
 
-      at-late : (g : givenCheck e ≡ 0) (r : isEmpty e ≡ false) (m : ℕ) → late A (view (k .sheet)) e ≡ m → Stepped A room n k (push e)
+      at-late : (g : early A e ≡ 0) (r : isEmpty e ≡ false) (m : ℕ) → late A (view (k .sheet)) e ≡ m → Stepped A room n k (push e)
       at-late g r zero q = at-full g r q (ltb n (offset + size e)) refl
       at-late g r (suc m) q = late-refuses g r m q
 
-      at-empty : (g : givenCheck e ≡ 0) (w : Bool) → isEmpty e ≡ w → Stepped A room n k (push e)
+      at-empty : (g : early A e ≡ 0) (w : Bool) → isEmpty e ≡ w → Stepped A room n k (push e)
       at-empty g true q = empty-still g q
       at-empty g false q = at-late g q (late A (view (k .sheet)) e) refl
 
-      at-given : (m : ℕ) → givenCheck e ≡ m → Stepped A room n k (push e)
+      at-given : (m : ℕ) → early A e ≡ m → Stepped A room n k (push e)
       at-given zero q = at-empty q (isEmpty e) refl
       at-given (suc m) q = given-refuses m q

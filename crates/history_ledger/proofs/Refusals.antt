@@ -33,6 +33,10 @@ twenty-one e = omega arith
 abbrev pub numberOf : Check → ℕ
 numberOf c = cond (c .applies) (c .number) 0
 
+-- a check that passes has not the number 14
+pub passed-other : (n : ℕ) → n ≡ 0 → ¬ (n ≡ journalFull)
+passed-other n p e = omega arith
+
 pub when-other : (n : ℕ) (b : Bool) → ¬ (n ≡ journalFull) → ¬ (cond b n 0 ≡ journalFull)
 when-other n true h e = h e
 when-other n false h e = omega arith
@@ -56,7 +60,7 @@ abbrev pub NoneFull : List Check → Type 0
 NoneFull [] = Unit {0}
 NoneFull (c ∷ cs) = (¬ (c .number ≡ journalFull)) × NoneFull cs
 
-none-full : (cs : List Check) → NoneFull cs → ¬ (firstOf cs ≡ journalFull)
+pub none-full : (cs : List Check) → NoneFull cs → ¬ (firstOf cs ≡ journalFull)
 unfolding firstOf
 none-full [] t e = omega arith
 none-full (c ∷ cs) t e = none-full cs (t .1) (first-other (numberOf c) (firstOf cs) (when-other (c .number) (c .applies) (t .0)) e .1)
@@ -97,9 +101,13 @@ module _ {S : Type 0} (s : S) where
       go zero e = inr (refl, e)
       go (suc m) e = inl (same-number e)
 
+  pub past-checks : (cs : List Check) (o : Outcome S) → ¬ (firstOf cs ≡ journalFull) → guarded s cs o .answer ≡ alone journalFull
+      → (firstOf cs ≡ 0) × (o .answer ≡ alone journalFull)
+  past-checks cs o t e = ⊎-elim (λ z. absurd (t z)) (λ z. z) (guarded-either cs o e)
+
   pub guarded-full : (cs : List Check) (o : Outcome S) → NoneFull cs → guarded s cs o .answer ≡ alone journalFull
       → (firstOf cs ≡ 0) × (o .answer ≡ alone journalFull)
-  guarded-full cs o t e = ⊎-elim (λ z. absurd (none-full cs t z)) (λ z. z) (guarded-either cs o e)
+  guarded-full cs o t e = past-checks cs o (none-full cs t) e
 
   pub done-full : (cs : List Check) (s′ : S) → guarded s cs (done s′) .answer ≡ alone journalFull → firstOf cs ≡ journalFull
   done-full cs s′ e = ⊎-elim (λ z. z) (λ z. absurd (done-other (z .1))) (guarded-either cs (done s′) e)

@@ -11,9 +11,9 @@ use Rattle.history_ledger.specs.Journal.{State, step, stepLent, pushOf, 
 use Rattle.history_ledger.proofs.Playing.{onward}
 
 module _ (A : Algebra) where
-  open Algebra A using (Edit, view, places)
+  open Algebra A using (Sheet, Edit, view, places)
 
-  pub any-room : (room room′ : ℕ) (st : State A) (c : Call Edit) → places (view (st .sheet)) ≤ room → places (view (st .sheet)) ≤ room′
+  pub any-room : (room room′ : ℕ) (st : State Sheet) (c : Call Edit) → places (view (st .sheet)) ≤ room → places (view (st .sheet)) ≤ room′
       → step A room st c ≡ step A room′ st c
   unfolding pushOf redoOf firstOf
   any-room room room′ st (push e) b b′ = rw (le-ltb _ _ b, le-ltb _ _ b′)
@@ -21,7 +21,7 @@ module _ (A : Algebra) where
   any-room room room′ st redo b b′ = rw (le-ltb _ _ b, le-ltb _ _ b′)
   any-room room room′ st mark b b′ = refl
 
-  pub one-room : (room : ℕ) (cs : List (Call Edit)) (st : State A) → play (stepLent A) st (lend (λ i. room) cs) ≡ play (step A room) st cs
+  pub one-room : (room : ℕ) (cs : List (Call Edit)) (st : State Sheet) → play (stepLent A) st (lend (λ i. room) cs) ≡ play (step A room) st cs
   unfolding play lend
   one-room room [] st = refl
   one-room room (c ∷ cs) st = ap (onward (step A room st c .answer)) (one-room room cs (step A room st c .leaves))

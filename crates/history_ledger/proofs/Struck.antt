@@ -16,9 +16,10 @@ use Rattle.history_ledger.specs.Algebra.{Algebra}
 use Rattle.history_ledger.specs.Laws.{Laws}
 use Rattle.history_ledger.specs.Ledger.{Ledger, standing, ledgerChecks, enter}
 use Rattle.history_ledger.specs.Demand.{isFull, unstruck}
-use Rattle.history_ledger.proofs.Refusals.{twenty-one, done-other, not-full, still-full, guarded-full}
+use Rattle.history_ledger.proofs.Refusals.{twenty-one, passed-other, done-other, not-full, still-full, guarded-full}
 use Rattle.history_ledger.proofs.Playing.{played, onward, play-cons}
-use Rattle.history_ledger.proofs.Tally.{Tally, wants, next, turn, turn-full, turn-fits}
+use Rattle.history_ledger.specs.Tally.{Tally, wants, next}
+use Rattle.history_ledger.proofs.Tally.{turn, turn-full, turn-fits}
 
 module _ (A : Algebra) (L : Laws A) where
   open Algebra A using (Edit, isEmpty)
@@ -28,7 +29,7 @@ module _ (A : Algebra) (L : Laws A) where
   unfolding enter
   enter-other l (push e) p =
       let s = standing A l in
-      let a = guarded-full l (ledgerChecks A s e) _ (L .given-not-full e, (L .picture-not-full s, (twenty-one, (L .own-not-full s e, tt)))) p in
+      let a = guarded-full l (ledgerChecks A s e) _ (L .first-not-full e, (L .given-not-full e, (L .picture-not-full s, (passed-other _ (L .curve-passes), (twenty-one, (L .own-not-full s e, tt)))))) p in
       done-other (still-full l (isEmpty e) _ (a .1) .1)
   enter-other l undo p = done-other (still-full l (eqb (l .position) 0) _ p .1)
   enter-other l redo p = done-other (still-full l (eqb (l .position) (length (l .later))) _ p .1)

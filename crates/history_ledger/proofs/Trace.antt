@@ -12,11 +12,8 @@ use Rattle.history_ledger.specs.Algebra.{Algebra, WellFormedIn}
 use Rattle.history_ledger.specs.Laws.{Accepts}
 use Rattle.history_ledger.specs.Journal.{State}
 use Rattle.history_ledger.specs.Ledger.{Ledger, standing}
+use Rattle.history_ledger.specs.Tally.{total}
 use Rattle.history_ledger.proofs.Saved.{savedNumber, SavedWithin}
-
-abbrev pub total : List ℕ → ℕ
-total [] = 0
-total (n ∷ ns) = total ns + n
 
 module _ (A : Algebra) where
   open Algebra A using (Sheet, Picture, Edit, view, places, encode, size, paint)
@@ -89,7 +86,7 @@ module _ (A : Algebra) where
         saved = savedNumber (k .saved);
       }
 
-  abbrev pub stateOf : Trace → State A
+  abbrev pub stateOf : Trace → State Sheet
   stateOf k = record { sheet = k .sheet; journal = journalOf k; handle = handleOf k }
 
   abbrev pub ledgerOf : Trace → Ledger A

@@ -36,7 +36,7 @@ module _ (A : Algebra) (L : Laws A) where
     pub tally : play (turn A n) (tallyOf A k) cs ≡ played answers (tallyOf A to)
 
   module _ (room n : ℕ) (permitted : n ≤ maxJournal) where
-    sim : (k : Trace A) → Holds A room n k → (c : Call Edit) → TypedCall A c → Stepped A room n k c
+    pub sim : (k : Trace A) → Holds A room n k → (c : Call Edit) → TypedCall A c → Stepped A room n k c
     sim k h (push e) t = sim-push A L room n k h e (push-checks A L room n permitted k h e) t
     sim k h undo t = sim-undo A L room n permitted k h
     sim k h redo t = sim-redo A L room n permitted k h
@@ -59,7 +59,7 @@ module _ (A : Algebra) (L : Laws A) where
         }
 
   -- ---- a state that keeps to its trace matches the ledger
-  matches : (room n : ℕ) (k : Trace A) → n ≤ maxJournal → Holds A room n k → Matches A (stateOf A k) (ledgerOf A k)
+  pub matches : (room n : ℕ) (k : Trace A) → n ≤ maxJournal → Holds A room n k → Matches A (stateOf A k) (ledgerOf A k)
   matches room n k b h =
       record {
         picture = stands A k (h .leads);

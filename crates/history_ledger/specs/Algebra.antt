@@ -24,6 +24,10 @@ pub record Algebra : Type 1 where
   pub view : Sheet → Picture
   pub places : Picture → ℕ
   -- ---- checks: the number of the first that applies, 0 where none does
+  -- what a push's arguments are refused for "before all others", and what the curve is refused for that a session has
+  -- throughout (document 02: 28 of E12, 25 of E6)
+  pub firstCheck : Edit → ℕ
+  pub curveCheck : ℕ
   -- 1 to 3: of a sheet, of a picture, and of a push's arguments, whose list of permitted colours may be too long
   pub sheetCheck : Sheet → ℕ
   pub pictureCheck : Picture → ℕ

@@ -29,7 +29,8 @@ unstruck (x ∷ xs) [] = []
 unstruck (x ∷ xs) (a ∷ answers) = cond (isFull a) (unstruck xs answers) (x ∷ unstruck xs answers)
 
 module _ (A : Algebra) where
-  open Algebra A using (Sheet, Edit, EditTyped, view, places, sheetCheck, givenCheck, ownCheck, isEmpty, isLong, size)
+  open Algebra A using (Sheet, Edit, EditTyped, view, places, firstCheck, curveCheck, sheetCheck, givenCheck, ownCheck)
+  open Algebra A using (isEmpty, isLong, size)
 
   -- the numbers of each push are in the range of their types
   abbrev pub TypedCall : Call Edit → Type 0
@@ -43,13 +44,13 @@ module _ (A : Algebra) where
   TypedCalls (c ∷ cs) = TypedCall c × TypedCalls cs
 
   -- "sheet, standing position and saved position with the ledger's standing picture and positions"
-  pub record Matches (st : State A) (l : Ledger A) : Type 0 where
+  pub record Matches (st : State Sheet) (l : Ledger A) : Type 0 where
     pub picture : view (st .sheet) ≡ standing A l
     pub position : st .handle .position ≡ l .position
     pub saved : savedPosition (st .handle) ≡ l .saved
 
   -- "Compared are these calls' answers, numbers included, in order, and afterwards" what `Matches` says
-  pub record SameHistory (answers : List Answer) (first second : Played (State A)) (ledger : Played (Ledger A)) : Type 0 where
+  pub record SameHistory (answers : List Answer) (first second : Played (State Sheet)) (ledger : Played (Ledger A)) : Type 0 where
     pub second-answers : second .answers ≡ answers
     pub ledger-answers : ledger .answers ≡ answers
     pub first-ends : Matches (first .ends) (ledger .ends)
@@ -72,13 +73,15 @@ module _ (A : Algebra) where
       let ledger = play (enter A) (begun A (view s)) left in
       SameHistory (unstruck (first .answers) (first .answers)) first second ledger
 
-  -- 14 is the first check to apply to a push: none of 1 to 4 does, nor 21, 16 or one of its own, nor is it "still"; and
-  -- "standing offset + record length > journal length"
-  pub record FullFirst (room : ℕ) (st : State A) (e : Edit) : Type 0 where
+  -- 14 is the first check to apply to a push: none of 28, 1 to 4 and 25 does, nor 21, 16 or one of its own, nor is it
+  -- "still"; and "standing offset + record length > journal length"
+  pub record FullFirst (room : ℕ) (st : State Sheet) (e : Edit) : Type 0 where
+    pub first-passes : firstCheck e ≡ 0
     pub permitted : length (st .journal) ≤ maxJournal
     pub given-passes : givenCheck e ≡ 0
     pub sheet-passes : sheetCheck (st .sheet) ≡ 0
     pub handle-sound : sound (length (st .journal)) (st .handle) ≡ true
+    pub curve-passes : curveCheck ≡ 0
     pub not-empty : isEmpty e ≡ false
     pub not-long : isLong e ≡ false
     pub scratch : places (view (st .sheet)) ≤ room
@@ -86,7 +89,7 @@ module _ (A : Algebra) where
     pub does-not-fit : length (st .journal) < st .handle .offset + size e
 
   -- no other call has the check
-  abbrev pub FullCall : ℕ → State A → Call Edit → Type 0
+  abbrev pub FullCall : ℕ → State Sheet → Call Edit → Type 0
   FullCall room st (push e) = FullFirst room st e
   FullCall room st undo = ⊥
   FullCall room st redo = ⊥
@@ -94,4 +97,4 @@ module _ (A : Algebra) where
 
   -- "journal full" is answered exactly where 14 is the first check to apply, empty pixel lists apart: by every call, in every state
   abbrev pub FullExactly : Type 0
-  FullExactly = (room : ℕ) (st : State A) (c : Call Edit) → (step A room st c .answer ≡ alone journalFull) ↔ FullCall room st c
+  FullExactly = (room : ℕ) (st : State Sheet) (c : Call Edit) → (step A room st c .answer ≡ alone journalFull) ↔ FullCall room st c

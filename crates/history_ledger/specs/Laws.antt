@@ -10,13 +10,14 @@ use Rattle.base.specs.Numbers.{journalFull}
 use Rattle.history_ledger.specs.Algebra.{Algebra, Taken, WellFormedIn}
 
 module _ (A : Algebra) where
-  open Algebra A using (Sheet, Picture, Edit, EditTyped, view, places, sheetCheck, pictureCheck, givenCheck, ownCheck)
+  open Algebra A using (Sheet, Picture, Edit, EditTyped, view, places, firstCheck, curveCheck, sheetCheck, pictureCheck, givenCheck, ownCheck)
   open Algebra A using (isEmpty, isLong, make, encode, size, back, forth, paint)
 
   -- a push of e on s is accepted, if its record fits
   pub record Accepts (s : Sheet) (e : Edit) : Type 0 where
     pub fits : WellFormedIn A s
     pub typed : EditTyped e
+    pub first-passes : firstCheck e ≡ 0
     pub given-passes : givenCheck e ≡ 0
     pub not-empty : isEmpty e ≡ false
     pub not-long : isLong e ≡ false
@@ -35,7 +36,10 @@ module _ (A : Algebra) where
     -- the ledger's "still" comes after all its checks, push's before 21 and its own
     pub empty-short : (e : Edit) → isEmpty e ≡ true → isLong e ≡ false
     pub empty-own : (p : Picture) (e : Edit) → isEmpty e ≡ true → ownCheck p e ≡ 0
+    -- the session's curve is fit
+    pub curve-passes : curveCheck ≡ 0
     -- none of these numbers is 14
+    pub first-not-full : (e : Edit) → ¬ (firstCheck e ≡ journalFull)
     pub sheet-not-full : (s : Sheet) → ¬ (sheetCheck s ≡ journalFull)
     pub picture-not-full : (p : Picture) → ¬ (pictureCheck p ≡ journalFull)
     pub given-not-full : (e : Edit) → ¬ (givenCheck e ≡ journalFull)

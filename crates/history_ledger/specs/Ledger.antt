@@ -17,7 +17,7 @@ forget n none = none
 forget n (some k) = cond (leb k n) (some k) none
 
 module _ (A : Algebra) where
-  open Algebra A using (Picture, Edit, pictureCheck, givenCheck, ownCheck, isEmpty, isLong, paint)
+  open Algebra A using (Picture, Edit, firstCheck, curveCheck, pictureCheck, givenCheck, ownCheck, isEmpty, isLong, paint)
 
   -- "a list of whole pictures .., a standing position, a saved position or none"; the list has the opening picture at its front
   pub record Ledger : Type 0 where
@@ -35,7 +35,14 @@ module _ (A : Algebra) where
 
   -- "the first of push's checks, 4, 16 and 14 left out, that applies to standing picture and arguments"
   abbrev pub ledgerChecks : Picture → Edit → List Check
-  ledgerChecks p e = group (givenCheck e) ∷ group (pictureCheck p) ∷ listTooLong when isLong e ∷ group (ownCheck p e) ∷ []
+  ledgerChecks p e =
+      group (firstCheck e)
+      ∷ group (givenCheck e)
+      ∷ group (pictureCheck p)
+      ∷ group curveCheck
+      ∷ listTooLong when isLong e
+      ∷ group (ownCheck p e)
+      ∷ []
 
   -- "drop pictures after the standing one, forget a saved position beyond it, append the picture `redo` makes, step up"
   unfoldable pub appended : Ledger → Picture → Ledger

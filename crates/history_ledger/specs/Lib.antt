@@ -5,4 +5,8 @@ pub mod Journal
 pub mod Ledger
 pub mod Demand
 pub mod Laws
+pub mod Places
 pub mod Layers
+pub mod Tally
+pub mod Script
+pub mod Within

@@ -1,5 +1,5 @@
--- Checks 1 to 4 in order, and what each answer of push is. Assumes nothing.
-use mathlib.Core.Path.{_≡_, refl, sym, _∙_}
+-- Checks 1 to 4 in order, and the answers that leave everything as it was. Assumes nothing.
+use mathlib.Core.Path.{_≡_, refl, _∙_}
 use mathlib.Core.Bool.{Bool, true, false, not, _&&_, _||_, cond}
 use mathlib.Core.List.{List, [], _∷_}
 use Prim.Native.Nat.{ℕ, zero, suc, _*_, _%_, _≤_, _<_}
@@ -11,18 +11,17 @@ use lib.Ieee.{Float}
 use lib.ListN.{length}
 use Rattle.base.specs.Limits.{maxPermitted, maxJournal}
 use Rattle.base.specs.Checks.{Check, orElse, firstOf}
-use Rattle.base.proofs.First.{refused-first, result-first}
 use Rattle.base.specs.Answer.{answerTold}
 use Rattle.base.specs.declared.Answer.the-variants.{Still, Refused}
-use Rattle.sheet.specs.Sheet.{sheetOf}
+use Rattle.sheet.specs.Sheet.{Sheet, sheetOf}
 use Rattle.sheet.specs.Checks.{permittedChecks, Judged}
 use Rattle.base.specs.declared.Handle.{Handle}
-use Rattle.history_ledger.specs.Calls.{refused, still, done, group}
+use Rattle.history_ledger.specs.Calls.{refused, still, group}
 use Rattle.history_ledger.specs.Handle.{sound}
-use Rattle.history_ledger.specs.Journal.{State, unsound, entryChecks, pushChecks, pushed, pushOf}
+use Rattle.history_ledger.specs.Journal.{State, unsound}
 use Rattle.history_model.specs.Editing.{Given, editing}
 use Rattle.base.specs.declared.Moved.{Moved}
-use Rattle.history_model.specs.Calls.{stateOf, leaves, Moves, Enters, Pushes}
+use Rattle.history_model.specs.Calls.{stateOf, leaves, Moves, Enters}
 
 one-no : _≡_ {A = ℕ} 1 0 → ⊥
 one-no e = omega arith
@@ -35,7 +34,7 @@ unfolding firstOf
 here zero cs h = absurd (h refl)
 here (suc n) cs h = refl
 
-module _ (st : State editing) where
+module _ (st : State Sheet) where
   pub moves-long : maxJournal < length (st .journal) → Moves st 1
   unfolding firstOf
   moves-long h = record { value = rw (lt-ltb maxJournal (length (st .journal)) h); fine = λ e. absurd (one-no e) }
@@ -77,29 +76,6 @@ module _ (st : State editing) where
     pub enters-moves : editing .givenCheck g ≡ 0 → (n : ℕ) → Moves st n → Enters st g n
     unfolding firstOf
     enters-moves e n m = record { value = m .value ∙ rw e; fine = m .fine }
-
-    -- ---- the answers
-    module _ (room : ℕ) where
-      pub push-refused : (n : ℕ) → Enters st g n → (n ≡ 0 → ⊥) → refused st n ≡ pushOf editing room st g
-      unfolding pushOf
-      push-refused n e h = refused-first (entryChecks editing st g) (refused st) _ n (e .value) h
-
-      module _ (n : ℕ) (e : Enters st g n) (z : n ≡ 0) where
-        pub push-still : editing .isEmpty g ≡ true → still st ≡ pushOf editing room st g
-        unfolding pushOf
-        push-still b = rw b (result-first (entryChecks editing st g) (refused st) (still st) (sym (e .value) ∙ z))
-
-        pub push-checked : editing .isEmpty g ≡ false → (m : ℕ) → Pushes room st g m → (m ≡ 0 → ⊥) → refused st m ≡ pushOf editing room st g
-        unfolding pushOf
-        push-checked b m p h =
-            refused-first (pushChecks editing room st g) (refused st) (done (pushed editing st g)) m (p .value) h
-            ∙ rw b (result-first (entryChecks editing st g) (refused st) _ (sym (e .value) ∙ z))
-
-        pub push-done : editing .isEmpty g ≡ false → (m : ℕ) → Pushes room st g m → m ≡ 0 → done (pushed editing st g) ≡ pushOf editing room st g
-        unfolding pushOf
-        push-done b m p h =
-            result-first (pushChecks editing room st g) (refused st) (done (pushed editing st g)) (sym (p .value) ∙ h)
-            ∙ rw b (result-first (entryChecks editing st g) (refused st) _ (sym (e .value) ∙ z))
 
 -- ---- an answer that leaves everything as it was
 module _ (m : Moved) (w h k : ℕ) (palette : List ℕ) (lab : List Float) (indices : List ℤ) (journal : List ℕ) (handle : Handle) where

@@ -22,10 +22,15 @@ use Rattle.sheet.proofs.Judging.{none-applied, judged-fine}
 use Rattle.base.specs.declared.Edit.{Edit}
 use Rattle.base.specs.declared.Edit.the-variants.{Pixels, PaletteSet, PaletteAdd, PaletteRemove}
 use Rattle.edit.specs.Change.{Change}
-use Rattle.edit.specs.Checks.{Permitted, ownChecks, asSheet}
+use Rattle.edit.specs.Checks.{Permitted, ownChecks, asSheet, headChecks, changeChecks, leftChecks}
 use Rattle.edit.specs.Storage.{bytesOf, numbersOf}
 use Rattle.edit.specs.Accepted.{Bytes, NewBytes, Accepted, FiniteCurve}
-use Rattle.edit.specs.Apply.{noPixels, filledEdit, filledChanges, redone, nextPicture, reverted, canRevert}
+use Rattle.edit.specs.declared.ListKind.{ListKind}
+use Rattle.edit.specs.declared.ListKind.the-variants.{NoList, PixelList, RemapList}
+use Rattle.edit.specs.List.{listOf, emptyPixels, filledList}
+use Rattle.edit.proofs.Together.{own-apart}
+use Rattle.edit_list.proofs.NoChecks.{no-checks}
+use Rattle.edit.specs.Apply.{filledEdit, filledChanges, redone, nextPicture, reverted, canRevert}
 use Rattle.edit.proofs.FirstCheck.{first-nowhere}
 use Rattle.edit.proofs.Numbers.{own-number}
 use Rattle.edit.proofs.Redone.{redone-view, redone-fits}
@@ -61,15 +66,14 @@ view-passes s f =
     )
 
 -- ---- an empty list of pixels
-pub empty-short : (e : Edit) (cs : List Change) → noPixels e cs ≡ true → tooLong cs ≡ false
-unfolding noPixels tooLong
-empty-short (Pixels tool) cs h = le-ltb maxChanges (length cs) (omega (arith, eqb-true (length cs) 0 h))
-empty-short (PaletteSet i old new lab) cs h = absurd (let z : _≡_ {A = ℕ} 0 1 = cc in omega arith)
-empty-short (PaletteAdd c) cs h = absurd (let z : _≡_ {A = ℕ} 0 1 = cc in omega arith)
-empty-short (PaletteRemove i c lab) cs h = absurd (let z : _≡_ {A = ℕ} 0 1 = cc in omega arith)
+pub empty-short : (l : ListKind) (cs : List Change) → emptyPixels l (length cs) ≡ true → tooLong cs ≡ false
+unfolding emptyPixels tooLong
+empty-short NoList cs h = absurd (let z : _≡_ {A = ℕ} 0 1 = cc in omega arith)
+empty-short PixelList cs h = le-ltb maxChanges (length cs) (omega (arith, eqb-true (length cs) 0 h))
+empty-short (RemapList i) cs h = absurd (let z : _≡_ {A = ℕ} 0 1 = cc in omega arith)
 
-pub empty-own : (s : Sheet) (p : Permitted) (e : Edit) (cs : List Change) → noPixels e cs ≡ true → firstOf (ownChecks false s p e cs) ≡ 0
-unfolding noPixels ownChecks firstOf flatMap
+pub empty-own : (s : Sheet) (p : Permitted) (e : Edit) (cs : List Change) → emptyPixels (listOf e) (length cs) ≡ true → firstOf (ownChecks false s p e cs) ≡ 0
+unfolding emptyPixels ownChecks headChecks changeChecks leftChecks firstOf flatMap
 empty-own s p (Pixels tool) [] h = refl
 empty-own s p (Pixels tool) (c ∷ cs) h = absurd (let z : ℕ = suc (length cs) in omega (arith, eqb-true (suc (length cs)) 0 h))
 empty-own s p (PaletteSet i old new lab) cs h = absurd (let z : _≡_ {A = ℕ} 0 1 = cc in omega arith)
@@ -95,16 +99,25 @@ given-not-full limited colours = few (permittedChecks limited colours) refl
 own-not-full : (s : Sheet) (p : Permitted) (e : Edit) (cs : List Change) → ¬ (firstOf (ownChecks false s p e cs) ≡ journalFull)
 own-not-full s p e cs h = omega (arith, own-number false s p e cs)
 
--- ---- set and add, with another list beside them
-module _ (s : Sheet) (p : Permitted) where
-  own-checks : (e : Edit) (cs : List Change) → ownChecks false s p e (ownList e cs) ≡ ownChecks false s p e cs
-  unfolding ownChecks
-  own-checks (Pixels tool) cs = refl
-  own-checks (PaletteSet i old new lab) cs = refl
-  own-checks (PaletteAdd c) cs = refl
-  own-checks (PaletteRemove i c lab) cs = refl
+-- ---- an edit without a list, with another list beside it
+module _ (s : Sheet) where
+  own-changes : (l : ListKind) (cs : List Change) → firstOf (flatMap (changeChecks false s l) (ownList l cs)) ≡ firstOf (flatMap (changeChecks false s l) cs)
+  unfolding changeChecks flatMap firstOf
+  own-changes NoList cs = sym (no-checks cs)
+  own-changes PixelList cs = refl
+  own-changes (RemapList i) cs = refl
 
-own-picture : (curve : Rgb → Lab) (p : Picture) (e : Edit) (cs : List Change) → nextPicture curve p e (ownList e cs) ≡ nextPicture curve p e cs
+  own-left : (l : ListKind) (cs : List Change) → leftChecks s l (ownList l cs) ≡ leftChecks s l cs
+  unfolding leftChecks
+  own-left NoList cs = refl
+  own-left PixelList cs = refl
+  own-left (RemapList i) cs = refl
+
+  own-checks : (p : Permitted) (e : Edit) (cs : List Change) → firstOf (ownChecks false s p e (ownList (listOf e) cs)) ≡ firstOf (ownChecks false s p e cs)
+  own-checks p e cs =
+      own-apart false s p e (ownList (listOf e) cs) ∙ rw (own-changes (listOf e) cs, own-left (listOf e) cs) (sym (own-apart false s p e cs))
+
+own-picture : (curve : Rgb → Lab) (p : Picture) (e : Edit) (cs : List Change) → nextPicture curve p e (ownList (listOf e) cs) ≡ nextPicture curve p e cs
 unfolding nextPicture
 own-picture curve p (Pixels tool) cs = refl
 own-picture curve p (PaletteSet i old new lab) cs = refl
@@ -139,19 +152,19 @@ module _ (curve : Rgb → Lab) (good : Curve curve) where
     accepted =
         record {
           fits = well-formed (a .fits);
-          unrefused = checks-shown false (g .permitted) (g .changes) s (g .edit) ∙ a .own-passes;
+          unrefused = checks-shown false (g .permitted) s (g .edit) (g .changes) ∙ a .own-passes;
           new-bytes = a .typed .new-bytes;
         }
 
-    own-accepted : Accepted s (g .permitted) (g .edit) (ownList (g .edit) (g .changes))
+    own-accepted : Accepted s (g .permitted) (g .edit) (ownList (listOf (g .edit)) (g .changes))
     own-accepted =
         record {
           fits = accepted .fits;
-          unrefused = ap firstOf (own-checks s (g .permitted) (g .edit) (g .changes)) ∙ accepted .unrefused;
+          unrefused = own-checks s (g .permitted) (g .edit) (g .changes) ∙ accepted .unrefused;
           new-bytes = accepted .new-bytes;
         }
 
-    fit : Fit (filledEdit s (g .edit)) (filledChanges s (g .edit) (ownList (g .edit) (g .changes)))
+    fit : Fit (filledEdit s (g .edit)) (filledChanges s (g .edit) (ownList (listOf (g .edit)) (g .changes)))
     fit = recordable s (well-formed (a .fits)) (a .fits .typed) (g .edit) (g .changes) (a .not-empty) (a .not-long) (a .typed .changes-fit)
 
   -- ---- bytes stay bytes, and doubles doubles
@@ -185,7 +198,7 @@ module _ (curve : Rgb → Lab) (good : Curve curve) where
   encode-length : (s : Sheet) (g : Given) → Accepts A s g → length (recordOf (filledEdit s (g .edit)) (filledChanges s (g .edit) (g .changes))) ≡ recordLength (g .edit) (length (g .changes))
   encode-length s g a =
       ap length (own-record s (g .edit) (g .changes))
-      ∙ length-record (filledEdit s (g .edit)) (filledChanges s (g .edit) (ownList (g .edit) (g .changes)))
+      ∙ length-record (filledEdit s (g .edit)) (filledChanges s (g .edit) (ownList (listOf (g .edit)) (g .changes)))
       ∙ own-length s (well-formed (a .fits)) (a .fits .typed) (g .edit) (g .changes)
 
   -- ---- its record, read from either end
@@ -193,16 +206,16 @@ module _ (curve : Rgb → Lab) (good : Curve curve) where
   unfolding undoable
   taken-back t e cs c f = rw (c, passes f)
 
-  own-count : (s : Sheet) (e : Edit) (cs : List Change) → length cs ≤ maxChanges → length (filledChanges s e (ownList e cs)) ≤ maxChanges
-  unfolding filledChanges
+  own-count : (s : Sheet) (e : Edit) (cs : List Change) → length cs ≤ maxChanges → length (filledChanges s e (ownList (listOf e) cs)) ≤ maxChanges
+  unfolding filledChanges filledList
   own-count s (Pixels tool) cs h = rw length-map h
   own-count s (PaletteSet i old new lab) cs h = omega arith
   own-count s (PaletteAdd c) cs h = omega arith
   own-count s (PaletteRemove i c lab) cs h = h
 
   taken-forth : (s t : Sheet) (g : Given) → tooLong (g .changes) ≡ false
-      → firstOf (ownChecks false t anyColour (filledEdit s (g .edit)) (filledChanges s (g .edit) (ownList (g .edit) (g .changes)))) ≡ 0
-      → redoable t (filledEdit s (g .edit)) (filledChanges s (g .edit) (ownList (g .edit) (g .changes))) ≡ true
+      → firstOf (ownChecks false t anyColour (filledEdit s (g .edit)) (filledChanges s (g .edit) (ownList (listOf (g .edit)) (g .changes)))) ≡ 0
+      → redoable t (filledEdit s (g .edit)) (filledChanges s (g .edit) (ownList (listOf (g .edit)) (g .changes))) ≡ true
   unfolding redoable tooLong
   taken-forth s t g h c =
       rw (le-leb _ maxChanges (own-count s (g .edit) (g .changes) (ltb-false maxChanges (length (g .changes)) h)), c)
@@ -212,7 +225,7 @@ module _ (curve : Rgb → Lab) (good : Curve curve) where
   unfolding undoneBy
   back-reads before s g t a f v =
       let e = filledEdit s (g .edit) in
-      let cs = filledChanges s (g .edit) (ownList (g .edit) (g .changes)) in
+      let cs = filledChanges s (g .edit) (ownList (listOf (g .edit)) (g .changes)) in
       let u = reverted-view curve (own-accepted a) (well-formed f) (v ∙ sym (own-picture curve (view s) (g .edit) (g .changes)) ∙ sym (redone-view curve (own-accepted a))) in
       record {
         sheet = reverted t e cs;
@@ -236,7 +249,7 @@ module _ (curve : Rgb → Lab) (good : Curve curve) where
   unfolding redoneBy
   forth-reads after s g t a f v =
       let e = filledEdit s (g .edit) in
-      let cs = filledChanges s (g .edit) (ownList (g .edit) (g .changes)) in
+      let cs = filledChanges s (g .edit) (ownList (listOf (g .edit)) (g .changes)) in
       let u = redo-again curve (good .finite) anyColour refl (own-accepted a) (well-formed f) v in
       record {
         sheet = redone curve t e cs;
@@ -259,8 +272,10 @@ module _ (curve : Rgb → Lab) (good : Curve curve) where
   keeps =
       record {
         view-passes = λ s f. view-passes s (well-formed f);
-        empty-short = λ g. empty-short (g .edit) (g .changes);
+        empty-short = λ g. empty-short (listOf (g .edit)) (g .changes);
         empty-own = λ p g. empty-own (asSheet p) (g .permitted) (g .edit) (g .changes);
+        curve-passes = refl;
+        first-not-full = λ g e. omega arith;
         sheet-not-full = sheet-not-full;
         picture-not-full = picture-not-full;
         given-not-full = λ g. given-not-full (g .permitted .limited) (g .permitted .colours);

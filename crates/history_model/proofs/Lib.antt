@@ -3,7 +3,7 @@ pub mod Keeps
 pub mod Demand3
 pub mod Layers
 pub mod Answers
-pub mod PushChecks
 pub mod Accepting
 pub mod ReplayChecks
 pub mod Steps
+pub mod Over

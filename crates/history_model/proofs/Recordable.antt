@@ -18,18 +18,20 @@ use Rattle.sheet.specs.Checks.{WellFormed}
 use Rattle.base.specs.declared.Edit.{Edit}
 use Rattle.base.specs.declared.Edit.the-variants.{Pixels, PaletteSet, PaletteAdd, PaletteRemove}
 use Rattle.edit.specs.Change.{Change, place, filledIn}
-use Rattle.edit.specs.Apply.{noPixels, filledEdit, filledChanges}
+use Rattle.edit.specs.declared.ListKind.{ListKind}
+use Rattle.edit.specs.declared.ListKind.the-variants.{NoList, PixelList, RemapList}
+use Rattle.edit.specs.List.{listOf, emptyPixels, filledList}
+use Rattle.edit.specs.Apply.{filledEdit, filledChanges}
 use Rattle.edit_pixels.proofs.Fitting.{pixel-fits}
 use Rattle.journal_write.specs.Fit.{FitChanges, FitLab, FitEdit, Fit}
 use Rattle.journal_record.specs.Record.{recordLength, recordOf, bodyOf}
 use Rattle.history_model.specs.Editing.{TypedSheet, tooLong}
 
 -- ---- the list of an edit that has one: set and add do not look at theirs
-abbrev pub ownList : Edit → List Change → List Change
-ownList (Pixels tool) cs = cs
-ownList (PaletteSet i old new lab) cs = []
-ownList (PaletteAdd c) cs = []
-ownList (PaletteRemove i c lab) cs = cs
+abbrev pub ownList : ListKind → List Change → List Change
+ownList NoList cs = []
+ownList PixelList cs = cs
+ownList (RemapList i) cs = cs
 
 -- ---- a sheet's numbers fit
 abbrev wide : Float → Bool
@@ -59,24 +61,24 @@ module _ (s : Sheet) (f : WellFormed s) (t : TypedSheet s) where
   olds-fit (c ∷ cs) h =
       (record { x-fits = h .0 .x-fits; y-fits = h .0 .y-fits; old-fits = pixel-fits (s .k) (s .indices) (place (s .w) c) (f .limits .k-small) (f .in-range); new-fits = h .0 .new-fits }, olds-fit cs (h .1))
 
-  edit-fits : (e : Edit) (cs : List Change) → noPixels e cs ≡ false → FitEdit (filledEdit s e) (filledChanges s e (ownList e cs))
-  unfolding FitEdit filledEdit filledChanges noPixels
+  edit-fits : (e : Edit) (cs : List Change) → emptyPixels (listOf e) (length cs) ≡ false → FitEdit (filledEdit s e) (filledChanges s e (ownList (listOf e) cs))
+  unfolding FitEdit filledEdit filledChanges filledList emptyPixels
   edit-fits (Pixels tool) [] h = absurd (let z : _≡_ {A = ℕ} 0 1 = cc in omega arith)
   edit-fits (Pixels tool) (c ∷ cs) h = omega arith
   edit-fits (PaletteSet i old new lab) cs h = (entry-fits s t i, refl)
   edit-fits (PaletteAdd c) cs h = refl
   edit-fits (PaletteRemove i c lab) cs h = entry-fits s t i
 
-  changes-fit : (e : Edit) (cs : List Change) → FitChanges cs → FitChanges (filledChanges s e (ownList e cs))
-  unfolding FitChanges filledChanges
+  changes-fit : (e : Edit) (cs : List Change) → FitChanges cs → FitChanges (filledChanges s e (ownList (listOf e) cs))
+  unfolding FitChanges filledChanges filledList
   changes-fit (Pixels tool) cs h = olds-fit cs h
   changes-fit (PaletteSet i old new lab) cs h = tt
   changes-fit (PaletteAdd c) cs h = tt
   changes-fit (PaletteRemove i c lab) cs h = h
 
   -- ---- the length that 14 is tested with
-  pub own-length : (e : Edit) (cs : List Change) → recordLength (filledEdit s e) (length (filledChanges s e (ownList e cs))) ≡ recordLength e (length cs)
-  unfolding recordLength filledEdit filledChanges
+  pub own-length : (e : Edit) (cs : List Change) → recordLength (filledEdit s e) (length (filledChanges s e (ownList (listOf e) cs))) ≡ recordLength e (length cs)
+  unfolding recordLength filledEdit filledChanges filledList
   own-length (Pixels tool) cs = rw length-map
   own-length (PaletteSet i old new lab) cs = refl
   own-length (PaletteAdd c) cs = refl
@@ -89,7 +91,7 @@ module _ (s : Sheet) (f : WellFormed s) (t : TypedSheet s) where
   short (PaletteAdd c) n h = omega arith
   short (PaletteRemove i c lab) n h = omega arith
 
-  pub recordable : (e : Edit) (cs : List Change) → noPixels e cs ≡ false → tooLong cs ≡ false → FitChanges cs → Fit (filledEdit s e) (filledChanges s e (ownList e cs))
+  pub recordable : (e : Edit) (cs : List Change) → emptyPixels (listOf e) (length cs) ≡ false → tooLong cs ≡ false → FitChanges cs → Fit (filledEdit s e) (filledChanges s e (ownList (listOf e) cs))
   unfolding tooLong
   recordable e cs some short-list fit =
       record {
@@ -99,8 +101,8 @@ module _ (s : Sheet) (f : WellFormed s) (t : TypedSheet s) where
       }
 
 -- ---- the record does not tell a list that the edit has not
-pub own-record : (s : Sheet) (e : Edit) (cs : List Change) → recordOf (filledEdit s e) (filledChanges s e cs) ≡ recordOf (filledEdit s e) (filledChanges s e (ownList e cs))
-unfolding recordOf bodyOf recordLength filledEdit filledChanges
+pub own-record : (s : Sheet) (e : Edit) (cs : List Change) → recordOf (filledEdit s e) (filledChanges s e cs) ≡ recordOf (filledEdit s e) (filledChanges s e (ownList (listOf e) cs))
+unfolding recordOf bodyOf recordLength filledEdit filledChanges filledList
 own-record s (Pixels tool) cs = refl
 own-record s (PaletteSet i old new lab) cs = refl
 own-record s (PaletteAdd c) cs = refl

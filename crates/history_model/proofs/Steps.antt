@@ -15,8 +15,8 @@ use Rattle.history_ledger.specs.Journal.{State, stepOver}
 use Rattle.history_model.specs.Editing.{taken, editing}
 use Rattle.history_model.specs.Calls.{stateOf}
 
-module _ (st : State editing) (inside : ℕ → Bool) (stepped : ℕ → Handle → Handle) where
-  abbrev moved : Option (Taken Sheet) → Outcome (State editing)
+module _ (st : State Sheet) (inside : ℕ → Bool) (stepped : ℕ → Handle → Handle) where
+  abbrev moved : Option (Taken Sheet) → Outcome (State Sheet)
   moved reading = stepOver editing st reading inside stepped
 
   pub over-none : (reading : Option (Taken Sheet)) → reading ≡ none → refused st 4 ≡ moved reading

@@ -19,45 +19,40 @@ use Rattle.journal_record.specs.Record.{recordLength}
 use Rattle.base.specs.declared.Handle.{Handle}
 use Rattle.history_ledger.specs.Handle.{sound}
 use Rattle.history_ledger.specs.Calls.{Outcome}
-use Rattle.history_ledger.specs.Journal.{State, longJournal, unsound, moveChecks, entryChecks, pushChecks}
+use Rattle.history_ledger.specs.Journal.{State, longJournal, unsound, moveChecks, entryChecks}
 use Rattle.base.specs.declared.Moved.{Moved}
 use Rattle.history_model.specs.Editing.{Given, editing}
 
 -- sheet, journal and handle
-abbrev pub stateOf : Sheet → List ℕ → Handle → State editing
+abbrev pub stateOf : Sheet → List ℕ → Handle → State Sheet
 stateOf s journal handle = record { sheet = s; journal = journal; handle = handle }
 
 -- what push, undo and redo leave: answer, handle and k come back by value, the rest in the lent buffers
-abbrev pub leaves : Moved → ℕ → ℕ → List ℕ → List Float → List ℤ → List ℕ → Outcome (State editing)
+abbrev pub leaves : Moved → ℕ → ℕ → List ℕ → List Float → List ℤ → List ℕ → Outcome (State Sheet)
 leaves m w h palette lab indices journal =
     record { answer = answerTold (m .answer); leaves = stateOf (sheetOf w h (m .k) palette lab indices) journal (m .handle) }
 
 -- ---- a sheet, a journal and a handle that none of 1 to 4 refuses
-pub record Standing (st : State editing) : Type 0 where
+pub record Standing (st : State Sheet) : Type 0 where
   pub fits : WellFormed (st .sheet)
   pub permitted : length (st .journal) ≤ maxJournal
   pub is-sound : sound (length (st .journal)) (st .handle) ≡ true
 
 -- the number of the first of 1 to 4 that applies, and what 0 means: for undo and redo, and for push
-pub record Moves (st : State editing) (n : ℕ) : Type 0 where
+pub record Moves (st : State Sheet) (n : ℕ) : Type 0 where
   pub value : n ≡ firstOf (moveChecks editing st)
   pub fine : n ≡ 0 → Standing st
 
-pub record Enters (st : State editing) (g : Given) (n : ℕ) : Type 0 where
+pub record Enters (st : State Sheet) (g : Given) (n : ℕ) : Type 0 where
   pub value : n ≡ firstOf (entryChecks editing st g)
   pub fine : n ≡ 0 → Standing st
 
 -- ---- a push that no check refuses
-pub record Acceptable (st : State editing) (e : Edit) (cs : List Change) : Type 0 where
+pub record Acceptable (st : State Sheet) (e : Edit) (cs : List Change) : Type 0 where
   pub permitted : Permitted
   pub passes : firstOf (ownChecks false (st .sheet) permitted e cs) ≡ 0
   pub short : length cs ≤ maxChanges
   pub room : st .handle .offset + recordLength e (length cs) ≤ length (st .journal)
-
--- the number of the first check after "still" that applies, and what 0 means
-pub record Pushes (room : ℕ) (st : State editing) (g : Given) (n : ℕ) : Type 0 where
-  pub value : n ≡ firstOf (pushChecks editing room st g)
-  pub fine : n ≡ 0 → Acceptable st (g .edit) (g .changes)
 
 -- ---- what looks at no sheet: 1 and 4, of a journal of n bytes
 abbrev pub handleChecks : ℕ → Handle → List Check

@@ -13,7 +13,7 @@ use Rattle.base.specs.Limits.{maxJournal}
 use Rattle.base.specs.Numbers.{journalFull}
 use Rattle.base.specs.Checks.{firstOf}
 use Rattle.base.specs.Answer.Told.{alone}
-use Rattle.sheet.specs.Sheet.{view}
+use Rattle.sheet.specs.Sheet.{Sheet, view}
 use Rattle.sheet.specs.Checks.{sheetChecks}
 use Rattle.history_ledger.specs.Calls.{Call, play, lend}
 use Rattle.history_ledger.specs.Journal.{State, opened, step, stepLent}
@@ -42,5 +42,5 @@ pub record Demand3 : Type 0 where
       let ledger = play (enter editing) (begun editing (view s)) left in
       SameHistory editing (unstruck (first .answers) (first .answers)) first second ledger
   -- a call answers "journal full" exactly where it is a push and 14 is the first check to apply, empty pixel lists apart: in every state, reached or not
-  pub journal-full : (scratch : ℕ) (st : State editing) (c : Call Given)
+  pub journal-full : (scratch : ℕ) (st : State Sheet) (c : Call Given)
       → (step editing scratch st c .answer ≡ alone journalFull) ↔ FullCall editing scratch st c

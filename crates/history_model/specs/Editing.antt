@@ -22,7 +22,8 @@ use Rattle.base.specs.declared.Edit.{Edit}
 use Rattle.edit.specs.Change.{Change, unpacked}
 use Rattle.edit.specs.Checks.{Permitted, permittedOf, ownChecks, asSheet}
 use Rattle.edit.specs.Accepted.{NewBytes}
-use Rattle.edit.specs.Apply.{noPixels, filledEdit, filledChanges, redone, nextPicture, reverted}
+use Rattle.edit.specs.List.{listOf, emptyPixels}
+use Rattle.edit.specs.Apply.{filledEdit, filledChanges, redone, nextPicture, reverted}
 use Rattle.journal_write.specs.Fit.{FitChanges}
 use Rattle.journal_record.specs.Record as records
 use Rattle.journal_record.specs.Record.{recordLength, recordOf, readForth, readBack}
@@ -88,11 +89,14 @@ module _ (curve : Rgb → Lab) where
         EditTyped = TypedGiven;
         view = view;
         places = λ p. p .w * p .h;
+        -- no call has 28 or 25 yet
+        firstCheck = λ g. 0;
+        curveCheck = 0;
         sheetCheck = λ s. firstOf (sheetChecks [] s);
         pictureCheck = λ p. firstOf (pictureChecks p);
         givenCheck = λ g. firstOf (permittedChecks (g .permitted .limited) (g .permitted .colours));
         ownCheck = λ p g. firstOf (ownChecks false (asSheet p) (g .permitted) (g .edit) (g .changes));
-        isEmpty = λ g. noPixels (g .edit) (g .changes);
+        isEmpty = λ g. emptyPixels (listOf (g .edit)) (length (g .changes));
         isLong = λ g. tooLong (g .changes);
         make = λ s g. redone curve s (g .edit) (g .changes);
         encode = λ s g. recordOf (filledEdit s (g .edit)) (filledChanges s (g .edit) (g .changes));

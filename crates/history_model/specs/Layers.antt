@@ -9,7 +9,7 @@ use lib.ListN.{length}
 use Rattle.base.specs.Limits.{maxJournal}
 use Rattle.base.specs.Checks.{firstOf}
 use Rattle.base.specs.Lists.{All}
-use Rattle.sheet.specs.Sheet.{view}
+use Rattle.sheet.specs.Sheet.{Sheet, view}
 use Rattle.sheet.specs.Checks.{sheetChecks}
 use Rattle.history_ledger.specs.Calls.{Call, Lent, play, lend}
 use Rattle.history_ledger.specs.Journal.{State, opened, stepLent}
@@ -42,7 +42,7 @@ Demand3OfLayers =
     let own = callsOn i calls in
     All (λ c. s .w * s .h ≤ c .room) own
     → (scratch′ : ℕ → ℕ) → ((n : ℕ) → s .w * s .h ≤ scratch′ n)
-    → let opening : ℕ → State editing = λ j. opened editing (sheetBy (lent j)) (journals j) in
+    → let opening : ℕ → State Sheet = λ j. opened editing (sheetBy (lent j)) (journals j) in
     let first = partOf i calls (play (layered (stepLent editing)) opening calls) in
     let left = unstruck (callsIn own) (first .answers) in
     let second = play (stepLent editing) (opened editing s longer) (lend scratch′ left) in

@@ -1,33 +1,81 @@
-// `push`: an edit checked, recorded and done.
+// `push`: an edit checked, recorded and done. `finish` does not see the list, so that each form of the call writes and
+// paints its own before it.
 use base::Answer;
 use base::Edit;
 use base::Handle;
 use base::Moved;
 use edit::is_empty;
+use edit::list_of;
 use edit_apply::fill_edit;
-use edit_apply::redo_edit;
+use edit_apply::finish_edit;
+use edit_list::paint_list;
 use history_ledger::after_push;
-use history_model::entry_no;
 use history_model::record_length;
 use history_model::refused;
 use history_model::still;
 use history_push_checks::push_no;
-use journal_write::write_record;
+use journal_frame::write_around;
+use journal_write::put_list;
 ghost use mathlib.Core.Path.{_≡_};
-ghost use mathlib.Core.Bool.{Bool};
+ghost use mathlib.Core.Bool.{Bool, false};
 ghost use mathlib.Core.List.{List, map};
 ghost use Prim.Native.Nat.{ℕ};
 ghost use lib.ListN.{length};
 ghost use Rattle.sheet.specs.Sheet.{sheetOf};
 ghost use Rattle.edit.specs.Change.{unpacked};
-ghost use Rattle.history_ledger.specs.Calls.{done};
+ghost use Rattle.edit.specs.List.{listOf, emptyPixels};
 ghost use Rattle.history_ledger.specs.Journal.{pushOf, pushed};
 ghost use Rattle.history_model.specs.Editing.{editing, givenOf};
 ghost use Rattle.history_model.specs.Calls.{stateOf, leaves, Standing, Acceptable};
+ghost use Rattle.history_push_checks.specs.Steps.{isStill, pushedOr};
+ghost use Rattle.history_push.specs.Finish.{finished, Finishes};
 
-// An edit that no check refuses, recorded and done: the record is written into the part of the journal that
-// starts at the standing offset.
-fn accept(
+// What a push does beside its list, where it was not refused: the record is written around the changes into the
+// part of the journal that starts at the standing offset, the edit is done, and the handle moved.
+pub fn finish(
+    no: u8,
+    k: usize,
+    palette: &mut [u8],
+    lab: &mut [f64],
+    indices: &mut [i16],
+    edit: Edit,
+    n: usize,
+    journal: &mut [u8],
+    handle: Handle,
+) -> Moved
+    requires { ⌜
+        (no ≡ 0 → emptyPixels (listOf edit) n ≡ false
+        → Finishes k (now palette) (now lab) (now journal) handle edit n)
+        ⌝ }
+    ensures { λ r. ⌜
+        ((w h : ℕ) → leaves r w h (now (palette .exit)) (now (lab .exit)) (now (indices .exit)) (now (journal .exit))
+        ≡ pushedOr no (emptyPixels (listOf edit) n)
+        (stateOf (sheetOf w h k (now (palette .entry)) (now (lab .entry)) (now (indices .entry))) (now (journal .entry))
+        handle) (finished
+        (stateOf (sheetOf w h k (now (palette .entry)) (now (lab .entry)) (now (indices .entry))) (now (journal .entry))
+        handle) edit n))
+        ⌝ }
+{
+    if no != 0 {
+        return refused(no, k, handle);
+    }
+    if is_empty(list_of(edit), n) {
+        return still(k, handle);
+    }
+    let offset = handle.offset;
+    let filled = fill_edit(palette, lab, edit);
+    write_around(&mut journal[offset..], filled, n);
+    let after = finish_edit(k, palette, lab, indices, edit);
+    Moved {
+        answer: Answer::Done,
+        k: after,
+        handle: after_push(handle, record_length(edit, n)),
+    }
+}
+
+// An edit that no check refuses, recorded and done: its list is written into the part of the journal that starts at
+// the standing offset and painted, then comes the rest.
+fn carry_out(
     w: usize,
     h: usize,
     k: usize,
@@ -40,27 +88,36 @@ fn accept(
     handle: Handle,
 ) -> Moved
     requires { ⌜ Standing (stateOf (sheetOf w h k (now palette) (now lab) (now indices)) (now journal) handle) ⌝ }
-    requires { ⌜ (
-        let sheet = sheetOf w h k (now palette) (now lab) (now indices) in
-        Acceptable (stateOf sheet (now journal) handle) edit (map unpacked (now list))
-        ) ⌝ }
+    requires { ⌜
+        (emptyPixels (listOf edit) (length (map unpacked (now list))) ≡ false
+        → Acceptable (stateOf (sheetOf w h k (now palette) (now lab) (now indices)) (now journal) handle) edit
+        (map unpacked (now list)))
+        ⌝ }
     ensures { λ r. ⌜
         ((limited : Bool) (permitted : List ℕ)
         → leaves r w h (now (palette .exit)) (now (lab .exit)) (now (indices .exit)) (now (journal .exit))
-        ≡ done (pushed editing
+        ≡ pushedOr 0 (isStill (givenOf limited permitted edit (now (list .entry))))
+        (stateOf (sheetOf w h k (now (palette .entry)) (now (lab .entry)) (now (indices .entry))) (now (journal .entry))
+        handle) (pushed editing
         (stateOf (sheetOf w h k (now (palette .entry)) (now (lab .entry)) (now (indices .entry))) (now (journal .entry))
         handle) (givenOf limited permitted edit (now (list .entry)))))
         ⌝ }
 {
-    let offset = handle.offset;
-    let filled = fill_edit(palette, lab, edit);
-    write_record(&mut journal[offset..], filled, list, indices, w);
-    let k = redo_edit(w, k, palette, lab, indices, edit, list);
-    Moved {
-        answer: Answer::Done,
+    let kind = list_of(edit);
+    let start = handle.offset;
+    put_list(kind, &mut journal[start..], indices, w, list);
+    paint_list(kind, indices, w, list);
+    finish(
+        0,
         k,
-        handle: after_push(handle, record_length(edit, list.len())),
-    }
+        palette,
+        lab,
+        indices,
+        edit,
+        list.len(),
+        journal,
+        handle,
+    )
 }
 
 // Checks an edit, records it and does it. A removal repaints its list, lowers the indices above the entry and
@@ -89,24 +146,6 @@ pub fn push(
         ) ⌝ }
     ensures { λ _. ⌜ length (now (scratch .exit)) ≡ length (now (scratch .entry)) ⌝ }
 {
-    let no = entry_no(
-        w,
-        h,
-        k,
-        palette,
-        lab,
-        indices,
-        limited,
-        permitted,
-        journal,
-        handle,
-    );
-    if no != 0 {
-        return refused(no, k, handle);
-    }
-    if is_empty(edit, list.len()) {
-        return still(k, handle);
-    }
     let no = push_no(
         w,
         h,
@@ -125,5 +164,5 @@ pub fn push(
     if no != 0 {
         return refused(no, k, handle);
     }
-    accept(w, h, k, palette, lab, indices, edit, list, journal, handle)
+    carry_out(w, h, k, palette, lab, indices, edit, list, journal, handle)
 }

@@ -15,6 +15,7 @@ use Rattle.sheet.specs.Sheet.{Sheet, Picture}
 use Rattle.sheet.proofs.Judging.{none-applied}
 use Rattle.base.specs.declared.Edit.{Edit}
 use Rattle.edit.specs.Change.{Change}
+use Rattle.edit.specs.List.{listOf}
 use Rattle.edit.specs.Apply.{filledEdit, filledChanges}
 use Rattle.journal_record.specs.Record.{recordLength, readForth, readBack}
 use Rattle.journal_write.specs.Fit.{Fit}
@@ -24,7 +25,8 @@ use Rattle.history_ledger.specs.Handle.{sound, steppedBack, steppedForth}
 use Rattle.history_ledger.specs.Laws.{Laws}
 use Rattle.history_ledger.proofs.Soundness.{same-handle}
 use Rattle.history_ledger.proofs.Saved.{SavedWithin}
-use Rattle.history_ledger.proofs.Trace.{total, Pushed, Trace, Holds, bytes, sizes, pastBytes, futureBytes, journalOf, handleOf}
+use Rattle.history_ledger.specs.Tally.{total}
+use Rattle.history_ledger.proofs.Trace.{Pushed, Trace, Holds, bytes, sizes, pastBytes, futureBytes, journalOf, handleOf}
 use Rattle.history_ledger.proofs.Lengths.{sound-handle, take-past, take-future}
 use Rattle.history_model.specs.Editing.{editing}
 use Rattle.history_model.specs.Calls.{handleChecks}
@@ -38,7 +40,7 @@ Pushes = List (Pushed editing)
 -- ---- what an accepted push's record tells: the edit filled in from the sheet that it met
 abbrev pub told : Pushed editing → ℕ × Edit × List Change
 told x =
-    (recordLength (x .by .edit) (length (x .by .changes)), filledEdit (x .from) (x .by .edit), filledChanges (x .from) (x .by .edit) (ownList (x .by .edit) (x .by .changes)))
+    (recordLength (x .by .edit) (length (x .by .changes)), filledEdit (x .from) (x .by .edit), filledChanges (x .from) (x .by .edit) (ownList (listOf (x .by .edit)) (x .by .changes)))
 
 module _ (x : Pushed editing) where
   fit : Fit (told x .1) (told x .2)

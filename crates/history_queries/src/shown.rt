@@ -1,7 +1,6 @@
 // The records of a history, looked at: the one that undo would revert, the one that redo would apply, and
 // the applied ones, oldest first. What is read is the edit and where its changes lie; the changes stay in
 // the journal. proofs/NextTold says that they are the ones that undo and redo read.
-use base::Edit;
 use base::Handle;
 use base::JOURNAL_DAMAGED;
 use base::Next;
@@ -9,9 +8,7 @@ use history_ledger::sound;
 use history_ledger::stepped_back;
 use history_ledger::stepped_forth;
 use history_model::handle_no;
-use journal_read::entry_at;
-use journal_read::get_rgb;
-use journal_read::lab_in;
+use journal_read::edit_at;
 use journal_record::Found;
 use journal_record::find_back;
 use journal_record::find_forth;
@@ -21,39 +18,6 @@ ghost use lib.ListN.{length};
 ghost use Rattle.journal_read.specs.Lies.{editAt, Lies};
 ghost use Rattle.base.specs.Answer.{nextTold};
 ghost use Rattle.history_queries.specs.Looks.{shows, nextUndoOf, nextRedoOf, shownAfter, rewound, appliedOf};
-
-// The edit of a record that lies in the journal.
-fn edit_at(journal: &[u8], kind: u8, start: usize) -> Edit
-    requires { ⌜ Lies (now journal) kind start 0 ⌝ }
-    ensures { λ r. ⌜ r ≡ editAt (now (journal .entry)) kind start ⌝ }
-{
-    if kind == 1 {
-        return Edit::Pixels {
-            tool: journal[start + 1],
-        };
-    }
-    if kind == 2 {
-        let index = entry_at(journal, start);
-        let old = get_rgb(journal, start + 2);
-        let new = get_rgb(journal, start + 5);
-        let old_lab = lab_in(journal, start + 8);
-        return Edit::PaletteSet {
-            index,
-            old,
-            new,
-            old_lab,
-        };
-    }
-    if kind == 3 {
-        return Edit::PaletteAdd {
-            rgb: get_rgb(journal, start + 1),
-        };
-    }
-    let index = entry_at(journal, start);
-    let rgb = get_rgb(journal, start + 2);
-    let lab = lab_in(journal, start + 5);
-    Edit::PaletteRemove { index, rgb, lab }
-}
 
 // What is shown of a record of n bytes that lies in the journal.
 fn record_at(journal: &[u8], kind: u8, start: usize, n: usize, count: usize) -> Next

@@ -8,7 +8,7 @@ use lib.ListN.{length, take, drop}
 use Rattle.base.specs.Checks.{firstOf, refusedOr}
 use Rattle.base.proofs.First.{refused-first, result-first}
 use Rattle.color_lab.specs.Convert.{labOf}
-use Rattle.sheet.specs.Sheet.{view}
+use Rattle.sheet.specs.Sheet.{Sheet, view}
 use Rattle.journal_record.specs.Record.{readForth}
 use Rattle.history_ledger.specs.Handle.{steppedForth}
 use Rattle.history_ledger.specs.Calls.{refused, still}
@@ -17,14 +17,14 @@ use Rattle.history_ledger.proofs.Soundness.{Sound, sound-facts}
 use Rattle.history_model.specs.Editing.{redoneBy, editing}
 use Rattle.history_model.specs.Calls.{Standing, Moves}
 
-module _ (st : State editing) where
+module _ (st : State Sheet) where
   pub redo-refused : (room n : ℕ) → Moves st n → (n ≡ 0 → ⊥) → refused st n ≡ redoOf editing room st
-  unfolding redoOf
+  unfolding redoOf firstOf
   redo-refused room n m h = refused-first (moveChecks editing st) (refused st) _ n (m .value) h
 
   module _ (n : ℕ) (m : Moves st n) (z : n ≡ 0) where
     pub redo-still : (room : ℕ) → st .handle .position ≡ st .handle .count → still st ≡ redoOf editing room st
-    unfolding redoOf
+    unfolding redoOf firstOf
     redo-still room e = rw (eq-eqb (st .handle .position) (st .handle .count) e) (result-first (moveChecks editing st) (refused st) (still st) (sym (m .value) ∙ z))
 
     module _ (room : ℕ) (e : st .handle .position ≡ st .handle .count → ⊥) where

@@ -62,7 +62,18 @@ fn redo_at(
     if !sound(next, journal.len()) {
         return refused(JOURNAL_DAMAGED, k, handle);
     }
-    if !can_redo(w, h, k, indices, journal, kind, start, count, scratch) {
+    if !can_redo(
+        w,
+        h,
+        k,
+        palette,
+        indices,
+        journal,
+        kind,
+        start,
+        count,
+        scratch,
+    ) {
         return refused(JOURNAL_DAMAGED, k, handle);
     }
     let k = redo_record(w, k, palette, lab, indices, journal, kind, start, count);

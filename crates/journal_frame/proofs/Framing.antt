@@ -1,19 +1,21 @@
 -- A record written around its changes is the whole record. Assumes nothing.
-use Prim.Native.Nat.{ℕ, _+_, _*_, _≤_}
+use Prim.Native.Nat.{ℕ, _+_, _-_, _*_, _≤_}
 use mathlib.Core.Path.{_≡_, refl, sym, ap, _∙_}
 use mathlib.Core.List.{List, [], _∷_, _++_, flatMap, append-assoc}
 use native.Mathlib.Omega.{arith}
-use lib.ListN.{length, take, drop, length-append}
-use lib.Seq.{length-take-le, drop-append-seam, drop-drop}
+use lib.ListN.{length, take, drop, length-append, length-drop}
+use lib.Seq.{take-at, drop-at, length-take-le, drop-append-seam, drop-drop}
 use Rattle.base.specs.declared.Rgb.{Rgb}
 use Rattle.base.specs.declared.Lab.{Lab}
 use Rattle.base.specs.Lists.{over}
 use Rattle.base.specs.declared.Edit.{Edit}
 use Rattle.base.specs.declared.Edit.the-variants.{Pixels, PaletteSet, PaletteAdd, PaletteRemove}
 use Rattle.edit.specs.Change.{Change}
+use Rattle.edit.specs.List.{listOf}
 use Rattle.edit.specs.Storage.{bytesOf}
 use Rattle.journal_record.specs.Bytes.{le, splice}
 use Rattle.journal_record.specs.Record.{changeBytes, labBytes, listBytes, bodyOf, recordLength, recordOf}
+use Rattle.journal_write.specs.List.{within}
 use Rattle.journal_frame.specs.Frame.{around}
 use Rattle.journal_record.proofs.LittleEndian.{length-le}
 use Rattle.journal_write.proofs.Changes.{length-changes}
@@ -36,14 +38,7 @@ module _ {A : Type 0} where
   framed f g t l n m e h k = over-then (f ++ g) t l (over f (splice l n g)) _ m (length-append f g ∙ rw (e, k)) (over-splice f g l n e h) refl
 
 -- ---- the whole record
--- the changes of a record that starts this part: pixels' behind 6 bytes, a remap's behind 33; set and add have none
-unfoldable pub within : Edit → List Change → List ℕ → List ℕ
-within (Pixels tool) cs part = splice part 6 (flatMap changeBytes cs)
-within (PaletteSet i old new lab) cs part = part
-within (PaletteAdd c) cs part = part
-within (PaletteRemove i c lab) cs part = splice part 33 (flatMap changeBytes cs)
-
-pub around-within : (e : Edit) (cs : List Change) (n : ℕ) (part : List ℕ) → length cs ≡ n → recordLength e n ≤ length part → around e n (within e cs part) ≡ over (recordOf e cs) part
+pub around-within : (e : Edit) (cs : List Change) (n : ℕ) (part : List ℕ) → length cs ≡ n → recordLength e n ≤ length part → around e n (within (listOf e) cs part) ≡ over (recordOf e cs) part
 unfolding around within recordOf bodyOf recordLength listBytes
 around-within (Pixels tool) cs n part q h =
     framed (1 ∷ tool ∷ le 4 n) (flatMap changeBytes cs) (le 4 (10 + 8 * n)) part 6 (6 + 8 * n) (rw length-le) (omega arith) (rw (length-changes, q))
@@ -53,6 +48,20 @@ around-within (PaletteAdd c) cs n part q h = refl
 around-within (PaletteRemove i c lab) cs n part q h =
     framed (4 ∷ i ∷ bytesOf c ++ (labBytes lab ++ le 4 n)) (flatMap changeBytes cs) (le 4 (37 + 8 * n)) part 33 (33 + 8 * n) (simp (length-append, length-lab, length-le)) (omega arith) (rw (length-changes, q))
     ∙ rw (q, append-assoc (labBytes lab) (le 4 n) (flatMap changeBytes cs))
+
+-- in a journal, from an offset on
+pub whole-record : (e : Edit) (cs : List Change) (n offset : ℕ) (journal after : List ℕ) → length cs ≡ n → offset + recordLength e n ≤ length journal
+    → after ≡ take offset journal ++ within (listOf e) cs (drop offset journal)
+    → take offset after ++ around e n (drop offset after) ≡ take offset journal ++ over (recordOf e cs) (drop offset journal)
+whole-record e cs n offset journal after q h k =
+    let front : length (take offset journal) ≡ offset = length-take-le offset journal (omega arith) in
+    let part : length (drop offset journal) ≡ length journal - offset = length-drop offset journal in
+    rw (
+      k,
+      take-at (take offset journal) (within (listOf e) cs (drop offset journal)) offset front,
+      drop-at (take offset journal) (within (listOf e) cs (drop offset journal)) offset front,
+      around-within e cs n (drop offset journal) q (omega (arith, h, part)),
+    )
 
 -- ---- the writers
 module _ (part : List ℕ) where

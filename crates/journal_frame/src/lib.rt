@@ -1,7 +1,6 @@
-// An edit's record written around its changes, which stand in the journal already, where the caller put them one by
-// one.
+// What stands around the list of an edit's record, written when the list stands in the journal already.
 //
-// specs/Frame.antt says where the changes stand; proofs/Framing that the two together are the whole record.
+// specs/Frame.antt says what that is; proofs/Framing that the two together are the whole record.
 mod around;
 
 pub use around::write_around;

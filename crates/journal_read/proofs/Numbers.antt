@@ -10,13 +10,16 @@ use lib.ListN.{length, getD, set}
 use Rattle.base.specs.Checks.{Check, firstOf}
 use Rattle.base.specs.Lists.{some}
 use Rattle.base.proofs.Scan.{Flagged, flag-step, flag-end}
+use Rattle.sheet.specs.Sheet.{Sheet}
 use Rattle.edit.specs.Change.{Change, unpacked, place, painted}
-use Rattle.edit_pixels.specs.Inside.{past, Marks}
+use Rattle.edit.specs.Checks.{remapChecks}
+use Rattle.edit_pixels.specs.Inside.{past}
 use Rattle.edit_pixels.proofs.Inside.{inside-at}
 use Rattle.edit_pixels.proofs.Unpacking.{some-unpacked}
 use Rattle.edit_pixels.proofs.Passing.{Passing, passing-hit, passing-next, passing-all}
 use Rattle.edit_pixels.proofs.Painting.{Painting, painting-next, painting-all}
-use Rattle.edit_remap.proofs.Marking.{Marking, marking-next, marking-all}
+use Rattle.edit_remap.specs.Marked.{whenNone, MarkedFrom}
+use Rattle.edit_remap.proofs.Remapping.{Remapping, remap-hit, remap-next, remap-all}
 use Rattle.journal_record.specs.Bytes.{leAt}
 use Rattle.journal_record.specs.Record.{changesIn}
 
@@ -68,8 +71,12 @@ module _ (bytes : List ℕ) (at n i : ℕ) where
     pub painting-next-in : {f : Change → ℤ} {w : ℕ} {l₀ l m : List ℤ} → Painting f w (numbersIn bytes at n) l₀ i l → m ≡ set l (place w (unpacked c)) (f (unpacked c)) → Painting f w (numbersIn bytes at n) l₀ (i + 1) m
     painting-next-in p e = painting-next p number-within (rw number-is at e)
 
-    pub marking-next-in : {w m q : ℕ} {marks : List ℕ} → Marking w (numbersIn bytes at n) m i marks → q < m → q ≡ place w (unpacked c) → Marking w (numbersIn bytes at n) m (i + 1) (set marks q 1)
-    marking-next-in p k e = marking-next p number-within k (rw number-is at e)
+    module _ {s : Sheet} {index : ℕ} {start marks : List ℕ} (r : Remapping s index (numbersIn bytes at n) start i marks) {no : ℕ} (e : no ≡ firstOf (remapChecks s index (unpacked c))) where
+      pub remap-hit-in : (no ≡ 0 → ⊥) → no ≡ firstOf (flatMap (remapChecks s index) (changesIn bytes at n))
+      remap-hit-in k = rw (changes-are bytes at n) (remap-hit _ _ _ _ r number-within (rw number-is at e) k)
+
+      pub remap-next-in : {after : List ℕ} → no ≡ 0 → after ≡ whenNone no (set marks (place (s .w) (unpacked c)) 1) marks → Remapping s index (numbersIn bytes at n) start (i + 1) after
+      remap-next-in z q = remap-next _ _ _ _ r number-within (rw number-is at e) z (rw number-is at q)
 
     -- a flag for a test of each
     pub flag-next-in : (p : Change → Bool) {flag t u : Bool} → Flagged (λ v. p (unpacked v)) (numbersIn bytes at n) i flag → t ≡ p (unpacked c) → u ≡ flag || t → Flagged (λ v. p (unpacked v)) (numbersIn bytes at n) (i + 1) u
@@ -86,8 +93,9 @@ module _ (bytes : List ℕ) (at n i : ℕ) where
     pub painting-all-in : {f : Change → ℤ} {w : ℕ} {l₀ l : List ℤ} → Painting f w (numbersIn bytes at n) l₀ i l → l ≡ painted f w (changesIn bytes at n) l₀
     painting-all-in p = rw (changes-are bytes at n) (painting-all p past-numbers)
 
-    pub marking-all-in : {w m : ℕ} {marks : List ℕ} → Marking w (numbersIn bytes at n) m i marks → Marks w (changesIn bytes at n) marks
-    marking-all-in p = rw (changes-are bytes at n) (marking-all p past-numbers)
+    pub remap-all-in : {s : Sheet} {index : ℕ} {start marks : List ℕ} → Remapping s index (numbersIn bytes at n) start i marks
+        → (0 ≡ firstOf (flatMap (remapChecks s index) (changesIn bytes at n))) × MarkedFrom (s .w) (changesIn bytes at n) (s .w * s .h) start marks
+    remap-all-in r = rw (changes-are bytes at n) (remap-all _ _ _ _ r past-numbers)
 
     pub flag-all-in : (p : Change → Bool) {flag : Bool} → Flagged (λ v. p (unpacked v)) (numbersIn bytes at n) i flag → flag ≡ some p (changesIn bytes at n)
     flag-all-in p f = rw (changes-are bytes at n) (flag-end f past-numbers ∙ some-unpacked p (numbersIn bytes at n))

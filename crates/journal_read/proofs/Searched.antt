@@ -12,7 +12,7 @@ use lib.Seq.{length-take-le}
 use Rattle.base.specs.declared.Edit.{Edit}
 use Rattle.base.specs.declared.Edit.the-variants.{Pixels, PaletteSet, PaletteAdd, PaletteRemove}
 use Rattle.edit.specs.Change.{Change}
-use Rattle.journal_record.specs.declared.Found.the-variants.{Record}
+use Rattle.journal_record.specs.declared.Found.the-variants.{Record, Unsound}
 use Rattle.journal_record.specs.Bytes.{leAt}
 use Rattle.journal_record.specs.Record.{recordLength, Reading, byKind, readForth, ofLength, readBack}
 use Rattle.journal_record.specs.Found.{kindOf, foundAt, foundBefore}
@@ -80,7 +80,7 @@ module _ (journal : List ℕ) (start size n : ℕ) (room : start + size ≤ leng
       let long : recordLength (editAt journal (kindOf e) start) (length cs) ≡ recordLength e (length cs) = ap (λ (x : Edit). recordLength x (length cs)) (sym edit) in
       record {
         reads = q ∙ ap₂ (λ (x : Edit) (l : List Change). some (n, x, l)) edit changes;
-        lies = record { least = least-kind e; most = most-kind e; inside = omega arith };
+        lies = record { least = least-kind e; most = most-kind e; counts = ap length (sym changes); inside = omega arith };
         length-is = h .length-is ∙ sym long;
       }
 
@@ -153,3 +153,14 @@ module _ (journal : List ℕ) (offset kind start n count : ℕ) (inside : offset
         starts = told .0;
         found = rw (told .0) (searched journal (offset - n) size n (omega arith) kind count (readBack before) (told .1) (read-holds bytes n e cs forth));
       }
+
+-- ---- a reading that a search did not find
+pub unread-at : (from : ℕ) (r : Reading) → foundAt from r ≡ Unsound → r ≡ none
+unfolding foundAt
+unread-at from none e = refl
+unread-at from (some r) e = absurd (let z : _≡_ {A = ℕ} 0 1 = cc in omega arith)
+
+pub unread-before : (offset : ℕ) (r : Reading) → foundBefore offset r ≡ Unsound → r ≡ none
+unfolding foundBefore
+unread-before offset none e = refl
+unread-before offset (some r) e = absurd (let z : _≡_ {A = ℕ} 0 1 = cc in omega arith)

@@ -1,9 +1,12 @@
 -- A record that lies in the journal: what it holds, by its kind and the offset at which it starts. Definitions only. Assumes nothing.
+use mathlib.Core.Path.{_≡_}
 use mathlib.Core.List.{List, []}
 use Prim.Native.Nat.{ℕ, _+_, _≤_}
 use lib.ListN.{length, getD}
 use Rattle.base.specs.declared.Edit.{Edit}
 use Rattle.base.specs.declared.Edit.the-variants.{Pixels, PaletteSet, PaletteAdd, PaletteRemove}
+use Rattle.edit.specs.declared.ListKind.{ListKind}
+use Rattle.edit.specs.declared.ListKind.the-variants.{NoList, PixelList, RemapList}
 use Rattle.edit.specs.Change.{Change}
 use Rattle.journal_record.specs.Record.{recordLength, rgbIn, labIn, changesIn, byKind}
 
@@ -19,8 +22,15 @@ editAt journal kind start =
 unfoldable pub changesAt : List ℕ → ℕ → ℕ → ℕ → List Change
 changesAt journal kind start count = byKind kind (changesIn journal (start + 6) count) [] [] (changesIn journal (start + 33) count) []
 
--- a record of one of the four kinds, all of it inside the journal
+-- where a list stands in its record, counted from the record's start
+abbrev pub listOffset : ListKind → ℕ
+listOffset NoList = 0
+listOffset PixelList = 6
+listOffset (RemapList i) = 33
+
+-- a record of one of the four kinds and so many changes, all of it inside the journal
 pub record Lies (journal : List ℕ) (kind start count : ℕ) : Type 0 where
   pub least : 1 ≤ kind
   pub most : kind ≤ 4
+  pub counts : length (changesAt journal kind start count) ≡ count
   pub inside : start + recordLength (editAt journal kind start) count ≤ length journal

@@ -1,10 +1,12 @@
 // The parts of a record that lies in the journal, read and checked where they lie: nothing is copied out. The
 // caller knows the record's kind, where it starts and how many changes it has.
+mod contents;
 mod kind;
 mod lab;
 mod list;
 mod rgb;
 
+pub use contents::edit_at;
 pub use kind::ADD;
 pub use kind::PIXELS;
 pub use kind::SET;
@@ -13,7 +15,7 @@ pub use lab::lab_in;
 pub use lab::unfit_lab_in;
 pub use list::any_outside_in;
 pub use list::change_at;
-pub use list::paint_news_in;
-pub use list::pixels_no_in;
-pub use list::removal_no_in;
+pub use list::check_list_in;
+pub use list::list_offset;
+pub use list::paint_list_in;
 pub use rgb::get_rgb;

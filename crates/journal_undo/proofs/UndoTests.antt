@@ -20,7 +20,7 @@ use Rattle.sheet.specs.Checks.{sheetChecks, Limits, WellFormed}
 use Rattle.sheet.proofs.Judging.{limited-bad, judged-limits, judged-index, judged-lab, judged-fine}
 use Rattle.base.specs.declared.Edit.the-variants.{Pixels, PaletteSet, PaletteRemove}
 use Rattle.edit.specs.Change.{Change, outside, painted, oldOf}
-use Rattle.edit.specs.Storage.{bytesOf, numbersOf, stored, reinserted, raised}
+use Rattle.edit.specs.Storage.{bytesOf, numbersOf, stored, storedBy, reinserted, reinsertedBy, raised}
 use Rattle.edit.specs.Apply.{reverted, canRevert}
 use Rattle.edit.proofs.Painting.{painted-length}
 use Rattle.edit.proofs.Storage.{opened-shows}
@@ -81,7 +81,7 @@ module _ (s : Sheet) (f : WellFormed s) where
       rw (sound (sheetOf (s .w) (s .h) (s .k) (s .palette) (s .lab) l) fits (some (stray (s .k)) l) false refl (f .fit), and-true (not (some (stray (s .k)) l)))
 
   pub undo-set : (i : ℕ) (old new : Rgb) (x : Lab) (cs : List Change) → undoable s (PaletteSet i old new x) cs ≡ setBack (s .k) i x
-  unfolding undoable canRevert reverted setBack stored
+  unfolding undoable canRevert reverted setBack storedBy
   undo-set i old new x cs = go (ltb i (s .k)) refl
     where
       t : Sheet
@@ -103,7 +103,7 @@ module _ (s : Sheet) (f : WellFormed s) where
       go true e = let b : i < s .k = ltb-true i (s .k) e in sound t (fits b) false (unfitTriple x) (f .in-range) (numbers b)
 
   pub undo-remove : (i : ℕ) (c : Rgb) (x : Lab) (cs : List Change) → undoable s (PaletteRemove i c x) cs ≡ removeBack (s .w) (s .h) (s .k) (s .indices) i x cs
-  unfolding undoable canRevert reverted removeBack reinserted
+  unfolding undoable canRevert reverted removeBack reinsertedBy
   undo-remove i c x cs = go (leb i (s .k)) (ltb (s .k) 255) refl refl
     where
       l : List ℤ
@@ -122,7 +122,7 @@ module _ (s : Sheet) (f : WellFormed s) where
           let next : 3 * suc (s .k) ≡ 3 * s .k + 3 = omega arith in
           let long : length (s .lab) ≡ 765 = f .limits .lab-length in
           ap (λ (n : ℕ). some unfit (take n (t .lab))) next
-          ∙ ap (some unfit) (opened-shows (3 * i) (3 * s .k) (numbersOf x) (s .lab) refl (omega arith) (omega arith))
+          ∙ ap (some unfit) (opened-shows 3 (3 * i) (3 * s .k) (numbersOf x) (s .lab) refl (omega arith) (omega arith))
           ∙ some-between unfit (take (3 * i) m) (numbersOf x) (drop (3 * i) m) (nowhere-take unfit (3 * i) m (f .fit)) (nowhere-drop unfit (3 * i) m (f .fit))
           ∙ three-unfit x
 

@@ -23,9 +23,10 @@ module _ (part : List ℕ) (at : ℕ) (cs : List Change) where
   putting-none = record { same-length = refl; written = splice-none part at }
 
   -- the i-th of n changes, written by its number
-  pub putting-next : (d : Change) (n i v : ℕ) (l s : List ℕ) → length cs ≡ n → at + 8 * n ≤ length part → Putting l i → i < n
+  pub putting-next : (d : Change) (n i v : ℕ) (l s : List ℕ) → length cs ≡ n → (0 < n → at + 8 * n ≤ length part) → Putting l i → i < n
       → unpacked v ≡ getD cs i d → s ≡ splice l (at + 8 * i) (le 8 v) → Putting s (i + 1)
-  putting-next d n i v l s count room p h e q =
+  putting-next d n i v l s count roomy p h e q =
+      let room : at + 8 * n ≤ length part = roomy (omega arith) in
       let first : List ℕ = flatMap changeBytes (take i cs) in
       let one : List ℕ = changeBytes (getD cs i d) in
       let start : at + length first ≡ at + 8 * i = rw (length-changes, length-take-le i cs (omega arith)) in

@@ -1,18 +1,16 @@
--- The parts of each record, written one behind the other, are the record in front of what was there. Assumes nothing.
-use Prim.Native.Nat.{ℕ, _+_, _*_, _≤_}
+-- The parts of a record without a list, written one behind the other, are the record in front of what was there. Assumes nothing.
+use Prim.Native.Nat.{ℕ, _+_, _≤_}
 use mathlib.Core.Path.{_≡_, refl, ap, _∙_}
-use mathlib.Core.List.{List, [], _∷_, _++_, flatMap, append-assoc}
+use mathlib.Core.List.{List, [], _∷_, _++_, append-assoc}
 use lib.ListN.{length, length-append}
 use Rattle.base.specs.declared.Rgb.{Rgb}
 use Rattle.base.specs.declared.Lab.{Lab}
 use Rattle.base.specs.Lists.{over}
-use Rattle.base.specs.declared.Edit.the-variants.{Pixels, PaletteSet, PaletteAdd, PaletteRemove}
-use Rattle.edit.specs.Change.{Change}
+use Rattle.base.specs.declared.Edit.the-variants.{PaletteSet, PaletteAdd}
 use Rattle.edit.specs.Storage.{bytesOf}
 use Rattle.journal_record.specs.Bytes.{le, splice}
-use Rattle.journal_record.specs.Record.{changeBytes, doubleBytes, labBytes, listBytes, bodyOf, recordLength, recordOf}
+use Rattle.journal_record.specs.Record.{doubleBytes, labBytes, bodyOf, recordLength, recordOf}
 use Rattle.journal_record.proofs.LittleEndian.{length-le}
-use Rattle.journal_write.proofs.Changes.{length-changes}
 use Rattle.journal_write.proofs.Lengths.{length-lab}
 use Rattle.journal_record.proofs.Splice.{over-then, splice-then}
 
@@ -27,26 +25,6 @@ module _ (part : List ℕ) where
       let s₂ : p₂ ≡ splice part at (l ++ a) = splice-then part p₁ p₂ l a at (at + 8) h (rw length-le) e₁ e₂ in
       splice-then part p₂ p₃ (l ++ a) b at (at + 16) h (simp (length-append, length-le)) s₂ e₃ ∙ ap (splice part at) (append-assoc l a b)
 
-  -- count, changes and whole length behind a front of `at` bytes
-  list-written : (front p₁ p₂ p₃ p₄ : List ℕ) (cs : List Change) (at n whole : ℕ) → length front ≡ at → length cs ≡ n → p₁ ≡ over front part
-      → p₂ ≡ splice p₁ at (le 4 n) → p₃ ≡ splice p₂ (at + 4) (flatMap changeBytes cs) → p₄ ≡ splice p₃ (at + 4 + 8 * n) (le 4 whole)
-      → p₄ ≡ over (front ++ listBytes cs ++ le 4 whole) part
-  unfolding listBytes
-  list-written front p₁ p₂ p₃ p₄ cs at n whole lf lc e₁ e₂ e₃ e₄ =
-      let flat : List ℕ = flatMap changeBytes cs in
-      let l₂ : length (front ++ le 4 n) ≡ at + 4 = simp (length-append, length-le, lf) in
-      let l₃ : length (front ++ le 4 n ++ flat) ≡ at + 4 + 8 * n = simp (length-append, length-le, length-changes, lf, lc) in
-      let s₂ : p₂ ≡ over (front ++ le 4 n) part = over-then front (le 4 n) part p₁ p₂ at lf e₁ e₂ in
-      let s₃ : p₃ ≡ over (front ++ le 4 n ++ flat) part = over-then (front ++ le 4 n) flat part p₂ p₃ (at + 4) l₂ s₂ e₃ in
-      over-then (front ++ le 4 n ++ flat) (le 4 whole) part p₃ p₄ (at + 4 + 8 * n) l₃ s₃ e₄
-      ∙ rw (lc, append-assoc front (le 4 n) flat)
-
-  pub pixels-written : (p₁ p₂ p₃ p₄ : List ℕ) (tool : ℕ) (cs : List Change) (n : ℕ) → length cs ≡ n → p₁ ≡ over (1 ∷ tool ∷ []) part
-      → p₂ ≡ splice p₁ 2 (le 4 n) → p₃ ≡ splice p₂ 6 (flatMap changeBytes cs) → p₄ ≡ splice p₃ (6 + 8 * n) (le 4 (10 + 8 * n))
-      → p₄ ≡ over (recordOf (Pixels tool) cs) part
-  unfolding recordOf bodyOf recordLength
-  pixels-written p₁ p₂ p₃ p₄ tool cs n lc e₁ e₂ e₃ e₄ = rw lc (list-written (1 ∷ tool ∷ []) p₁ p₂ p₃ p₄ cs 2 n (10 + 8 * n) refl lc e₁ e₂ e₃ e₄)
-
   pub add-written : (p₁ p₂ : List ℕ) (c : Rgb) → p₁ ≡ over (3 ∷ bytesOf c) part → p₂ ≡ splice p₁ 4 (le 4 8) → p₂ ≡ over (recordOf (PaletteAdd c) []) part
   unfolding recordOf bodyOf recordLength
   add-written p₁ p₂ c e₁ e₂ = over-then (3 ∷ bytesOf c) (le 4 8) part p₁ p₂ 4 refl e₁ e₂
@@ -60,14 +38,3 @@ module _ (part : List ℕ) where
       let s₃ : p₃ ≡ over front part = over-then (2 ∷ i ∷ bytesOf old) (bytesOf new) part p₂ p₃ 5 refl s₂ e₃ in
       let s₄ : p₄ ≡ over (front ++ labBytes lab) part = over-then front (labBytes lab) part p₃ p₄ 8 refl s₃ e₄ in
       over-then (front ++ labBytes lab) (le 4 36) part p₄ p₅ 32 (rw length-lab) s₄ e₅
-
-  pub remove-written : (p₁ p₂ p₃ p₄ p₅ p₆ : List ℕ) (i : ℕ) (c : Rgb) (lab : Lab) (cs : List Change) (n : ℕ) → length cs ≡ n → p₁ ≡ over (4 ∷ i ∷ []) part
-      → p₂ ≡ splice p₁ 2 (bytesOf c) → p₃ ≡ splice p₂ 5 (labBytes lab) → p₄ ≡ splice p₃ 29 (le 4 n) → p₅ ≡ splice p₄ 33 (flatMap changeBytes cs)
-      → p₆ ≡ splice p₅ (33 + 8 * n) (le 4 (37 + 8 * n)) → p₆ ≡ over (recordOf (PaletteRemove i c lab) cs) part
-  unfolding recordOf bodyOf recordLength
-  remove-written p₁ p₂ p₃ p₄ p₅ p₆ i c lab cs n lc e₁ e₂ e₃ e₄ e₅ e₆ =
-      let front : List ℕ = 4 ∷ i ∷ bytesOf c ++ labBytes lab in
-      let s₂ : p₂ ≡ over (4 ∷ i ∷ bytesOf c) part = over-then (4 ∷ i ∷ []) (bytesOf c) part p₁ p₂ 2 refl e₁ e₂ in
-      let s₃ : p₃ ≡ over front part = over-then (4 ∷ i ∷ bytesOf c) (labBytes lab) part p₂ p₃ 5 refl s₂ e₃ in
-      list-written front p₃ p₄ p₅ p₆ cs 29 n (37 + 8 * n) (rw length-lab) lc s₃ e₄ e₅ e₆
-      ∙ rw lc

@@ -1,21 +1,17 @@
 -- What a record can hold: an edit and its changes whose numbers fit the bytes that they get. Definitions only. Assumes nothing.
-use Prim.Native.Nat.{ℕ, _^_, _<_, _≤_}
+use Prim.Native.Nat.{_^_, _<_, _≤_}
 use mathlib.Core.Path.{_≡_}
 use mathlib.Core.List.{List, [], _∷_}
-use mathlib.Core.Bool.{false, not}
-use lib.IntN.{ℤ}
+use mathlib.Core.Bool.{not}
 use lib.Dec.{T}
 use lib.Ieee.{binary64, fits, isNan}
 use lib.ListN.{length}
 use mir.Syntax.{w16}
 use mir.Val.{SFits}
 use Rattle.base.specs.declared.Lab.{Lab}
-use Rattle.base.specs.Lists.{some}
-use Rattle.sheet.specs.Sheet.{Sheet, sheetOf}
 use Rattle.base.specs.declared.Edit.{Edit}
 use Rattle.base.specs.declared.Edit.the-variants.{Pixels, PaletteSet, PaletteAdd, PaletteRemove}
 use Rattle.edit.specs.Change.{Change}
-use Rattle.edit_pixels.specs.Inside.{past}
 use Rattle.journal_record.specs.Record.{recordLength}
 
 -- "x, y unsigned 16-bit, old, new signed 16-bit"
@@ -54,14 +50,3 @@ pub record Numbers (x : Lab) : Type 0 where
   pub l-number : T (not (isNan (x .l)))
   pub a-number : T (not (isNan (x .a)))
   pub b-number : T (not (isNan (x .b)))
-
--- an edit that can be written beside its changes: pixels lie among n indices, an index is a byte, LAB is numbers
-unfoldable pub Writable : ℕ → ℕ → Edit → List Change → Type 0
-Writable w n (Pixels tool) cs = some (past w n) cs ≡ false
-Writable w n (PaletteSet i old new lab) cs = (i < 256) × Numbers lab
-Writable w n (PaletteAdd c) cs = Unit {0}
-Writable w n (PaletteRemove i c lab) cs = (i < 256) × Numbers lab
-
--- a sheet as far as filling in looks at it
-abbrev pub rowsOf : ℕ → List ℤ → Sheet
-rowsOf w indices = sheetOf w 0 0 [] [] indices

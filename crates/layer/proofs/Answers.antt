@@ -154,9 +154,11 @@ module _ (sizes palettes : List ℕ) (labs : List Float) (indices : List ℤ) (e
             }
 
         module _ (there : edited < length sizes / 3) where
-          pub paint-short : length out < 4 * length (before .indices) → filled (counted.Refused 16) out ≡ result
-          unfolding repaintOf repaintChecks firstOf refusedOr
-          paint-short b =
+          -- 16 is the check that is left
+          past-there : firstOf (repaintChecks sizes (layers sizes palettes labs indices) edited before out)
+              ≡ firstOf (noSpace when ltb (length out) (4 * (widthOf sizes * heightOf sizes)) ∷ [])
+          unfolding repaintChecks firstOf
+          past-there =
               rw (
                 past sizes palettes labs indices _ j,
                 past-sheet before f _,
@@ -164,8 +166,11 @@ module _ (sizes palettes : List ℕ) (labs : List Float) (indices : List ℤ) (e
                 same,
                 layers-count sizes palettes labs indices,
                 lt-leb _ _ there,
-                lt-ltb _ _ (rw cells at b),
               )
+
+          pub paint-short : length out < 4 * length (before .indices) → filled (counted.Refused 16) out ≡ result
+          unfolding repaintOf firstOf refusedOr
+          paint-short b = rw (past-there, lt-ltb _ _ (rw cells at b))
 
           abbrev now : Sheet
           now = getD (layers sizes palettes labs indices) edited before
@@ -184,18 +189,8 @@ module _ (sizes palettes : List ℕ) (labs : List Float) (indices : List ℤ) (e
           pub paint-done : 4 * length (before .indices) ≤ length out → (buffer : List ℕ)
               → buffer ≡ over (flatMap (stackPlace (length (before .indices)) (length sizes / 3) palettes indices edited (viewOf (before .palette) (before .indices)) out) (range 0 (length (before .indices)))) out
               → filled (counted.Count (4 * length (before .indices))) buffer ≡ result
-          unfolding repaintOf repaintChecks repainted firstOf refusedOr
+          unfolding repaintOf repainted firstOf refusedOr
           paint-done b buffer e =
               let bytes : buffer ≡ over (flatMap (repaintedAt (layers sizes palettes labs indices) before now out) (range 0 (widthOf sizes * heightOf sizes))) out
               = (rw cells at e) ∙ ap (λ (l : List ℕ). over l out) (flat-same _ _ 0 (widthOf sizes * heightOf sizes) (λ p x y. place p (omega arith))) in
-              rw (
-                past sizes palettes labs indices _ j,
-                past-sheet before f _,
-                sizes-test,
-                same,
-                layers-count sizes palettes labs indices,
-                lt-leb _ _ there,
-                le-ltb _ _ (rw cells at b),
-                bytes,
-                cells,
-              )
+              rw (past-there, le-ltb _ _ (rw cells at b), bytes, cells)

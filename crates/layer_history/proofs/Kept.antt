@@ -22,6 +22,7 @@ use Rattle.sheet.specs.Checks.{WellFormed}
 use Rattle.sheet.proofs.Judging.{none-applied}
 use Rattle.edit.specs.Change.{Change}
 use Rattle.edit.specs.Apply.{redone, reverted}
+use Rattle.edit.proofs.Redone.{SameSize, redone-size}
 use Rattle.journal_record.specs.Record as records
 use Rattle.journal_record.specs.Record.{readBack, readForth}
 use Rattle.journal_read.specs.Sound.{undoable, redoable}
@@ -30,7 +31,7 @@ use Rattle.history_ledger.specs.Calls.{Call, Outcome, play, lend, guarded, refu
 use Rattle.history_ledger.specs.Calls.Call.{push, undo, redo, mark}
 use Rattle.history_ledger.specs.Demand.{TypedCall}
 use Rattle.history_ledger.specs.Handle.{steppedBack, steppedForth}
-use Rattle.history_ledger.specs.Journal.{State, opened, step, stepOver, entryChecks, pushChecks, moveChecks, shortScratch}
+use Rattle.history_ledger.specs.Journal.{State, opened, step, stepOver, entryChecks, pushChecks, moveChecks, redoChecks, shortScratch}
 use Rattle.history_ledger.specs.Journal.{pushOf, undoOf, redoOf, markOf, pushed}
 use Rattle.history_ledger.proofs.Trace as trace
 use Rattle.history_ledger.proofs.Trace.{Trace, Holds, begin, begins}
@@ -42,23 +43,12 @@ use Rattle.history_model.proofs.Keeps.{keeps}
 use Rattle.history_model.proofs.Demand3.{curve}
 
 -- ---- the size
-pub record SameSize (s t : Sheet) : Type 0 where
-  pub width : t .w ≡ s .w
-  pub height : t .h ≡ s .h
-
-redone-size : (s : Sheet) (e : Edit) (cs : List Change) → SameSize s (redone labOf s e cs)
-unfolding redone
-redone-size s (Pixels tool) cs = record { width = refl; height = refl }
-redone-size s (PaletteSet i old new lab) cs = record { width = refl; height = refl }
-redone-size s (PaletteAdd c) cs = record { width = refl; height = refl }
-redone-size s (PaletteRemove i c lab) cs = record { width = refl; height = refl }
-
 reverted-size : (s : Sheet) (e : Edit) (cs : List Change) → SameSize s (reverted s e cs)
 unfolding reverted
-reverted-size s (Pixels tool) cs = record { width = refl; height = refl }
-reverted-size s (PaletteSet i old new lab) cs = record { width = refl; height = refl }
-reverted-size s (PaletteAdd c) cs = record { width = refl; height = refl }
-reverted-size s (PaletteRemove i c lab) cs = record { width = refl; height = refl }
+reverted-size s (Pixels tool) cs = record { w = refl; h = refl }
+reverted-size s (PaletteSet i old new lab) cs = record { w = refl; h = refl }
+reverted-size s (PaletteAdd c) cs = record { w = refl; h = refl }
+reverted-size s (PaletteRemove i c lab) cs = record { w = refl; h = refl }
 
 -- what a reading leads to
 abbrev Leads : (Sheet → Type 0) → Option (Taken Sheet) → Type 0
@@ -77,7 +67,7 @@ undone-size s (some r) = leads-taken (SameSize s) (undoable s (r .1) (r .2)) (r 
 forth-size : (s : Sheet) (r : records.Reading) → Leads (SameSize s) (redoneBy labOf s r)
 unfolding redoneBy
 forth-size s none = tt
-forth-size s (some r) = leads-taken (SameSize s) (redoable s (r .1) (r .2)) (r .0) (redone labOf s (r .1) (r .2)) (redone-size s (r .1) (r .2))
+forth-size s (some r) = leads-taken (SameSize s) (redoable s (r .1) (r .2)) (r .0) (redone labOf s (r .1) (r .2)) (redone-size labOf s (r .1) (r .2))
 
 -- ---- what a call leaves is what was there, or what the outcome behind its checks leaves
 pub record Left {S : Type 0} (P : S → Type 0) (o : Outcome S) : Type 0 where
@@ -97,12 +87,12 @@ module _ {S : Type 0} (P : S → Type 0) (s : S) (h : P s) where
   or-still false o k = k
 
 -- ---- a call leaves the size, in every state
-module _ (st : State editing) where
-  abbrev Sized : State editing → Type 0
+module _ (st : State Sheet) where
+  abbrev Sized : State Sheet → Type 0
   Sized after = SameSize (st .sheet) (after .sheet)
 
   stands : Sized st
-  stands = record { width = refl; height = refl }
+  stands = record { w = refl; h = refl }
 
   step-over : (r : Option (Taken Sheet)) (inside : ℕ → Bool) (stepped : ℕ → Handle → Handle) → Leads (SameSize (st .sheet)) r
       → Left Sized (stepOver editing st r inside stepped)
@@ -116,7 +106,7 @@ module _ (st : State editing) where
       after-checks Sized st stands (entryChecks editing st g) _
       (or-still Sized st stands (editing .isEmpty g) _
       (after-checks Sized st stands (pushChecks editing room st g) (done (pushed editing st g))
-      (record { is = redone-size (st .sheet) (g .edit) (g .changes) })))
+      (record { is = redone-size labOf (st .sheet) (g .edit) (g .changes) })))
   sized room undo =
       let used : List ℕ = take (st .handle .offset) (st .journal) in
       after-checks Sized st stands (moveChecks editing st) _
@@ -124,7 +114,7 @@ module _ (st : State editing) where
       (step-over (undoneBy (st .sheet) (readBack used)) (λ n. leb n (st .handle .offset)) steppedBack (undone-size (st .sheet) (readBack used))))
   sized room redo =
       let used : List ℕ = take (st .handle .end - st .handle .offset) (drop (st .handle .offset) (st .journal)) in
-      after-checks Sized st stands (moveChecks editing st) _
+      after-checks Sized st stands (redoChecks editing st) _
       (or-still Sized st stands (eqb (st .handle .position) (st .handle .count)) _
       (after-checks Sized st stands (shortScratch editing room st ∷ []) _
       (step-over (redoneBy labOf (st .sheet) (readForth used)) (λ n. leb (st .handle .offset + n) (st .handle .end)) steppedForth
@@ -132,7 +122,7 @@ module _ (st : State editing) where
   sized room mark = record { is = stands }
 
 -- ---- a journal that is too long, or scratch that is too short, leaves everything as it was
-overlong : (room : ℕ) (st : State editing) (c : Call Given) → maxJournal < length (st .journal) → step editing room st c .leaves ≡ st
+overlong : (room : ℕ) (st : State Sheet) (c : Call Given) → maxJournal < length (st .journal) → step editing room st c .leaves ≡ st
 unfolding pushOf undoOf redoOf markOf firstOf refusedOr
 overlong room st (push g) h = rw (lt-ltb maxJournal (length (st .journal)) h)
 overlong room st undo h = rw (lt-ltb maxJournal (length (st .journal)) h)
@@ -147,7 +137,7 @@ applied s cs o h = go (firstOf cs) refl
     go zero e = absurd (h e)
     go (suc n) e = record { is = refl }
 
-module _ (room : ℕ) (st : State editing) (short : room < st .sheet .w * st .sheet .h) where
+module _ (room : ℕ) (st : State Sheet) (short : room < st .sheet .w * st .sheet .h) where
   not-enough : ¬ (cond (ltb room (st .sheet .w * st .sheet .h)) noSpace 0 ≡ 0)
   not-enough e = omega (arith, ltb-false room (st .sheet .w * st .sheet .h) (when-passes 15 (ltb room (st .sheet .w * st .sheet .h)) e))
 
@@ -163,21 +153,21 @@ module _ (room : ℕ) (st : State editing) (short : room < st .sheet .w * st .sh
   short-redo =
       let used : List ℕ = take (st .handle .end - st .handle .offset) (drop (st .handle .offset) (st .journal)) in
       let over = stepOver editing st (redoneBy labOf (st .sheet) (readForth used)) (λ n. leb (st .handle .offset + n) (st .handle .end)) steppedForth in
-      after-checks (λ s. s ≡ st) st refl (moveChecks editing st) _
+      after-checks (λ s. s ≡ st) st refl (redoChecks editing st) _
       (or-still (λ s. s ≡ st) st refl (eqb (st .handle .position) (st .handle .count)) _
       (applied st (shortScratch editing room st ∷ []) over (λ e. not-enough (each-passes (shortScratch editing room st ∷ []) e .0))))
 
 -- ---- a state on the way, with scratch of `room` places
-pub record Along (room n : ℕ) (st : State editing) : Type 0 where
+pub record Along (room n : ℕ) (st : State Sheet) : Type 0 where
   pub by : Trace editing
   pub holds : Holds editing room n by
   pub is : st ≡ trace.stateOf editing by
 
-pub data Lives (room : ℕ) (st : State editing) : Type 0 where
+pub data Lives (room : ℕ) (st : State Sheet) : Type 0 where
   refuses : maxJournal < length (st .journal) → WellFormedIn editing (st .sheet) → Lives room st
   goes : (n : ℕ) → n ≤ maxJournal → Along room n st → Lives room st
 
-along-step : {room n : ℕ} {st : State editing} → n ≤ maxJournal → Along room n st → (c : Call Given) → TypedCall editing c
+along-step : {room n : ℕ} {st : State Sheet} → n ≤ maxJournal → Along room n st → (c : Call Given) → TypedCall editing c
     → Along room n (step editing room st c .leaves)
 unfolding play lend
 along-step {room} {n} permitted a c t =
@@ -185,16 +175,16 @@ along-step {room} {n} permitted a c t =
     record { by = ran .to; holds = ran .holds; is = ap (λ s. step editing room s c .leaves) (a .is) ∙ ap (λ p. p .ends) (ran .code) }
 
 -- ---- a layer of w by h
-pub record Stays (w h : ℕ) (st : State editing) : Type 0 where
+pub record Stays (w h : ℕ) (st : State Sheet) : Type 0 where
   pub width : st .sheet .w ≡ w
   pub height : st .sheet .h ≡ h
   pub lives : Lives (w * h) st
 
-lives-fits : {room : ℕ} {st : State editing} → Lives room st → WellFormedIn editing (st .sheet)
+lives-fits : {room : ℕ} {st : State Sheet} → Lives room st → WellFormedIn editing (st .sheet)
 lives-fits (refuses long f) = f
 lives-fits (goes n permitted a) = subst (λ s. WellFormedIn editing (s .sheet)) (sym (a .is)) (a .holds .fits)
 
-pub stays-fits : {w h : ℕ} {st : State editing} → Stays w h st → WellFormed (st .sheet)
+pub stays-fits : {w h : ℕ} {st : State Sheet} → Stays w h st → WellFormed (st .sheet)
 stays-fits {w} {h} {st} a = none-applied (st .sheet) (lives-fits (a .lives) .passes)
 
 pub opens : {w h : ℕ} (s : Sheet) (journal : List ℕ) → WellFormedIn editing s → s .w ≡ w → s .h ≡ h → Stays w h (opened editing s journal)
@@ -209,7 +199,7 @@ opens {w} {h} s journal f p q = record { width = p; height = q; lives = go (ltb 
     go false e =
         goes (length journal) (ltb-false _ _ e) (record { by = begin editing s journal; holds = begins editing s journal (w * h) f places; is = refl })
 
-module _ {w h : ℕ} {st : State editing} (a : Stays w h st) (room : ℕ) where
+module _ {w h : ℕ} {st : State Sheet} (a : Stays w h st) (room : ℕ) where
   enough : room < w * h → (c : Call Given) → Lives (w * h) (step editing (w * h) st c .leaves) → Lives (w * h) (step editing room st c .leaves)
   enough short (push g) k = subst (Lives (w * h)) (sym (short-push room st (rw (a .width, a .height) short) g .is)) (a .lives)
   enough short undo k = k
@@ -223,7 +213,7 @@ module _ {w h : ℕ} {st : State editing} (a : Stays w h st) (room : ℕ) where
   pub stays : (c : Call Given) → TypedCall editing c → Stays w h (step editing room st c .leaves)
   stays c t =
       let size = sized st room c .is in
-      record { width = size .width ∙ a .width; height = size .height ∙ a .height; lives = by-journal (a .lives) }
+      record { width = size .w ∙ a .width; height = size .h ∙ a .height; lives = by-journal (a .lives) }
     where
       by-scratch : (b : Bool) → ltb room (w * h) ≡ b → Lives (w * h) (step editing (w * h) st c .leaves)
           → Lives (w * h) (step editing room st c .leaves)

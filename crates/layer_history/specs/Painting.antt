@@ -27,7 +27,7 @@ use Rattle.layer_shown.specs.Calls.{flattenOf, repaintOf}
 
 -- layers by their numbers, each with sheet, journal and handle of its own
 abbrev pub Layers : Type 0
-Layers = ℕ → State editing
+Layers = ℕ → State Sheet
 
 -- the sheets of the first n, bottom first
 unfoldable pub sheetsOf : ℕ → Layers → List Sheet

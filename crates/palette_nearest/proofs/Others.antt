@@ -22,18 +22,18 @@ use Rattle.base.specs.Triples.{labAt}
 use Rattle.color_nearest.proofs.FirstNearest.{Found, found}
 use Rattle.color_nearest.proofs.Halves.{both}
 use Rattle.color_nearest.proofs.Parts.{parts, nearest-within}
-use Rattle.edit.specs.Storage.{cut}
+use Rattle.edit.specs.Storage.{cut, cutBy}
 use Rattle.edit.proofs.Storage.{cut-length, cut-nowhere}
 use Rattle.palette_nearest.specs.Nearest.{nearestOther, FirstOther, substitute, Nearest}
 
 -- ---- a list without the three numbers at `at`
 module _ {A : Type 0} (at : ℕ) (l : List A) (d : A) (h : at ≤ length l) where
   cut-before : (n : ℕ) → n < at → getD (cut at l) n d ≡ getD l n d
-  unfolding cut
+  unfolding cutBy
   cut-before n b = List·getD-append (take at l) (drop (at + 3) l) d n (omega (arith, length-take-le at l h)) ∙ getD-take at l n d b
 
   cut-after : (q : ℕ) → getD (cut at l) (at + q) d ≡ getD l (at + 3 + q) d
-  unfolding cut
+  unfolding cutBy
   cut-after q =
       ap (λ (n : ℕ). getD (take at l ++ drop (at + 3) l) (n + q) d) (sym (length-take-le at l h))
       ∙ getD-append-add (take at l) (drop (at + 3) l) q d
@@ -48,7 +48,7 @@ module _ {A : Type 0} (at : ℕ) (l : List A) (d : A) (h : at ≤ length l) wher
 
 -- the front of a list, cut in two by the removed entry
 cut-parts : {A : Type 0} (at n : ℕ) (l : List A) → at + 3 ≤ n → n ≤ length l → cut at (take n l) ≡ take at l ++ take (n - (at + 3)) (drop (at + 3) l)
-unfolding cut
+unfolding cutBy
 cut-parts at n l b c =
     let whole : n ≡ at + 3 + (n - (at + 3)) = omega arith in
     let behind = ap (λ (m : ℕ). take m l) whole ∙ take-add (at + 3) (n - (at + 3)) l in
@@ -170,8 +170,8 @@ module _ (lab : List Float) (k i : ℕ) where
       found-in-others : Found (labAt lab i) others (k - 1) nearest
       found-in-others =
           found (labAt lab i) others (k - 1) target-fit
-          (nowhere-take unfit (3 * (k - 1)) others (cut-nowhere unfit (3 * i) (take (3 * k) lab) fit))
-          (omega (arith, cut-length (3 * i) (3 * k) (take (3 * k) lab) (omega arith) long))
+          (nowhere-take unfit (3 * (k - 1)) others (cut-nowhere 3 unfit (3 * i) (take (3 * k) lab) fit))
+          (omega (arith, cut-length 3 (3 * i) (3 * k) (take (3 * k) lab) (omega arith) long))
           (omega arith)
 
       nearest-of-others : FirstNearest (labAt lab i) others (k - 1) near

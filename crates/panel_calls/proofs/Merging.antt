@@ -26,6 +26,7 @@ use Rattle.edit_entries.specs.Unfilled.{noLab}
 use Rattle.edit_pixels.specs.Listing.{placesFrom}
 use Rattle.edit_pixels.proofs.Places.{places-few}
 use Rattle.palette_remove.specs.Removal.{moved, remapOf, Remapped, remapped, removeTo, mergeChecks, mergeEntriesOf}
+use Rattle.sheet.specs.Sheet.{Sheet}
 use Rattle.history_ledger.specs.Calls.{refused}
 use Rattle.history_ledger.specs.Journal.{State, pushOf}
 use Rattle.history_model.specs.Editing.{editing}
@@ -39,7 +40,7 @@ abbrev made : Told Op → Bool
 made (result o) = true
 made (alone n) = false
 
-module _ (st : State editing) (from into : ℕ) (list : List ℕ) (fits : length (st .sheet .indices) ≤ length list) where
+module _ (st : State Sheet) (from into : ℕ) (list : List ℕ) (fits : length (st .sheet .indices) ≤ length list) where
   abbrev cs : List Check
   cs = mergeChecks (st .sheet) from into
 

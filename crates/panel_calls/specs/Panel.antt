@@ -33,7 +33,7 @@ use Rattle.panel_lines.specs.Lines.{Said, said, answers}
 
 -- nothing before the opening; then sheet, journal and handle
 abbrev pub Panel : Type 0
-Panel = Option (State editing)
+Panel = Option (State Sheet)
 
 -- "Journal 4,096 bytes", and places of scratch, more than a sheet of 64 by 64 has
 abbrev pub journalBytes : ℕ
@@ -49,7 +49,7 @@ abbrev pub given : Edit → List Change → Given
 given e cs = record { permitted = permittedOf false []; edit = e; changes = cs }
 
 -- "04 from into": 18 comes first, then what the push of the merge answers
-unfoldable pub mergedOf : State editing → ℕ → ℕ → Outcome (State editing)
+unfoldable pub mergedOf : State Sheet → ℕ → ℕ → Outcome (State Sheet)
 mergedOf st from into =
     let s = st .sheet in
     guarded st (mergeChecks s from into)
@@ -57,7 +57,7 @@ mergedOf st from into =
     (map packed (remapOf (s .w) (s .indices) from into)))))
 
 -- what a frame asks of the history; push fills in old colour and old LAB. 22 for "a second opening" and for a "malformed line"
-unfoldable pub callOf : State editing → Frame → List ℕ → Outcome (State editing)
+unfoldable pub callOf : State Sheet → Frame → List ℕ → Outcome (State Sheet)
 callOf st (Open w h k) bs = refused st unreadFrame
 callOf st (Pixels tool n) bs = step editing room st (push (given (edit.Pixels tool) (changesFrom bs 2 n)))
 callOf st (Set i c) bs = step editing room st (push (given (edit.PaletteSet i c c noLab) []))
@@ -69,11 +69,11 @@ callOf st Mark bs = step editing room st mark
 callOf st Malformed bs = refused st unreadFrame
 
 -- "It prints .. answer (00 done, FF still, else number), position (2), dirty, k, indices"
-unfoldable pub wholeLine : Answer → State editing → List ℕ
+unfoldable pub wholeLine : Answer → State Sheet → List ℕ
 wholeLine a st = lineOf (number a) (st .handle .position) (dirty (st .handle)) (st .sheet .k) (st .sheet .indices)
 
 -- "22 .. prints the number only"; "Every other refusal prints the whole line"
-unfoldable pub shown : Outcome (State editing) → Said Panel
+unfoldable pub shown : Outcome (State Sheet) → Said Panel
 shown o =
     said (some (o .leaves))
     (cond (eqb (number (o .answer)) unreadFrame) (numberLine unreadFrame) (wholeLine (o .answer) (o .leaves)))
@@ -81,7 +81,7 @@ shown o =
 -- ---- the opening
 
 -- LAB of the k entries worked out, and the journal zero
-unfoldable pub begun : Sheet → State editing
+unfoldable pub begun : Sheet → State Sheet
 begun s = opened editing (sheetOf (s .w) (s .h) (s .k) (s .palette) (newLab s) (s .indices)) (replicate journalBytes 0)
 
 -- "a failed opening (.. the sheet stays unopened) .. prints the number only"

@@ -1,8 +1,9 @@
 -- What the loops over slices make, turn by turn, and that it is what their contracts say. Assumes nothing.
-use mathlib.Core.Path.{_≡_, refl, sym, ap, _∙_}
+use mathlib.Core.Path.{_≡_, refl, sym, ap, subst, _∙_}
 use mathlib.Core.Bool.{Bool, false, _||_}
 use mathlib.Core.List.{List, map}
 use Prim.Native.Nat.{ℕ, zero, suc, _+_, _<_, _≤_, _^_}
+use native.Mathlib.Numerals.{add-one}
 use native.Mathlib.Omega.{arith}
 use lib.IntN.{pos}
 use lib.ListN.{length, take, getD, set, length-set, length-map, List·getD-map}
@@ -79,23 +80,33 @@ copies-over vs cs (suc i) h k =
     ∙ next (map packedOf vs) (map packedOf cs) (map packedOf (copies vs cs i)) i (packedOf (getD vs i none)) (packedOf none)
     (omega (arith, length-map vs packedOf)) (omega (arith, length-map cs packedOf)) (sym (List·getD-map packedOf vs i none)) (copies-over vs cs i (omega arith) (omega arith))
 
--- ---- a flag that says of the first n changes, with those from the i-th on, whether one is off the sheet
+-- ---- whether one of the first i changes is off the sheet
+abbrev pub offUpto : ℕ → ℕ → List Change → ℕ → Bool
+offUpto w h vs zero = false
+offUpto w h vs (suc i) = offUpto w h vs i || outside w h (unpacked (packedOf (getD vs i none)))
+
+-- of the first n changes
 module _ (w h : ℕ) (vs : List Change) (n : ℕ) where
   abbrev read : List ℕ
   read = take n (map packedOf vs)
 
-  abbrev pub Off : ℕ → Bool → Type 0
+  abbrev Off : ℕ → Bool → Type 0
   Off i off = Flagged (λ c. outside w h (unpacked c)) read i off
 
-  pub off-none : Off 0 false
+  off-none : Off 0 false
   off-none = record { says = refl }
 
-  pub off-next : (i : ℕ) (off r : Bool) → n ≤ length vs → i < n → Off i off → r ≡ off || outside w h (unpacked (packedOf (getD vs i none))) → Off (i + 1) r
+  off-next : (i : ℕ) (off r : Bool) → n ≤ length vs → i < n → Off i off → r ≡ off || outside w h (unpacked (packedOf (getD vs i none))) → Off (i + 1) r
   off-next i off r fit below f e =
       flag-step (packedOf none) f (omega (arith, read-length fit)) (ap (λ (c : ℕ). outside w h (unpacked c)) (sym (getD-take n (map packedOf vs) i (packedOf none) below ∙ List·getD-map packedOf vs i none))) e
     where
       read-length : n ≤ length vs → length read ≡ n
       read-length fit = length-take-le n (map packedOf vs) (omega (arith, length-map vs packedOf))
 
-  pub off-all : (i : ℕ) (off : Bool) → n ≤ length vs → Off i off → i ≡ n → off ≡ some (outside w h) (map unpacked read)
-  off-all i off fit f e = flag-end f (omega (arith, e, length-take-le n (map packedOf vs) (omega (arith, length-map vs packedOf)))) ∙ sym (some-map unpacked (outside w h) read)
+  off-upto : (i : ℕ) → n ≤ length vs → i ≤ n → Off i (offUpto w h vs i)
+  off-upto zero fit below = off-none
+  off-upto (suc i) fit below = subst (λ (m : ℕ). Off m (offUpto w h vs (suc i))) (add-one i) (off-next i _ _ fit below (off-upto i fit (omega arith)) refl)
+
+  pub off-all : n ≤ length vs → offUpto w h vs n ≡ some (outside w h) (map unpacked read)
+  off-all fit =
+      flag-end (off-upto n fit (omega arith)) (omega (arith, length-take-le n (map packedOf vs) (omega (arith, length-map vs packedOf)))) ∙ sym (some-map unpacked (outside w h) read)

@@ -24,9 +24,7 @@ pub fn pack(list: &[Change], n: usize, flat: &mut [u64])
 {
     let mut i: usize = 0;
     while i < n {
-        let c = list[i];
-        let v = packed(c);
-        flat[i] = v;
+        flat[i] = packed(list[i]);
         i += 1;
     }
 }
@@ -40,9 +38,7 @@ pub fn unpack(flat: &[u64], n: usize, out: &mut [Change])
 {
     let mut filled: usize = 0;
     while filled < n {
-        let v = flat[filled];
-        let c = unpacked(v);
-        out[filled] = c;
+        out[filled] = unpacked(flat[filled]);
         filled += 1;
     }
 }
@@ -57,8 +53,7 @@ pub fn copy_front(list: &[Change], n: usize, out: &mut [Change])
 {
     let mut copied: usize = 0;
     while copied < n {
-        let c = list[copied];
-        out[copied] = c;
+        out[copied] = list[copied];
         copied += 1;
     }
 }

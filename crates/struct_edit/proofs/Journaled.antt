@@ -1,29 +1,24 @@
--- What the loop that writes leaves: the changes' bytes in the record that starts at the offset; and the whole record, once the rest is written around them.
--- Assumes nothing.
+-- What the loop that writes leaves: the changes' bytes in the record that starts at the offset. Assumes nothing.
 use mathlib.Core.Path.{_≡_, refl, sym, ap, _∙_}
 use mathlib.Core.List.{List, [], _∷_, _++_, map, flatMap, append-assoc}
 use Prim.Native.Nat.{ℕ, zero, suc, _+_, _-_, _*_, _<_, _≤_}
 use native.Mathlib.Nat.{le-of-suc-le-suc, not-suc-le-zero}
 use native.Mathlib.Omega.{arith}
 use lib.IntN.{ℤ}
-use lib.ListN.{length, getD, take, drop, length-map, length-drop, take-append-drop}
-use lib.Seq.{take-suc, take-all, take-add, take-at, drop-at, drop-drop, length-take-le}
-use Rattle.base.specs.declared.Rgb.{Rgb}
-use Rattle.base.specs.declared.Lab.{Lab}
+use lib.ListN.{length, getD, take, drop, length-map, take-append-drop}
+use lib.Seq.{take-suc, take-all, take-add, drop-drop, length-take-le}
 use Rattle.base.specs.Lists.{over}
 use Rattle.base.proofs.Collect.{flatMap-append, flatMap-one}
-use Rattle.base.specs.declared.Edit.{Edit}
-use Rattle.base.specs.declared.Edit.the-variants.{Pixels, PaletteSet, PaletteAdd, PaletteRemove}
+use Rattle.edit.specs.declared.ListKind.{ListKind}
+use Rattle.edit.specs.declared.ListKind.the-variants.{NoList, PixelList, RemapList}
 use Rattle.edit.specs.Change as flat
 use Rattle.edit.specs.Change.{filledIn}
-use Rattle.edit.specs.Apply.{filledChanges}
+use Rattle.edit.specs.List.{filledList}
 use Rattle.journal_record.specs.Bytes.{splice}
-use Rattle.journal_write.specs.Fit.{rowsOf}
-use Rattle.journal_record.specs.Record.{changeBytes, recordLength, recordOf}
-use Rattle.journal_frame.specs.Frame.{around}
+use Rattle.journal_write.specs.List.{within, Puttable}
+use Rattle.journal_record.specs.Record.{changeBytes}
 use Rattle.journal_write.proofs.Changes.{length-changes}
 use Rattle.journal_record.proofs.Splice.{splice-none, splice-then}
-use Rattle.journal_frame.proofs.Framing.{within, around-within}
 use Rattle.base.specs.declared.Change.{Change}
 use Rattle.struct_edit.specs.Walk.{flatOf, flatAll, none, putOne, putUpto}
 use Rattle.struct_edit.proofs.Told.{told-length, told-at}
@@ -54,59 +49,46 @@ module _ (offset w : ℕ) (indices : List ℤ) (list : List Change) (journal : L
   filled-length : length (map fill (flatAll list)) ≡ length list
   filled-length = rw length-map (told-length list)
 
-  pixels-upto : (tool : ℕ) → offset + (6 + 8 * length list) ≤ length journal → (i : ℕ) → i ≤ length list
-      → putUpto 0 (Pixels tool) offset w indices list journal i ≡ splice journal (offset + 6) (flatMap changeBytes (take i (map fill (flatAll list))))
+  pixels-upto : offset + (6 + 8 * length list) ≤ length journal → (i : ℕ) → i ≤ length list
+      → putUpto PixelList offset w indices list journal i ≡ splice journal (offset + 6) (flatMap changeBytes (take i (map fill (flatAll list))))
   unfolding putOne flatMap
-  pixels-upto tool room zero h = splice-none journal (offset + 6)
-  pixels-upto tool room (suc i) h =
+  pixels-upto room zero h = splice-none journal (offset + 6)
+  pixels-upto room (suc i) h =
       let at : offset + (6 + 8 * i) ≡ offset + 6 + 8 * i = omega arith in
       rw (at, ← filled-at list i h)
-      (next journal (offset + 6) (map fill (flatAll list)) (rw filled-length (omega arith)) (fill (flatOf none)) i _ (rw filled-length h) (pixels-upto tool room i (omega arith)))
+      (next journal (offset + 6) (map fill (flatAll list)) (rw filled-length (omega arith)) (fill (flatOf none)) i _ (rw filled-length h) (pixels-upto room i (omega arith)))
 
-  remap-upto : (j : ℕ) (rgb : Rgb) (lab : Lab) → offset + (33 + 8 * length list) ≤ length journal → (i : ℕ) → i ≤ length list
-      → putUpto 0 (PaletteRemove j rgb lab) offset w indices list journal i ≡ splice journal (offset + 33) (flatMap changeBytes (take i (flatAll list)))
+  remap-upto : (j : ℕ) → offset + (33 + 8 * length list) ≤ length journal → (i : ℕ) → i ≤ length list
+      → putUpto (RemapList j) offset w indices list journal i ≡ splice journal (offset + 33) (flatMap changeBytes (take i (flatAll list)))
   unfolding putOne flatMap
-  remap-upto j rgb lab room zero h = splice-none journal (offset + 33)
-  remap-upto j rgb lab room (suc i) h =
+  remap-upto j room zero h = splice-none journal (offset + 33)
+  remap-upto j room (suc i) h =
       let at : offset + (33 + 8 * i) ≡ offset + 33 + 8 * i = omega arith in
       rw (at, ← told-at list i (flatOf none) h)
-      (next journal (offset + 33) (flatAll list) (rw (told-length list) (omega arith)) (flatOf none) i _ (rw (told-length list) h) (remap-upto j rgb lab room i (omega arith)))
+      (next journal (offset + 33) (flatAll list) (rw (told-length list) (omega arith)) (flatOf none) i _ (rw (told-length list) h) (remap-upto j room i (omega arith)))
 
-  none-upto-set : (j : ℕ) (old new : Rgb) (lab : Lab) (i : ℕ) → putUpto 0 (PaletteSet j old new lab) offset w indices list journal i ≡ journal
+  none-upto : (i : ℕ) → putUpto NoList offset w indices list journal i ≡ journal
   unfolding putOne
-  none-upto-set j old new lab zero = refl
-  none-upto-set j old new lab (suc i) = none-upto-set j old new lab i
+  none-upto zero = refl
+  none-upto (suc i) = none-upto i
 
-  none-upto-add : (rgb : Rgb) (i : ℕ) → putUpto 0 (PaletteAdd rgb) offset w indices list journal i ≡ journal
-  unfolding putOne
-  none-upto-add rgb zero = refl
-  none-upto-add rgb (suc i) = none-upto-add rgb i
-
-  -- the changes stand in the record
-  pub put-all : (e : Edit) → offset + recordLength e (length list) ≤ length journal
-      → putUpto 0 e offset w indices list journal (length list) ≡ take offset journal ++ within e (filledChanges (rowsOf w indices) e (flatAll list)) (drop offset journal)
-  unfolding recordLength within filledChanges
-  put-all (Pixels tool) h =
-      pixels-upto tool (omega arith) (length list) (omega arith)
+  some-pixels : (l : List Change) → list ≡ l → Puttable PixelList w (length indices) (length journal - offset) (flatAll list)
+      → putUpto PixelList offset w indices list journal (length list) ≡ take offset journal ++ splice (drop offset journal) 6 (flatMap changeBytes (map fill (flatAll list)))
+  unfolding Puttable flatMap
+  some-pixels [] e p = rw e (splice-none journal (offset + 6) ∙ from-part journal [] offset 6)
+  some-pixels (c ∷ l) e p =
+      let long : 0 < length list = rw e (omega arith) in
+      pixels-upto (omega (arith, p .0 (rw (told-length list) long), told-length list)) (length list) (omega arith)
       ∙ rw (take-all (length list) (map fill (flatAll list)) (omega (arith, filled-length)))
       (from-part journal (flatMap changeBytes (map fill (flatAll list))) offset 6)
-  put-all (PaletteSet j old new lab) h = none-upto-set j old new lab (length list) ∙ sym (take-append-drop offset journal)
-  put-all (PaletteAdd rgb) h = none-upto-add rgb (length list) ∙ sym (take-append-drop offset journal)
-  put-all (PaletteRemove j rgb lab) h =
-      remap-upto j rgb lab (omega arith) (length list) (omega arith)
+
+  -- the changes stand in the record
+  pub put-all : (l : ListKind) → Puttable l w (length indices) (length journal - offset) (flatAll list)
+      → putUpto l offset w indices list journal (length list) ≡ take offset journal ++ within l (filledList l w indices (flatAll list)) (drop offset journal)
+  unfolding Puttable within filledList
+  put-all NoList p = none-upto (length list) ∙ sym (take-append-drop offset journal)
+  put-all PixelList p = some-pixels list refl p
+  put-all (RemapList j) p =
+      remap-upto j (omega (arith, p, told-length list)) (length list) (omega arith)
       ∙ rw (take-all (length list) (flatAll list) (omega (arith, told-length list)))
       (from-part journal (flatMap changeBytes (flatAll list)) offset 33)
-
--- ---- the rest of the record is written around them
-pub whole-record : (e : Edit) (cs : List flat.Change) (n offset : ℕ) (journal after : List ℕ) → length cs ≡ n → offset + recordLength e n ≤ length journal
-    → after ≡ take offset journal ++ within e cs (drop offset journal)
-    → take offset after ++ around e n (drop offset after) ≡ take offset journal ++ over (recordOf e cs) (drop offset journal)
-whole-record e cs n offset journal after q h k =
-    let front : length (take offset journal) ≡ offset = length-take-le offset journal (omega arith) in
-    let part : length (drop offset journal) ≡ length journal - offset = length-drop offset journal in
-    rw (
-      k,
-      take-at (take offset journal) (within e cs (drop offset journal)) offset front,
-      drop-at (take offset journal) (within e cs (drop offset journal)) offset front,
-      around-within e cs n (drop offset journal) q (omega (arith, h, part)),
-    )

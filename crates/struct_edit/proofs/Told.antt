@@ -1,6 +1,6 @@
 -- The changes that the core reads of a list of structs, one by one. Assumes nothing.
-use mathlib.Core.Path.{_≡_, refl}
-use mathlib.Core.Bool.{false}
+use mathlib.Core.Path.{_≡_, refl, sym, _∙_}
+use mathlib.Core.Bool.{false, or-false}
 use mathlib.Core.List.{List, [], _∷_}
 use Prim.Native.Nat.{ℕ, zero, suc, _<_}
 use native.Mathlib.Nat.{le-of-suc-le-suc, not-suc-le-zero}
@@ -29,6 +29,15 @@ packed-at (c ∷ list) zero h = refl
 packed-at (c ∷ list) (suc i) h = packed-at list i (le-of-suc-le-suc h)
 
 -- where none stands past the picture, the i-th does not
+pub told-one : (w n : ℕ) (list : List Change) (i : ℕ) → some (past w n) (flatAll list) ≡ false → i < length list → some (past w n) (flatOf (getD list i none) ∷ []) ≡ false
+unfolding some
+told-one w n list i e h = or-false (past w n (flatOf (getD list i none))) ∙ (rw (told-at list i (flatOf none) h) at (some-none (past w n) (flatAll list) i (flatOf none) e (rw (told-length list) h)))
+
 pub told-inside : (w n : ℕ) (list : List Change) (i : ℕ) → some (past w n) (flatAll list) ≡ false → i < length list → place w (flatOf (getD list i none)) < n
 unfolding past
 told-inside w n list i e h = leb-false n _ (rw (told-at list i (flatOf none) h) at (some-none (past w n) (flatAll list) i (flatOf none) e (rw (told-length list) h)))
+
+-- one change that does not
+pub one-inside : (w n : ℕ) (c : flat.Change) → some (past w n) (c ∷ []) ≡ false → place w c < n
+unfolding some past
+one-inside w n c e = leb-false n _ (sym (or-false (past w n c)) ∙ e)

@@ -5,7 +5,7 @@ use lib.IntN.{ℤ}
 use lib.Ieee.{Float}
 use Rattle.base.specs.Answer.{answerTold}
 use Rattle.base.specs.declared.Answer.{Answer}
-use Rattle.sheet.specs.Sheet.{sheetOf}
+use Rattle.sheet.specs.Sheet.{Sheet, sheetOf}
 use Rattle.base.specs.declared.Handle.{Handle}
 use Rattle.history_ledger.specs.Calls.{Outcome}
 use Rattle.history_ledger.specs.Journal.{State}
@@ -13,6 +13,6 @@ use Rattle.history_model.specs.Editing.{editing}
 use Rattle.history_model.specs.Calls.{stateOf}
 
 -- the answer, and sheet, journal and handle after the call
-abbrev pub leavesLent : Answer → ℕ → ℕ → ℕ → List ℕ → List Float → List ℤ → List ℕ → Handle → Outcome (State editing)
+abbrev pub leavesLent : Answer → ℕ → ℕ → ℕ → List ℕ → List Float → List ℤ → List ℕ → Handle → Outcome (State Sheet)
 leavesLent answer w h k palette lab indices journal handle =
     record { answer = answerTold answer; leaves = stateOf (sheetOf w h k palette lab indices) journal handle }

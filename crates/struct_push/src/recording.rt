@@ -5,16 +5,11 @@ use base::Change;
 use base::Edit;
 use base::Handle;
 use base::Moved;
-use edit::is_empty;
-use edit_apply::fill_edit;
-use edit_head::finish_edit;
-use history_ledger::after_push;
-use history_model::record_length;
-use history_model::refused;
-use history_model::still;
-use journal_frame::write_around;
+use edit::list_of;
+use history_push::finish;
 use struct_edit::paint_list;
 use struct_edit::put_list;
+use struct_edit::walked;
 use struct_push_checks::push_no;
 ghost use mathlib.Core.Path.{_≡_};
 ghost use mathlib.Core.Bool.{Bool, false};
@@ -22,55 +17,15 @@ ghost use mathlib.Core.List.{List};
 ghost use Prim.Native.Nat.{ℕ};
 ghost use lib.ListN.{length};
 ghost use Rattle.sheet.specs.Sheet.{sheetOf};
-ghost use Rattle.edit.specs.Apply.{noPixels};
 ghost use Rattle.struct_edit.specs.Walk.{packedAll, flatAll};
 ghost use Rattle.history_ledger.specs.Journal.{pushOf, pushed};
 ghost use Rattle.history_model.specs.Editing.{editing, givenOf};
 ghost use Rattle.history_model.specs.Calls.{stateOf, leaves, Standing, Acceptable};
+ghost use Rattle.history_push_checks.specs.Steps.{isStill, pushedOr};
+ghost use Rattle.edit.specs.List.{listOf, emptyPixels};
 ghost use Rattle.struct_push.specs.Lent.{leavesLent};
-ghost use Rattle.struct_steps.specs.Phases.{nonePut, pushedOr, finished, Finishes};
 
-// What a push does beside its list, where it was not refused: the record is written around the changes into the
-// part of the journal that starts at the standing offset, the edit is done, and the handle moved.
-fn finish(
-    no: u8,
-    k: usize,
-    palette: &mut [u8],
-    lab: &mut [f64],
-    indices: &mut [i16],
-    edit: Edit,
-    n: usize,
-    journal: &mut [u8],
-    handle: Handle,
-) -> Moved
-    requires { ⌜ (no ≡ 0 → nonePut edit n ≡ false → Finishes k (now palette) (now lab) (now journal) handle edit n) ⌝ }
-    ensures { λ r. ⌜
-        ((w h : ℕ) → leaves r w h (now (palette .exit)) (now (lab .exit)) (now (indices .exit)) (now (journal .exit))
-        ≡ pushedOr no (nonePut edit n)
-        (stateOf (sheetOf w h k (now (palette .entry)) (now (lab .entry)) (now (indices .entry))) (now (journal .entry))
-        handle) (finished
-        (stateOf (sheetOf w h k (now (palette .entry)) (now (lab .entry)) (now (indices .entry))) (now (journal .entry))
-        handle) edit n))
-        ⌝ }
-{
-    if no != 0 {
-        return refused(no, k, handle);
-    }
-    if is_empty(edit, n) {
-        return still(k, handle);
-    }
-    let offset = handle.offset;
-    let filled = fill_edit(palette, lab, edit);
-    write_around(&mut journal[offset..], filled, n);
-    let after = finish_edit(k, palette, lab, indices, edit);
-    Moved {
-        answer: Answer::Done,
-        k: after,
-        handle: after_push(handle, record_length(edit, n)),
-    }
-}
-
-// Records and does an edit that was not refused.
+// Records and does an edit that was not refused; the list of one that was is not gone through.
 fn carry_out(
     no: u8,
     w: usize,
@@ -86,14 +41,14 @@ fn carry_out(
 ) -> Moved
     requires { ⌜
         (no ≡ 0 → Standing (stateOf (sheetOf w h k (now palette) (now lab) (now indices)) (now journal) handle))
-        × (no ≡ 0 → noPixels edit (flatAll (now list)) ≡ false
+        × (no ≡ 0 → emptyPixels (listOf edit) (length (flatAll (now list))) ≡ false
         → Acceptable (stateOf (sheetOf w h k (now palette) (now lab) (now indices)) (now journal) handle) edit
         (flatAll (now list)))
         ⌝ }
     ensures { λ r. ⌜
         ((limited : Bool) (permitted : List ℕ)
         → leaves r w h (now (palette .exit)) (now (lab .exit)) (now (indices .exit)) (now (journal .exit))
-        ≡ pushedOr no (noPixels edit (flatAll (now (list .entry))))
+        ≡ pushedOr no (isStill (givenOf limited permitted edit (packedAll (now (list .entry)))))
         (stateOf (sheetOf w h k (now (palette .entry)) (now (lab .entry)) (now (indices .entry))) (now (journal .entry))
         handle) (pushed editing
         (stateOf (sheetOf w h k (now (palette .entry)) (now (lab .entry)) (now (indices .entry))) (now (journal .entry))
@@ -102,8 +57,10 @@ fn carry_out(
 {
     let n = list.len();
     let offset = handle.offset;
-    put_list(no, edit, journal, offset, indices, w, list);
-    paint_list(no, edit, indices, w, list);
+    let kind = list_of(edit);
+    let m = walked(no, n);
+    put_list(kind, journal, offset, indices, w, list, m);
+    paint_list(kind, indices, w, list, m);
     finish(no, k, palette, lab, indices, edit, n, journal, handle)
 }
 

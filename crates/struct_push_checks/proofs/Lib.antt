@@ -1,1 +1,1 @@
-pub mod PushSteps
+pub mod Listed

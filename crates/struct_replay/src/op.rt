@@ -3,11 +3,13 @@ use base::Answer;
 use base::Change;
 use base::Edit;
 use base::Replayed;
+use edit::list_of;
+use history_replay::finish_replay;
+use history_replay::left_after;
+use history_replay::open_replay;
 use struct_edit::check_list;
 use struct_edit::paint_list;
-use struct_steps::finish_replay;
-use struct_steps::left_after;
-use struct_steps::open_replay;
+use struct_edit::walked;
 ghost use mathlib.Core.Path.{_≡_};
 ghost use Prim.Native.Nat.{ℕ};
 ghost use lib.ListN.{length};
@@ -19,7 +21,7 @@ ghost use Rattle.edit.specs.Apply.{redone};
 ghost use Rattle.edit_apply.specs.Redoable.{Redoable};
 ghost use Rattle.struct_edit.specs.Walk.{flatAll};
 ghost use Rattle.history_model.specs.Replay.{replayChecks, replayed, replayOf};
-ghost use Rattle.struct_steps.specs.Phases.{doneOr};
+ghost use Rattle.history_replay.specs.Steps.{doneOr};
 
 // The number of the first check that applies, or 0.
 fn replay_no(
@@ -43,6 +45,7 @@ fn replay_no(
         ) ⌝ }
 {
     let n = list.len();
+    let kind = list_of(edit);
     let opened = open_replay(
         w,
         h,
@@ -56,11 +59,11 @@ fn replay_no(
         n,
         marks,
     );
-    let checked = check_list(opened, edit, true, w, h, k, indices, marks, list);
+    let checked = check_list(opened, kind, true, w, h, k, indices, marks, list, n);
     left_after(checked, edit, w, h, indices, marks)
 }
 
-// Does an edit that was not refused.
+// Does an edit that was not refused; the list of one that was is not gone through.
 fn redo_list(
     no: u8,
     w: usize,
@@ -80,7 +83,10 @@ fn redo_list(
         (flatAll (now (list .entry)))))
         ⌝ }
 {
-    paint_list(no, edit, indices, w, list);
+    let n = list.len();
+    let kind = list_of(edit);
+    let m = walked(no, n);
+    paint_list(kind, indices, w, list, m);
     finish_replay(no, k, palette, lab, indices, edit)
 }
 

@@ -114,41 +114,37 @@ module _ (w h sw : ℕ) (s : Selection) (dx dy : ℤ) (places room : ℕ) (m : L
   abbrev down : Landing
   down = landing (s .y) (s .h) (offsetOf dy) h
 
-  -- what the writing of its rows asks
+  -- what the writing of its rows asks, of the picture that is read and of the one that is written
+  rows-of : (wide x y bottom size : ℕ) → wide ≤ 1024 → x ≤ s .x + 65536 → y ≤ s .y + 65536
+      → (0 < across .count → x + across .count ≤ wide) → (0 < down .count → y + down .count ≤ bottom) → bottom * wide ≤ size
+      → Rows wide x y (across .count) (down .count) size
+  rows-of wide x y bottom size u a b r t e =
+      let c = axis-few (s .y) (s .h) dy h (m .down) in
+      let p = m .right in
+      let q = m .bottom in
+      let v = m .high in
+      let k = m .source-wide in
+      record {
+        wide = omega arith;
+        right = omega arith;
+        below = omega arith;
+        inside = λ j k n. row-in (y + j) bottom wide x (across .count) size (omega (arith, t (omega arith))) (r n) e;
+      }
+
   pub rows-read : Rows sw (across .from) (down .from) (across .count) (down .count) places
   rows-read =
       let a = axis-near (s .x) (s .w) dx w (m .across) in
       let b = axis-near (s .y) (s .h) dy h (m .down) in
-      let c = axis-few (s .y) (s .h) dy h (m .down) in
       let r = m .right in
-      let t = m .bottom in
-      let u = m .source-wide in
-      let v = m .high in
-      record {
-        wide = omega arith;
-        right = omega (arith, a .0);
-        below = omega (arith, b .0);
-        inside = λ j k n. row-in (down .from + j) (s .y + s .h) sw (across .from) (across .count) places (omega (arith, axis-high (s .y) (s .h) dy h (m .down) (omega arith)))
-            (omega (arith, axis-high (s .x) (s .w) dx w (m .across) n)) (m .below);
-      }
+      rows-of sw (across .from) (down .from) (s .y + s .h) places (m .source-wide) (a .0) (b .0)
+      (λ n. omega (arith, axis-high (s .x) (s .w) dx w (m .across) n)) (axis-high (s .y) (s .h) dy h (m .down)) (m .below)
 
   pub rows-written : Rows w (across .to) (down .to) (across .count) (down .count) room
   rows-written =
       let a = axis-near (s .x) (s .w) dx w (m .across) in
       let b = axis-near (s .y) (s .h) dy h (m .down) in
-      let c = axis-few (s .y) (s .h) dy h (m .down) in
-      let r = m .right in
-      let t = m .bottom in
-      let u = m .source-wide in
-      let v = m .high in
-      let x = m .wide in
-      record {
-        wide = omega arith;
-        right = omega (arith, a .1);
-        below = omega (arith, b .1);
-        inside = λ j k n. row-in (down .to + j) h w (across .to) (across .count) room (omega (arith, axis-side (s .y) (s .h) dy h (m .down) (omega arith)))
-            (axis-side (s .x) (s .w) dx w (m .across) n) (rw (mul-comm h w) (m .roomy));
-      }
+      rows-of w (across .to) (down .to) h room (m .wide) (a .1) (b .1)
+      (axis-side (s .x) (s .w) dx w (m .across)) (axis-side (s .y) (s .h) dy h (m .down)) (rw (mul-comm h w) (m .roomy))
 
   module _ (l source : List ℤ) where
     -- of row y and column x

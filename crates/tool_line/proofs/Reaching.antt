@@ -1,6 +1,6 @@
 -- The first step at which an axis has gone k places: by the closed form it is a quotient, rounded up; and so the steps between two places. Assumes nothing.
 use mathlib.Core.Path.{_≡_, refl, sym, ap, _∙_}
-use mathlib.Core.Bool.{Bool, true, false, not, cond, _&&_}
+use mathlib.Core.Bool.{Bool, true, false, not, cond, _&&_, Bool·not-not}
 use Prim.Native.Nat.{ℕ, zero, suc, _+_, _-_, _*_, _/_, _≤_, _<_}
 use native.Mathlib.Nat.{add-mul, one-mul, mul-comm, mul-left-comm, mul-le-mul, mul-le-mul-right, div-zero, le-div-iff-mul-le, div-lt-iff-lt-mul}
 use native.Mathlib.Omega.{arith}
@@ -89,11 +89,7 @@ not-leb i j = by (leb i j) refl
     by false e = lt-ltb j i (leb-false i j e)
 
 le-not : (i j : ℕ) → leb i j ≡ not (ltb j i)
-le-not i j = by (ltb j i) refl
-  where
-    by : (t : Bool) → ltb j i ≡ t → leb i j ≡ not t
-    by true e = lt-leb i j (ltb-true j i e)
-    by false e = le-leb i j (ltb-false j i e)
+le-not i j = rw (not-leb i j) (sym (Bool·not-not (leb i j)))
 
 and-swap : (s t : Bool) → s && t ≡ t && s
 and-swap true true = refl

@@ -134,25 +134,14 @@ none-held region n (x ∷ []) h = record { ends = omega arith; each = tt }
 none-held region n (x ∷ y ∷ l) h = absurd (omega arith)
 
 -- ---- the pass over the points
-close-min : (a b : ℤ) → Close a → Close b → Close (minZ a b)
-unfolding minZ
-close-min a b p q = by (ltZ b a)
-  where
-    by : (t : Bool) → Close (cond t b a)
-    by true = q
-    by false = p
-
-close-max : (a b : ℤ) → Close a → Close b → Close (maxZ a b)
-unfolding maxZ
-close-max a b p q = by (ltZ a b)
-  where
-    by : (t : Bool) → Close (cond t b a)
-    by true = q
-    by false = p
+close-pick : (a b : ℤ) → Close a → Close b → (t : Bool) → Close (cond t b a)
+close-pick a b p q true = q
+close-pick a b p q false = p
 
 -- a line's two ends
 pub ends-close : (a b : ℤ) → Close a → Close b → Close (minZ a b) × Close (maxZ a b)
-ends-close a b p q = (close-min a b p q, close-max a b p q)
+unfolding minZ maxZ
+ends-close a b p q = (close-pick a b p q (ltZ b a), close-pick a b p q (ltZ a b))
 
 pub ends-down : (a b : Point) → All (Down (minZ (a .y) (b .y)) (maxZ (a .y) (b .y))) (a ∷ b ∷ [])
 unfolding All
@@ -193,8 +182,8 @@ module _ (l : List ℤ) where
         let o = g .odd in
         rw e (record {
           odd = omega arith;
-          low-close = close-min (r .low) y (g .low-close) (at-close i h);
-          high-close = close-max (r .high) y (g .high-close) (at-close i h);
+          low-close = ends-close (r .low) y (g .low-close) (at-close i h) .0;
+          high-close = ends-close (r .high) y (g .high-close) (at-close i h) .1;
           each = λ k a b. elim (decLt k i) [
             | yes q ↦ wider-keeps r y (g .each k q b)
             | no q ↦ (let j : k ≡ i = omega arith in rw j (wider-has r y))

@@ -1,56 +1,65 @@
--- `push_no`: 21, 16, the edit's own, 14. Assumes nothing.
-use native.Mathlib.Omega.{arith}
-use lib.ListN.{length-map}
-use Rattle.history_model.proofs.PushChecks.{pushes-long, pushes-scratch, pushes-own, pushes-full, pushes-fine, end-fits}
+-- `push_no`: the steps before the list, the list, and the steps after it. Assumes nothing.
+use mathlib.Core.Path.{_≡_, refl}
+use mathlib.Core.Bool.{false}
+use mathlib.Core.List.{map, flatMap}
+use Rattle.base.specs.Checks.{orElse, firstOf}
+use Rattle.edit.specs.Change.{unpacked}
+use Rattle.edit.specs.List.{listOf}
+use Rattle.edit.specs.Checks.{changeChecks}
+use Rattle.edit_pixels.specs.Inside.{bare}
+use Rattle.history_push_checks.proofs.PushSteps.{refused-number, begun-checkable, settle-checkable, settle-short, settle-marks, push-number}
 use borrow.Author.Needs.{needs}
 use Rattle.history_push_checks.proofs.push_no.Statement.{statement}
 use Rattle.history_push_checks.proofs.push_no.Tie as tie
 
-returns : tie.Need-returns
-returns c = pushes-long _ _ _ (rw length-map (c .if1 .taken))
-
-returns-2 : tie.Need-returns-2
-returns-2 c = pushes-scratch _ _ _ (rw length-map (omega arith)) (c .before .before .before .before .before .before .before .before .pre) (c .if2 .taken)
-
-own-no-requires : tie.Need-own-no-requires
-own-no-requires c κs = search needs
+begin-requires : tie.Need-begin-requires
+begin-requires c κs = search needs
 
 same-length : tie.Need-same-length
 same-length c = search needs
 
-returns-3 : tie.Need-returns-3
-returns-3 c = pushes-own _ _ _ (rw length-map (omega arith)) (c .before .before .before .before .before .before .before .before .before .before .before .before .before .pre) (omega arith) _ (c .before .before .before .own-no .ensures _) (c .if3 .taken)
+returns : tie.Need-returns
+returns c = refused-number _ _ _ _ (c .before .before .before .begin .ensures (c .before .before .before .before .before .before .before .before .before .before .before .args .list .now) refl) (c .if1 .taken)
 
-record-length-requires : tie.Need-record-length-requires
-record-length-requires c κs = search needs
+list-of-requires : tie.Need-list-of-requires
+list-of-requires c κs = search needs
 
-add-if4 : tie.Need-add-if4
-add-if4 c = record { fits = end-fits _ (c .before .before .before .before .before .before .before .before .before .before .before .before .before .before .before .pre) _ _ _ (omega arith) (c .before .record-length .ensures) }
+check-list-requires : tie.Need-check-list-requires
+check-list-requires c κs =
+    rw (c .before .list-of .ensures)
+    (begun-checkable _ _ _ _ _ _ _ _ _ _ _ _ (c .before .before .before .before .before .before .before .before .before .before .before .before .before .args .list .now) _ refl _ _ (c .before .before .before .before .before .begin .ensures (c .before .before .before .before .before .before .before .before .before .before .before .before .before .args .list .now) refl) _ (search needs) (c .before .before .if1 .left))
+
+-- past the test the number so far is that of the list
+checked : (c : tie.After-check-list) → let a = c .before .before .before .before .before .before .before .before .before .before .before .before .before .before .args in c .check-list .result
+    ≡ orElse (c .before .before .before .before .before .before .begin .result) (firstOf (flatMap (changeChecks false (bare (a .w) (a .h) (a .k) (a .indices .now)) (listOf (a .edit))) (map unpacked (a .list .now))))
+checked c = rw (c .before .before .before .if1 .left) (rw (c .before .before .list-of .ensures) at (c .check-list .ensures .0))
+
+settle-requires : tie.Need-settle-requires
+settle-requires c κs =
+    let b = c .before .before .before .before .before .before .before .before .before .begin .ensures (c .before .before .before .before .before .before .before .before .before .before .before .before .before .before .before .before .before .args .list .now) refl in
+    let d = checked (c .before .before .before) in
+    (λ z. settle-checkable _ _ _ _ _ _ _ _ _ _ _ _ (c .before .before .before .before .before .before .before .before .before .before .before .before .before .before .before .before .before .args .list .now) _ refl _ _ b _ d _ (search needs) z, λ z. settle-short _ _ _ _ _ _ _ _ _ _ _ _ (c .before .before .before .before .before .before .before .before .before .before .before .before .before .before .before .before .before .args .list .now) _ refl _ _ b _ d z)
 
 same-length-2 : tie.Need-same-length-2
 same-length-2 c = search needs
 
-returns-4 : tie.Need-returns-4
-returns-4 c = pushes-full _ _ _ (rw length-map (omega arith)) (c .before .before .before .before .before .before .before .before .before .before .before .before .before .before .before .before .pre) (omega arith) _ (c .before .before .before .before .before .before .own-no .ensures _) (c .before .before .before .if3 .left) (rw (length-map, ← c .before .before .record-length .ensures) (c .if4 .taken))
-
-same-length-3 : tie.Need-same-length-3
-same-length-3 c = search needs
-
-returns-5 : tie.Need-returns-5
-returns-5 c = pushes-fine _ _ _ (rw length-map (omega arith)) (c .before .before .before .before .before .before .before .before .before .before .before .before .before .before .before .before .pre) (omega arith) _ (c .before .before .before .before .before .before .own-no .ensures _) (c .before .before .before .if3 .left) (rw (length-map, ← c .before .before .record-length .ensures) (c .if4 .left))
+returns-2 : tie.Need-returns-2
+returns-2 c =
+    let list = c .before .before .before .before .before .before .before .before .before .before .before .before .before .before .before .before .before .before .args .list .now in
+    let b = c .before .before .before .before .before .before .before .before .before .before .begin .ensures list refl in
+    let d = checked (c .before .before .before .before) in
+    push-number _ _ _ _ _ _ _ _ _ _ _ _ list _ refl _ _ b _ d _ (c .settle .ensures (map unpacked list)
+    (λ z. settle-marks _ _ _ _ _ _ _ _ _ _ _ _ list _ refl _ _ b _ d _ z (rw (c .before .before .before .before .before .before .list-of .ensures) at (c .before .before .before .before .check-list .ensures .1 z))))
 
 pub push-no-spec : {M : Type 1} → statement M
 push-no-spec =
     tie.close
     (tie.spec
-    returns
-    returns-2
-    own-no-requires
+    begin-requires
     same-length
-    returns-3
-    record-length-requires
-    add-if4
+    returns
+    list-of-requires
+    check-list-requires
+    settle-requires
     same-length-2
-    returns-4
-    same-length-3
-    returns-5)
+    returns-2)

@@ -7,7 +7,7 @@ use Rattle.edit_entries.proofs.storage.bytes_down.Statement.{statement}
 use Rattle.edit_entries.proofs.storage.bytes_down.Tie as tie
 
 abbrev Inv-loop : tie.InvT-loop
-Inv-loop p₀ n end j₀ p j = (j ≤ end) × Closing p₀ j p
+Inv-loop p₀ n end j₀ p j = (j ≤ end) × Closing 3 p₀ j p
 
 abbrev μ-loop : tie.MeasureT-loop
 μ-loop p₀ n end j₀ p j = end - j
@@ -16,7 +16,7 @@ sub-end : tie.Need-sub-end Inv-loop μ-loop
 sub-end c = search needs
 
 loop-holds : tie.Need-loop-holds Inv-loop μ-loop
-loop-holds c = (search needs, closing-none _)
+loop-holds c = (search needs, closing-none 3 _)
 
 add-v : tie.Need-add-v Inv-loop μ-loop
 add-v c = search needs
@@ -34,7 +34,7 @@ loop-less : tie.Need-loop-less Inv-loop μ-loop
 loop-less c = search needs
 
 loop-again : tie.Need-loop-again Inv-loop μ-loop
-loop-again c = (search needs, closing-next (c .before .before .loop .inv .1) 0 (omega arith))
+loop-again c = (search needs, closing-next (c .before .before .loop .inv .1) 0 (omega arith) (omega arith))
 
 same-length : tie.Need-same-length Inv-loop μ-loop
 same-length c = search needs

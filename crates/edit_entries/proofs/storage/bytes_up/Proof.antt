@@ -7,13 +7,13 @@ use Rattle.edit_entries.proofs.storage.bytes_up.Statement.{statement}
 use Rattle.edit_entries.proofs.storage.bytes_up.Tie as tie
 
 abbrev Inv-loop : tie.InvT-loop
-Inv-loop p₀ n j₀ p j = (j ≤ n) × Opening p₀ n j p
+Inv-loop p₀ n j₀ p j = (j ≤ n) × Opening 3 p₀ n j p
 
 abbrev μ-loop : tie.MeasureT-loop
 μ-loop p₀ n j₀ p j = j
 
 loop-holds : tie.Need-loop-holds Inv-loop μ-loop
-loop-holds c = (search needs, opening-none _ _)
+loop-holds c = (search needs, opening-none 3 _ _)
 
 sub-j : tie.Need-sub-j Inv-loop μ-loop
 sub-j c = search needs
@@ -31,7 +31,7 @@ loop-less : tie.Need-loop-less Inv-loop μ-loop
 loop-less c = search needs
 
 loop-again : tie.Need-loop-again Inv-loop μ-loop
-loop-again c = (search needs, opening-next (c .before .before .loop .inv .1) 0 (omega arith) (omega arith) (omega arith))
+loop-again c = (search needs, opening-next (c .before .before .loop .inv .1) 0 (omega arith) (omega arith) (omega arith) (omega arith))
 
 same-length : tie.Need-same-length Inv-loop μ-loop
 same-length c = search needs

@@ -36,7 +36,7 @@ same-length c = search needs
 returns : tie.Need-returns
 returns c =
     let a = c .before .before .before .before .before .args in
-    closed-part (a .lab .now) (3 * a .i) (omega arith) (3 * a .k) _ (omega arith) (c .before .before .numbers-down .ensures)
+    closed-part (a .lab .now) (3 * a .i) (omega arith) 3 (3 * a .k) _ (omega arith) (c .before .before .numbers-down .ensures)
 
 pub close-lab-gap-spec : {M : Type 1} → statement M
 close-lab-gap-spec =

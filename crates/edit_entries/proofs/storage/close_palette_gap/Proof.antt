@@ -33,7 +33,7 @@ same-length c = search needs
 returns : tie.Need-returns
 returns c =
     let a = c .before .before .before .before .before .args in
-    closed-part (a .palette .now) (3 * a .i) (omega arith) (3 * a .k) _ (omega arith) (c .before .before .bytes-down .ensures)
+    closed-part (a .palette .now) (3 * a .i) (omega arith) 3 (3 * a .k) _ (omega arith) (c .before .before .bytes-down .ensures)
 
 pub close-palette-gap-spec : {M : Type 1} → statement M
 close-palette-gap-spec =

@@ -3,7 +3,7 @@ use mathlib.Core.Path.{_∙_}
 use Prim.Native.Nat.{_*_}
 use native.Mathlib.Omega.{arith}
 use borrow.Author.Needs.{needs}
-use Rattle.edit_entries.proofs.Entries.{lab-stored, stored-opened, opened-part, three}
+use Rattle.edit_entries.proofs.Entries.{lab-stored, stored-opened, opened-part, whole}
 use Rattle.edit_entries.proofs.storage.open_lab_gap.Statement.{statement}
 use Rattle.edit_entries.proofs.storage.open_lab_gap.Tie as tie
 
@@ -43,7 +43,7 @@ returns c =
     let l = a .lab .now in
     c .before .before .put-lab .ensures
     ∙ lab-stored _ _ _ (omega arith)
-    ∙ stored-opened l _ _ _ (3 * a .i) (3 * a .k) (omega arith) (three l (3 * a .i) (omega arith) (omega arith)) (opened-part l (3 * a .i) (omega arith) (3 * a .k) _ (omega arith) (c .before .before .before .before .before .before .numbers-up .ensures))
+    ∙ stored-opened 3 l _ _ _ (3 * a .i) (3 * a .k) (omega arith) (whole l (3 * a .i) (omega arith) 3 (omega arith)) (opened-part l (3 * a .i) (omega arith) 3 (3 * a .k) _ (omega arith) (c .before .before .before .before .before .before .numbers-up .ensures))
 
 pub open-lab-gap-spec : {M : Type 1} → statement M
 open-lab-gap-spec =

@@ -3,7 +3,7 @@ use mathlib.Core.Path.{_∙_}
 use Prim.Native.Nat.{_*_}
 use native.Mathlib.Omega.{arith}
 use borrow.Author.Needs.{needs}
-use Rattle.edit_entries.proofs.Entries.{stored-opened, opened-part, three}
+use Rattle.edit_entries.proofs.Entries.{stored-opened, opened-part, whole}
 use Rattle.edit_entries.proofs.storage.open_palette_gap.Statement.{statement}
 use Rattle.edit_entries.proofs.storage.open_palette_gap.Tie as tie
 
@@ -39,7 +39,7 @@ returns c =
     let a = c .before .before .before .before .before .before .before .before .before .args in
     let l = a .palette .now in
     c .before .before .store-rgb .ensures
-    ∙ stored-opened l _ _ _ (3 * a .i) (3 * a .k) (omega arith) (three l (3 * a .i) (omega arith) (omega arith)) (opened-part l (3 * a .i) (omega arith) (3 * a .k) _ (omega arith) (c .before .before .before .before .before .before .bytes-up .ensures))
+    ∙ stored-opened 3 l _ _ _ (3 * a .i) (3 * a .k) (omega arith) (whole l (3 * a .i) (omega arith) 3 (omega arith)) (opened-part l (3 * a .i) (omega arith) 3 (3 * a .k) _ (omega arith) (c .before .before .before .before .before .before .bytes-up .ensures))
 
 pub open-palette-gap-spec : {M : Type 1} → statement M
 open-palette-gap-spec =

@@ -7,7 +7,8 @@ use Rattle.base.specs.Checks.{firstOf}
 use Rattle.history_ledger.specs.Handle.{sound, steppedForth}
 use Rattle.history_ledger.proofs.Soundness.{Sound}
 use Rattle.history_model.specs.Calls.{handleChecks}
-use Rattle.history_queries.proofs.NextFound.{handle-sound, unread-at, SeenForth, seen-forth}
+use Rattle.history_queries.proofs.NextFound.{handle-sound, SeenForth, seen-forth}
+use Rattle.journal_read.proofs.Searched.{unread-at}
 use Rattle.history_queries.proofs.NextShown.{redo-refused, redo-nothing, redo-unread, redo-unsound, redo-shown}
 use borrow.Author.Needs.{needs}
 use Rattle.history_queries.proofs.shown.next_redo.Statement.{statement}

@@ -7,7 +7,8 @@ use Rattle.base.specs.Checks.{firstOf}
 use Rattle.history_ledger.specs.Handle.{sound, steppedBack}
 use Rattle.history_ledger.proofs.Soundness.{Sound}
 use Rattle.history_model.specs.Calls.{handleChecks}
-use Rattle.history_queries.proofs.NextFound.{handle-sound, unread-before, SeenBack, seen-back}
+use Rattle.history_queries.proofs.NextFound.{handle-sound, SeenBack, seen-back}
+use Rattle.journal_read.proofs.Searched.{unread-before}
 use Rattle.history_queries.proofs.NextShown.{undo-refused, undo-nothing, undo-unread, undo-unsound, undo-shown}
 use borrow.Author.Needs.{needs}
 use Rattle.history_queries.proofs.shown.next_undo.Statement.{statement}

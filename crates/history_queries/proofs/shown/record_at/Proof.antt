@@ -3,13 +3,13 @@ use mathlib.Core.Path.{ap}
 use Prim.Native.Nat.{_+_, _-_, _*_}
 use Rattle.base.specs.declared.Edit.{Edit}
 use Rattle.history_queries.specs.Looks.{shows}
-use Rattle.history_queries.proofs.NextFound.{lies-bare}
+use Rattle.journal_read.proofs.Rooms.{lies-bare}
 use borrow.Author.Needs.{needs}
 use Rattle.history_queries.proofs.shown.record_at.Statement.{statement}
 use Rattle.history_queries.proofs.shown.record_at.Tie as tie
 
 edit-at-requires : tie.Need-edit-at-requires
-edit-at-requires c κs = lies-bare (c .before .pre .0)
+edit-at-requires c κs = lies-bare _ _ (c .before .pre .0)
 
 add-list : tie.Need-add-list
 add-list c = search needs

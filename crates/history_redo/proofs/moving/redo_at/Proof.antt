@@ -2,14 +2,15 @@
 use mathlib.Core.Path.{sym, _∙_}
 use borrow.Author.Tests.{not-true, not-false}
 use Rattle.journal_redo.proofs.RedoneAt.{may-redo}
+use Rattle.history_model.proofs.Over.{step-lies, step-unsound, step-not, step-done}
 use Rattle.history_model.proofs.Answers.{leaves-refused}
-use Rattle.history_redo.proofs.Forth.{forth-inside, forth-lies, forth-unsound, forth-not, forth-done}
+use Rattle.history_redo.proofs.Forth.{forth-inside, forth}
 use borrow.Author.Needs.{needs}
 use Rattle.history_redo.proofs.moving.redo_at.Statement.{statement}
 use Rattle.history_redo.proofs.moving.redo_at.Tie as tie
 
 stepped-forth-requires : tie.Need-stepped-forth-requires
-stepped-forth-requires c κs = (forth-inside _ _ _ _ _ (c .before .before .before .before .pre .0) (c .before .before .before .before .pre .1 .1), c .before .before .before .before .pre .1 .0 .0)
+stepped-forth-requires c κs = (forth-inside (c .before .before .before .before .pre .0) _ _ _ _ (c .before .before .before .before .pre .1 .1), c .before .before .before .before .pre .1 .0 .0)
 
 sound-requires : tie.Need-sound-requires
 sound-requires c κs = search needs
@@ -18,10 +19,15 @@ refused-requires : tie.Need-refused-requires
 refused-requires c κs = search needs
 
 returns : tie.Need-returns
-returns c = leaves-refused _ _ _ _ _ _ _ _ _ _ (c .refused .ensures) ∙ forth-unsound _ _ _ _ _ (c .before .before .before .before .before .before .before .before .pre .0) (c .before .before .before .before .before .before .before .before .pre .1 .1) _ (c .before .before .before .stepped-forth .ensures) (sym (c .before .before .sound .ensures) ∙ not-true _ (c .before .if1 .taken))
+returns c =
+    leaves-refused _ _ _ _ _ _ _ _ _ _ (c .refused .ensures)
+    ∙ step-unsound (forth (c .before .before .before .before .before .before .before .before .pre .0)) (c .before .before .before .before .before .before .before .before .pre .1 .1) _ (c .before .before .before .stepped-forth .ensures) (sym (c .before .before .sound .ensures) ∙ not-true _ (c .before .if1 .taken))
 
 can-redo-requires : tie.Need-can-redo-requires
-can-redo-requires c κs = (forth-lies _ _ _ _ _ (c .before .before .before .before .before .before .before .before .before .pre .0) (c .before .before .before .before .before .before .before .before .before .pre .1 .1), (c .before .before .before .before .before .before .before .before .before .pre .0 .fits .limits .indices-length, rw (c .before .before .before .before .before .before .before .before .before .pre .0 .fits .limits .indices-length) at (c .before .before .before .before .before .before .before .before .before .pre .1 .0 .1)))
+can-redo-requires c κs =
+    let p = c .before .before .before .before .before .before .before .before .before .before .pre in
+    let l = p .0 .fits .limits in
+    (step-lies (forth (p .0)) (p .1 .1), ((l .k-small, l .palette-length), (l .indices-length, rw (l .indices-length) at (p .1 .0 .1))))
 
 refused-requires-2 : tie.Need-refused-requires-2
 refused-requires-2 c κs = search needs
@@ -32,14 +38,19 @@ same-length c = search needs
 same-length-2 : tie.Need-same-length-2
 same-length-2 c = search needs
 
-returns-2 : tie.Need-returns-2
-returns-2 c = leaves-refused _ _ _ _ _ _ _ _ _ _ (c .refused2 .ensures) ∙ forth-not _ _ _ _ _ (c .before .before .before .before .before .before .before .before .before .before .before .before .before .before .pre .0) (c .before .before .before .before .before .before .before .before .before .before .before .before .before .before .pre .1 .1) (sym (c .before .before .before .before .can-redo .ensures _ _) ∙ not-true _ (c .before .if2 .taken))
-
-redo-record-requires : tie.Need-redo-record-requires
-redo-record-requires c κs = (forth-lies _ _ _ _ _ (c .before .before .before .before .before .before .before .before .before .before .before .before .before .before .before .before .pre .0) (c .before .before .before .before .before .before .before .before .before .before .before .before .before .before .before .before .pre .1 .1), may-redo _ (c .before .before .before .before .before .before .before .before .before .before .before .before .before .before .before .before .args .h) _ _ _ _ _ _ (c .before .before .before .before .before .before .before .before .before .before .before .before .before .before .before .before .pre .0 .fits) (sym (c .before .before .before .before .before .before .can-redo .ensures _ _) ∙ not-false _ (c .before .before .before .if2 .left)))
-
 same-length-3 : tie.Need-same-length-3
 same-length-3 c = search needs
+
+returns-2 : tie.Need-returns-2
+returns-2 c =
+    leaves-refused _ _ _ _ _ _ _ _ _ _ (c .refused2 .ensures)
+    ∙ step-not (forth (c .before .before .before .before .before .before .before .before .before .before .before .before .before .before .before .pre .0)) (c .before .before .before .before .before .before .before .before .before .before .before .before .before .before .before .pre .1 .1) (sym (c .before .before .before .before .can-redo .ensures _) ∙ not-true _ (c .before .if2 .taken))
+
+redo-record-requires : tie.Need-redo-record-requires
+redo-record-requires c κs = (
+  step-lies (forth (c .before .before .before .before .before .before .before .before .before .before .before .before .before .before .before .before .before .pre .0)) (c .before .before .before .before .before .before .before .before .before .before .before .before .before .before .before .before .before .pre .1 .1),
+  may-redo _ (c .before .before .before .before .before .before .before .before .before .before .before .before .before .before .before .before .before .args .h) _ _ _ _ _ _ (c .before .before .before .before .before .before .before .before .before .before .before .before .before .before .before .before .before .pre .0 .fits) (sym (c .before .before .before .before .before .before .can-redo .ensures _) ∙ not-false _ (c .before .before .before .if2 .left)),
+)
 
 same-length-4 : tie.Need-same-length-4
 same-length-4 c = search needs
@@ -50,8 +61,13 @@ same-length-5 c = search needs
 same-length-6 : tie.Need-same-length-6
 same-length-6 c = search needs
 
+same-length-7 : tie.Need-same-length-7
+same-length-7 c = search needs
+
 returns-3 : tie.Need-returns-3
-returns-3 c = forth-done _ _ _ _ _ (c .before .before .before .before .before .before .before .before .before .before .before .before .before .before .before .before .before .before .before .before .before .before .pre .0) (c .before .before .before .before .before .before .before .before .before .before .before .before .before .before .before .before .before .before .before .before .before .before .pre .1 .1) _ (c .before .before .before .before .before .before .before .before .before .before .before .before .before .before .before .before .before .stepped-forth .ensures) (sym (c .before .before .before .before .before .before .before .before .before .before .before .before .before .before .before .before .sound .ensures) ∙ not-false _ (c .before .before .before .before .before .before .before .before .before .before .before .before .before .before .before .if1 .left)) (sym (c .before .before .before .before .before .before .before .before .before .before .before .before .can-redo .ensures _ _) ∙ not-false _ (c .before .before .before .before .before .before .before .before .before .if2 .left)) (c .before .before .before .before .before .redo-record .ensures _)
+returns-3 c =
+    step-done (forth (c .before .before .before .before .before .before .before .before .before .before .before .before .before .before .before .before .before .before .before .before .before .before .before .pre .0)) (c .before .before .before .before .before .before .before .before .before .before .before .before .before .before .before .before .before .before .before .before .before .before .before .pre .1 .1) _ (c .before .before .before .before .before .before .before .before .before .before .before .before .before .before .before .before .before .before .stepped-forth .ensures) (sym (c .before .before .before .before .before .before .before .before .before .before .before .before .before .before .before .before .before .sound .ensures) ∙ not-false _ (c .before .before .before .before .before .before .before .before .before .before .before .before .before .before .before .before .if1 .left))
+    (sym (c .before .before .before .before .before .before .before .before .before .before .before .before .can-redo .ensures _) ∙ not-false _ (c .before .before .before .before .before .before .before .before .before .if2 .left)) (c .before .before .before .before .before .redo-record .ensures _)
 
 pub redo-at-spec : {M : Type 1} → statement M
 redo-at-spec =
@@ -65,10 +81,11 @@ redo-at-spec =
     refused-requires-2
     same-length
     same-length-2
+    same-length-3
     returns-2
     redo-record-requires
-    same-length-3
     same-length-4
     same-length-5
     same-length-6
+    same-length-7
     returns-3)

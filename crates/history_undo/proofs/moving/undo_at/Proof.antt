@@ -1,14 +1,15 @@
 -- `undo_at`: the handle after the step, then the record; then it is undone. Assumes nothing.
 use mathlib.Core.Path.{sym, _∙_}
 use borrow.Author.Tests.{not-true, not-false}
+use Rattle.history_model.proofs.Over.{step-lies, step-unsound}
 use Rattle.history_model.proofs.Answers.{leaves-refused}
-use Rattle.history_undo.proofs.Back.{back-inside, back-lies, back-unsound, kept-fits, kept-undoable, back-not, back-done}
+use Rattle.history_undo.proofs.Back.{back-inside, back, kept-fits, kept-undoable, back-not, back-done}
 use borrow.Author.Needs.{needs}
 use Rattle.history_undo.proofs.moving.undo_at.Statement.{statement}
 use Rattle.history_undo.proofs.moving.undo_at.Tie as tie
 
 stepped-back-requires : tie.Need-stepped-back-requires
-stepped-back-requires c κs = (back-inside _ _ _ _ _ (c .before .before .before .pre .0) (c .before .before .before .pre .1 .1), c .before .before .before .pre .1 .0)
+stepped-back-requires c κs = (back-inside (c .before .before .before .pre .0) _ _ _ _ (c .before .before .before .pre .1 .1), c .before .before .before .pre .1 .0)
 
 sound-requires : tie.Need-sound-requires
 sound-requires c κs = search needs
@@ -17,10 +18,10 @@ refused-requires : tie.Need-refused-requires
 refused-requires c κs = search needs
 
 returns : tie.Need-returns
-returns c = leaves-refused _ _ _ _ _ _ _ _ _ _ (c .refused .ensures) ∙ back-unsound _ _ _ _ _ (c .before .before .before .before .before .before .before .pre .0) (c .before .before .before .before .before .before .before .pre .1 .1) _ (c .before .before .before .stepped-back .ensures) (sym (c .before .before .sound .ensures) ∙ not-true _ (c .before .if1 .taken))
+returns c = leaves-refused _ _ _ _ _ _ _ _ _ _ (c .refused .ensures) ∙ step-unsound (back (c .before .before .before .before .before .before .before .pre .0)) (c .before .before .before .before .before .before .before .pre .1 .1) _ (c .before .before .before .stepped-back .ensures) (sym (c .before .before .sound .ensures) ∙ not-true _ (c .before .if1 .taken))
 
 can-undo-requires : tie.Need-can-undo-requires
-can-undo-requires c κs = (back-lies _ _ _ _ _ (c .before .before .before .before .before .before .before .before .before .pre .0) (c .before .before .before .before .before .before .before .before .before .pre .1 .1), c .before .before .before .before .before .before .before .before .before .pre .0 .fits)
+can-undo-requires c κs = (step-lies (back (c .before .before .before .before .before .before .before .before .before .pre .0)) (c .before .before .before .before .before .before .before .before .before .pre .1 .1), c .before .before .before .before .before .before .before .before .before .pre .0 .fits)
 
 refused-requires-2 : tie.Need-refused-requires-2
 refused-requires-2 c κs = search needs
@@ -35,10 +36,10 @@ same-length-3 : tie.Need-same-length-3
 same-length-3 c = search needs
 
 returns-2 : tie.Need-returns-2
-returns-2 c = leaves-refused _ _ _ _ _ _ _ _ _ _ (c .refused2 .ensures) ∙ back-not _ _ _ _ _ (c .before .before .before .before .before .before .before .before .before .before .before .before .before .pre .0) (c .before .before .before .before .before .before .before .before .before .before .before .before .before .pre .1 .1) _ (c .before .before .before .can-undo .ensures .0) (sym (c .before .before .before .can-undo .ensures .1) ∙ not-true _ (c .before .if2 .taken))
+returns-2 c = leaves-refused _ _ _ _ _ _ _ _ _ _ (c .refused2 .ensures) ∙ back-not (c .before .before .before .before .before .before .before .before .before .before .before .before .before .pre .0) _ (c .before .before .before .can-undo .ensures .0) _ _ _ _ (c .before .before .before .before .before .before .before .before .before .before .before .before .before .pre .1 .1) (sym (c .before .before .before .can-undo .ensures .1) ∙ not-true _ (c .before .if2 .taken))
 
 undo-record-requires : tie.Need-undo-record-requires
-undo-record-requires c κs = (back-lies _ _ _ _ _ (c .before .before .before .before .before .before .before .before .before .before .before .before .before .before .before .pre .0) (c .before .before .before .before .before .before .before .before .before .before .before .before .before .before .before .pre .1 .1), (kept-fits _ _ _ _ _ (c .before .before .before .before .before .before .before .before .before .before .before .before .before .before .before .pre .0) (c .before .before .before .before .before .before .before .before .before .before .before .before .before .before .before .pre .1 .1) _ (c .before .before .before .before .before .can-undo .ensures .0), kept-undoable _ _ _ _ _ (c .before .before .before .before .before .before .before .before .before .before .before .before .before .before .before .pre .0) (c .before .before .before .before .before .before .before .before .before .before .before .before .before .before .before .pre .1 .1) _ (c .before .before .before .before .before .can-undo .ensures .0) (sym (c .before .before .before .before .before .can-undo .ensures .1) ∙ not-false _ (c .before .before .before .if2 .left))))
+undo-record-requires c κs = (step-lies (back (c .before .before .before .before .before .before .before .before .before .before .before .before .before .before .before .pre .0)) (c .before .before .before .before .before .before .before .before .before .before .before .before .before .before .before .pre .1 .1), (kept-fits (c .before .before .before .before .before .before .before .before .before .before .before .before .before .before .before .pre .0) _ (c .before .before .before .before .before .can-undo .ensures .0), kept-undoable (c .before .before .before .before .before .before .before .before .before .before .before .before .before .before .before .pre .0) _ (c .before .before .before .before .before .can-undo .ensures .0) _ _ _ (sym (c .before .before .before .before .before .can-undo .ensures .1) ∙ not-false _ (c .before .before .before .if2 .left))))
 
 same-length-4 : tie.Need-same-length-4
 same-length-4 c = search needs
@@ -50,7 +51,7 @@ same-length-6 : tie.Need-same-length-6
 same-length-6 c = search needs
 
 returns-3 : tie.Need-returns-3
-returns-3 c = back-done _ _ _ _ _ (c .before .before .before .before .before .before .before .before .before .before .before .before .before .before .before .before .before .before .before .before .before .pre .0) (c .before .before .before .before .before .before .before .before .before .before .before .before .before .before .before .before .before .before .before .before .before .pre .1 .1) _ (c .before .before .before .before .before .before .before .before .before .before .before .can-undo .ensures .0) _ (c .before .before .before .before .before .before .before .before .before .before .before .before .before .before .before .before .before .stepped-back .ensures) (sym (c .before .before .before .before .before .before .before .before .before .before .before .before .before .before .before .before .sound .ensures) ∙ not-false _ (c .before .before .before .before .before .before .before .before .before .before .before .before .before .before .before .if1 .left)) (sym (c .before .before .before .before .before .before .before .before .before .before .before .can-undo .ensures .1) ∙ not-false _ (c .before .before .before .before .before .before .before .before .before .if2 .left)) (c .before .before .before .before .before .undo-record .ensures)
+returns-3 c = back-done (c .before .before .before .before .before .before .before .before .before .before .before .before .before .before .before .before .before .before .before .before .before .pre .0) _ (c .before .before .before .before .before .before .before .before .before .before .before .can-undo .ensures .0) _ _ _ _ (c .before .before .before .before .before .before .before .before .before .before .before .before .before .before .before .before .before .before .before .before .before .pre .1 .1) _ (c .before .before .before .before .before .before .before .before .before .before .before .before .before .before .before .before .before .stepped-back .ensures) (sym (c .before .before .before .before .before .before .before .before .before .before .before .before .before .before .before .before .sound .ensures) ∙ not-false _ (c .before .before .before .before .before .before .before .before .before .before .before .before .before .before .before .if1 .left)) (sym (c .before .before .before .before .before .before .before .before .before .before .before .can-undo .ensures .1) ∙ not-false _ (c .before .before .before .before .before .before .before .before .before .if2 .left)) (c .before .before .before .before .before .undo-record .ensures)
 
 pub undo-at-spec : {M : Type 1} → statement M
 undo-at-spec =

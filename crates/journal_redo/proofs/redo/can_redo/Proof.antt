@@ -1,73 +1,98 @@
--- `can_redo`: by kinds. Assumes nothing.
+-- `can_redo`: 21, then the checks before the list, of the list, and after it. Assumes nothing.
 use mathlib.Core.Path.{_≡_}
+use Prim.Native.Nat.{ℕ, _+_, _*_, _≤_}
 use native.Mathlib.Omega.{arith}
-use Rattle.journal_record.specs.Record.{byKind}
-use Rattle.journal_read.specs.Lies.{editAt, changesAt}
-use Rattle.journal_read.proofs.Rooms.{pixels-room, set-room, remove-room, last-kind}
-use Rattle.journal_redo.proofs.RedoneAt.{set-taken, remove-taken}
+use lib.ListN.{length}
+use Rattle.edit_checks.specs.Marks.{Checkable}
+use Rattle.journal_read.proofs.Rooms.{lies-bare, list-markable, read-list, read-room}
+use Rattle.journal_redo.proofs.Redos.{too-many, head-refused, list-refused, left-decides}
 use borrow.Author.Needs.{needs}
 use Rattle.journal_redo.proofs.redo.can_redo.Statement.{statement}
 use Rattle.journal_redo.proofs.redo.can_redo.Tie as tie
 
-add-can-redo-pixels : tie.Need-add-can-redo-pixels
-add-can-redo-pixels c = search needs
-
-can-redo-pixels-requires : tie.Need-can-redo-pixels-requires
-can-redo-pixels-requires c κs = let pre = c .before .before .before .pre in (pre .1 .0, omega (arith, pixels-room (pre .0) (c .if1 .taken)))
-
 returns : tie.Need-returns
-unfolding editAt changesAt byKind
-returns c palette lab = rw (c .before .if1 .taken) (c .can-redo-pixels .ensures palette lab _)
+returns c lab = too-many (c .before .before .before .before .pre .0) _ (c .if1 .taken)
 
-entry-at-requires : tie.Need-entry-at-requires
-entry-at-requires c κs = omega (arith, set-room (c .before .before .before .before .pre .0) (c .if2 .taken))
+edit-at-requires : tie.Need-edit-at-requires
+edit-at-requires c κs = lies-bare _ _ (c .before .before .before .before .pre .0)
 
-can-redo-set-requires : tie.Need-can-redo-set-requires
-can-redo-set-requires c κs = search needs
+slice-aggregate-head-no : tie.Need-slice-aggregate-head-no
+slice-aggregate-head-no c = search needs
+
+head-no-requires : tie.Need-head-no-requires
+head-no-requires c κs = search needs
 
 returns-2 : tie.Need-returns-2
-returns-2 c palette lab = set-taken _ _ _ _ _ _ (c .before .entry-at .ensures .0) (c .before .before .if2 .taken) (c .can-redo-set .ensures _ _ palette lab _)
+returns-2 c lab = head-refused (c .before .before .before .before .before .before .before .before .pre .0) _ (c .before .before .before .before .if1 .left) (c .before .before .before .edit-at .ensures) (c .before .head-no .ensures _ _ lab _) (c .if2 .taken)
 
-can-redo-add-requires : tie.Need-can-redo-add-requires
-can-redo-add-requires c κs = search needs
+list-of-requires : tie.Need-list-of-requires
+list-of-requires c κs = search needs
 
-returns-3 : tie.Need-returns-3
-unfolding editAt changesAt byKind
-returns-3 c palette lab = rw (c .before .if3 .taken) (c .can-redo-add .ensures _ _ palette lab _ _)
+list-offset-requires : tie.Need-list-offset-requires
+list-offset-requires c κs = search needs
 
--- the kind that is left
-fourth : (c : tie.Else3) → c .before .before .before .before .before .args .kind ≡ 4
-fourth c = last-kind (c .before .before .before .before .before .pre .0) (c .before .before .if1 .left) (c .before .if2 .left) (c .if3 .left)
+-- the list stands in the journal, and a removal's marks in a scratch that has a byte a pixel
+room : (c : tie.After-list-offset) → let a = c .before .before .before .before .before .before .before .before .before .before .args in a .start + c .list-offset .result + 8 * a .count ≤ length (a .journal .now)
+room c = read-room (c .before .before .before .before .before .before .before .before .before .before .pre .0) (c .before .before .before .before .before .edit-at .ensures) (c .before .list-of .ensures) (c .list-offset .ensures)
 
-entry-at-requires-2 : tie.Need-entry-at-requires-2
-entry-at-requires-2 c κs = omega (arith, remove-room (c .before .before .before .before .before .pre .0) (fourth c))
+checkable : (c : tie.After-list-offset) (m : ℕ) → let a = c .before .before .before .before .before .before .before .before .before .before .args in a .w * a .h ≤ m → Checkable (c .before .list-of .result) (a .w) (a .h) (length (a .indices .now)) m
+checkable c m h =
+    let s = c .before .before .before .before .before .before .before .before .before .before in
+    let byte = c .before .before .before .before .before .before .before .before .shared-slice-known2 .given (s .args .start + 1) in
+    record {
+      pixels = s .pre .1 .1 .0;
+      markable = rw (read-list (s .pre .0) (c .before .before .before .before .before .edit-at .ensures) (c .before .list-of .ensures) (c .list-offset .ensures)) (list-markable _ _ _ _ (s .pre .0) (omega arith) _ m h);
+    }
 
-add-can-redo-remove : tie.Need-add-can-redo-remove
-add-can-redo-remove c = search needs
+add-at : tie.Need-add-at
+add-at c = omega (arith, room c)
 
-can-redo-remove-requires : tie.Need-can-redo-remove-requires
-can-redo-remove-requires c κs = let pre = c .before .before .before .before .before .before .before .pre in (c .before .entry-at2 .ensures .1, pre .1 .0, pre .1 .1, omega (arith, remove-room (pre .0) (fourth (c .before .before))))
+clear-marks-requires : tie.Need-clear-marks-requires
+clear-marks-requires c κs = search needs
+
+check-list-in-requires : tie.Need-check-list-in-requires
+check-list-in-requires c κs = (checkable (c .before .before .before .before .before) _ (omega arith), room (c .before .before .before .before .before))
 
 same-length : tie.Need-same-length
 same-length c = search needs
 
+returns-3 : tie.Need-returns-3
+returns-3 c lab =
+    list-refused (c .before .before .before .before .before .before .before .before .before .before .before .before .before .before .before .before .before .before .before .pre .0) _ (c .before .before .before .before .before .before .before .before .before .before .before .before .before .before .before .if1 .left) (c .before .before .before .before .before .before .before .before .before .before .before .before .before .before .edit-at .ensures) (c .before .before .before .before .before .before .before .before .before .before .before .before .head-no .ensures _ _ lab _) (c .before .before .before .before .before .before .before .before .before .before .before .if2 .left) (c .before .before .before .before .before .before .before .before .before .before .list-of .ensures)
+    (c .before .before .before .before .before .before .before .before .before .list-offset .ensures) (c .before .before .before .check-list-in .ensures .0) (c .if3 .taken)
+
+left-no-requires : tie.Need-left-no-requires
+left-no-requires c κs =
+    let listed : length (c .before .before .before .before .check-list-in .last .1 .1 .1 .1 .1 .1 .1 .1 .0) ≡ length (c .before .before .before .before .before .before .before .before .clear-marks .last .1 .1 .0) = c .before .before .before .before .check-list-in .kept .1 .1 .1 .1 .1 .1 .1 .1 .0 in
+    let cleared : length (c .before .before .before .before .before .before .before .before .clear-marks .last .1 .1 .0) ≡ length (c .before .before .before .before .before .before .before .before .before .before .before .before .before .before .before .before .before .before .before .before .args .marks .now) = c .before .before .before .before .before .before .before .before .clear-marks .kept .1 .1 .0 in
+    checkable (c .before .before .before .before .before .before .before .before .before .before) _ (omega (arith, c .before .before .before .before .before .before .before .before .before .before .before .before .before .before .before .before .before .before .before .before .pre .1 .1 .1))
+
+same-length-2 : tie.Need-same-length-2
+same-length-2 c = search needs
+
 returns-4 : tie.Need-returns-4
-returns-4 c palette lab = remove-taken _ _ _ _ _ _ (c .before .before .before .before .entry-at2 .ensures .0) (fourth (c .before .before .before .before .before)) (c .before .before .can-redo-remove .ensures palette lab)
+returns-4 c lab =
+    let checked = c .before .before .before .before .before .check-list-in .ensures in
+    let passed = c .before .before .if3 .left in
+    left-decides (c .before .before .before .before .before .before .before .before .before .before .before .before .before .before .before .before .before .before .before .before .before .pre .0) _ (c .before .before .before .before .before .before .before .before .before .before .before .before .before .before .before .before .before .if1 .left) (c .before .before .before .before .before .before .before .before .before .before .before .before .before .before .before .before .edit-at .ensures) (c .before .before .before .before .before .before .before .before .before .before .before .before .before .before .head-no .ensures _ _ lab _) (c .before .before .before .before .before .before .before .before .before .before .before .before .before .if2 .left) (c .before .before .before .before .before .before .before .before .before .before .before .before .list-of .ensures)
+    (c .before .before .before .before .before .before .before .before .before .before .before .list-offset .ensures) (checked .0) passed (c .left-no .ensures _ (checked .1 passed (rw (c .before .before .before .before .before .before .before .before .before .before .before .before .before .before .before .before .before .before .before .before .before .pre .1 .1 .0) at (c .before .before .before .before .before .before .before .before .before .clear-marks .ensures))))
 
 pub can-redo-spec : {M : Type 1} → statement M
 can-redo-spec =
     tie.close
     (tie.spec
-    add-can-redo-pixels
-    can-redo-pixels-requires
     returns
-    entry-at-requires
-    can-redo-set-requires
+    edit-at-requires
+    slice-aggregate-head-no
+    head-no-requires
     returns-2
-    can-redo-add-requires
-    returns-3
-    entry-at-requires-2
-    add-can-redo-remove
-    can-redo-remove-requires
+    list-of-requires
+    list-offset-requires
+    add-at
+    clear-marks-requires
+    check-list-in-requires
     same-length
+    returns-3
+    left-no-requires
+    same-length-2
     returns-4)

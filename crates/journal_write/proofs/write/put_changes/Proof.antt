@@ -45,7 +45,7 @@ loop-again c =
     let start = turn .before .before .before .before in
     let list = start .args .list .now in
     let put = c .before .before .put-u64 .ensures in
-    putting-next _ _ _ (unpacked 0) _ _ _ _ _ (length-map list unpacked) (start .pre) (turn .before .loop .inv) (turn .loop-test .taken) (unpacked-at list _) put
+    putting-next _ _ _ (unpacked 0) _ _ _ _ _ (length-map list unpacked) (λ _. start .pre) (turn .before .loop .inv) (turn .loop-test .taken) (unpacked-at list _) put
 
 same-length : tie.Need-same-length Inv-loop μ-loop
 same-length c = c .before .loop .inv .same-length

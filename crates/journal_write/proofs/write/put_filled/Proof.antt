@@ -1,6 +1,7 @@
 -- `write::put_filled` meets its contract: each turn fills in and writes one change more. Assumes nothing.
 use borrow.Author.Needs.{needs}
 use Prim.Native.Nat.{_-_}
+use native.Mathlib.Omega.{arith}
 use mathlib.Core.List.{map}
 use lib.ListN.{length, length-map}
 use Rattle.edit.specs.Change.{unpacked}
@@ -25,7 +26,7 @@ mul-put-u64 : tie.Need-mul-put-u64 Inv-loop μ-loop
 mul-put-u64 c = search needs
 
 add-put-u64 : tie.Need-add-put-u64 Inv-loop μ-loop
-add-put-u64 c = search needs
+add-put-u64 c = let room = c .before .before .before .before .before .pre .0 (omega (arith, c .before .loop-test .taken)) in search needs
 
 mul-filled-in : tie.Need-mul-filled-in Inv-loop μ-loop
 mul-filled-in c = search needs
@@ -39,7 +40,7 @@ filled-in-requires c κs =
     inside-at _ _ (start .args .list .now) _ (start .pre .1) (c .before .before .loop-test .taken)
 
 put-u64-requires : tie.Need-put-u64-requires Inv-loop μ-loop
-put-u64-requires c κs = search needs
+put-u64-requires c κs = let room = c .before .before .before .before .before .before .before .pre .0 (omega (arith, c .before .before .before .loop-test .taken)) in search needs
 
 add-i : tie.Need-add-i Inv-loop μ-loop
 add-i c = search needs

@@ -61,14 +61,14 @@ use Rattle.base.specs.declared.Answer.{Answer}
 use Rattle.base.proofs.Answer as Answer-T
 use Rattle.base.proofs.Answer.Laws as Answer-T′
 use Rattle.sheet.specs.Sheet.{sheetOf}
-use Rattle.edit.specs.Apply.{noPixels}
+use Rattle.edit.specs.List.{listOf, emptyPixels}
 use Rattle.struct_edit.specs.Walk.{packedAll, flatAll}
 use Rattle.history_ledger.specs.Journal.{pushOf, pushed}
 use Rattle.history_model.specs.Editing.{givenOf, editing}
 use Rattle.history_model.specs.Calls.{stateOf, leaves, Standing, Acceptable}
+use Rattle.history_push_checks.specs.Steps.{isStill, PushNumbered, pushedOr}
+use Rattle.history_push.proofs.Pushed.{push-is}
 use Rattle.struct_push.specs.Lent.{leavesLent}
-use Rattle.struct_steps.specs.Phases.{PushNumbered, pushedOr}
-use Rattle.struct_push.proofs.Pushed.{push-is}
 use Rattle.struct_push_checks.proofs.push_no as Numbering-f
 use Rattle.struct_push_checks.proofs.push_no.Symbol as Numbering-def
 use Rattle.struct_push_checks.proofs.push_no.Symbol.{name as #struct_push_checks·push-no}
@@ -128,10 +128,10 @@ module _ {M : Type 1} (𝓤 : URA M) (H : Heap 𝓤) (A : Atoms 𝓤) (W : Given
   to₂ number count palette-now lab-now indices-now journal-now held = (((κ₁, (κ₂, (κ₃, (κ₅, (κ₆, tt))))), (q₁, (q₂, (q₃, (q₅, (q₆, tt))))), tt, passed₂ number count palette-now lab-now indices-now journal-now held, (vint w8 number ∷ [], (vint w64 w ∷ [], (vint w64 h ∷ [], (vint w64 count ∷ [], (sliceVal (palette-b, palette-o) (length palette) ∷ [], (sliceVal (lab-b, lab-o) (length lab) ∷ [], (sliceVal (indices-b, indices-o) (length indices) ∷ [], (EL.val Edit-T.the-type Edit-T′.the-laws edit ∷ [], (sliceVal (list-b, list-o) (length list) ∷ [], (sliceVal (journal-b, journal-o) (length journal) ∷ [], (LL.val Handle-T.the-type Handle-T′.the-laws held ∷ [], tt)))))))))))), tt)
 
   abbrev Said₂ : (number : ℕ) (count : ℕ) (palette-now : List ℕ) (lab-now : List (f64 .Denot)) (indices-now : List ℤ) (journal-now : List ℕ) (held : Handle) (r : Moved) (palette′ : List ℕ) (lab′ : List (f64 .Denot)) (indices′ : List ℤ) (journal′ : List ℕ) → Type 0
-  Said₂ number count palette-now lab-now indices-now journal-now held r palette′ lab′ indices′ journal′ = (limited : Bool) (permitted : List ℕ) → leaves r w h palette′ lab′ indices′ journal′ ≡ pushedOr number (noPixels edit (flatAll list)) (stateOf (sheetOf w h count palette-now lab-now indices-now) journal-now held) (pushed editing (stateOf (sheetOf w h count palette-now lab-now indices-now) journal-now held) (givenOf limited permitted edit (packedAll list)))
+  Said₂ number count palette-now lab-now indices-now journal-now held r palette′ lab′ indices′ journal′ = (limited : Bool) (permitted : List ℕ) → leaves r w h palette′ lab′ indices′ journal′ ≡ pushedOr number (isStill (givenOf limited permitted edit (packedAll list))) (stateOf (sheetOf w h count palette-now lab-now indices-now) journal-now held) (pushed editing (stateOf (sheetOf w h count palette-now lab-now indices-now) journal-now held) (givenOf limited permitted edit (packedAll list)))
 
   abbrev Asked₂ : (number : ℕ) (count : ℕ) (palette-now : List ℕ) (lab-now : List (f64 .Denot)) (indices-now : List ℤ) (journal-now : List ℕ) (held : Handle) → Type 0
-  Asked₂ number count palette-now lab-now indices-now journal-now held = (number ≡ 0 → Standing (stateOf (sheetOf w h count palette-now lab-now indices-now) journal-now held)) × (number ≡ 0 → noPixels edit (flatAll list) ≡ false → Acceptable (stateOf (sheetOf w h count palette-now lab-now indices-now) journal-now held) edit (flatAll list))
+  Asked₂ number count palette-now lab-now indices-now journal-now held = (number ≡ 0 → Standing (stateOf (sheetOf w h count palette-now lab-now indices-now) journal-now held)) × (number ≡ 0 → emptyPixels (listOf edit) (length (flatAll list)) ≡ false → Acceptable (stateOf (sheetOf w h count palette-now lab-now indices-now) journal-now held) edit (flatAll list))
 
   goes₂ : (number : ℕ) (count : ℕ) (palette-now : List ℕ) (lab-now : List (f64 .Denot)) (indices-now : List ℤ) (journal-now : List ℕ) (held : Handle) (number-fits′ : number < 2 ^ 8) (count-fits′ : count < 2 ^ 64) (held-is′ : Is Handle-T.the-row held (LL.val Handle-T.the-type Handle-T′.the-laws held ∷ [])) → Asked₂ number count palette-now lab-now indices-now journal-now held → ent 𝓤 (⋆ 𝓤 H A (‵ (flft (κ₁) q₁) ∷ ‵ (flft (κ₂) q₂) ∷ ‵ (flft (κ₃) q₃) ∷ ‵ (flft (κ₅) q₅) ∷ ‵ (flft (κ₆) q₆) ∷ ‵ (MutSlice (named 1) (κ₁) u8 .own (record { ptr = (palette-b, palette-o); name = palette-γ; now = palette-now }) (sliceVal (palette-b, palette-o) (length palette) ∷ [])) ∷ ‵ (MutSlice (named 2) (κ₂) f64 .own (record { ptr = (lab-b, lab-o); name = lab-γ; now = lab-now }) (sliceVal (lab-b, lab-o) (length lab) ∷ [])) ∷ ‵ (MutSlice (named 3) (κ₃) i16 .own (record { ptr = (indices-b, indices-o); name = indices-γ; now = indices-now }) (sliceVal (indices-b, indices-o) (length indices) ∷ [])) ∷ ‵ (ShrSlice (named 5) (κ₅) Change-T.the-row .own (record { ptr = (list-b, list-o); name = list-γ; now = list }) (sliceVal (list-b, list-o) (length list) ∷ [])) ∷ ‵ (MutSlice (named 6) (κ₆) u8 .own (record { ptr = (journal-b, journal-o); name = journal-γ; now = journal-now }) (sliceVal (journal-b, journal-o) (length journal) ∷ [])) ∷ [])) (Carrying 𝓤 H A at-mem run .pre (to₂ number count palette-now lab-now indices-now journal-now held))
   goes₂ number count palette-now lab-now indices-now journal-now held number-fits′ count-fits′ held-is′ asked = qed W (‵ (flft (κ₁) q₁) ∷ ‵ (flft (κ₂) q₂) ∷ ‵ (flft (κ₃) q₃) ∷ ‵ (flft (κ₅) q₅) ∷ ‵ (flft (κ₆) q₆) ∷ ‵ (MutSlice (named 1) (κ₁) u8 .own (record { ptr = (palette-b, palette-o); name = palette-γ; now = palette-now }) (sliceVal (palette-b, palette-o) (length palette) ∷ [])) ∷ ‵ (MutSlice (named 2) (κ₂) f64 .own (record { ptr = (lab-b, lab-o); name = lab-γ; now = lab-now }) (sliceVal (lab-b, lab-o) (length lab) ∷ [])) ∷ ‵ (MutSlice (named 3) (κ₃) i16 .own (record { ptr = (indices-b, indices-o); name = indices-γ; now = indices-now }) (sliceVal (indices-b, indices-o) (length indices) ∷ [])) ∷ ‵ (ShrSlice (named 5) (κ₅) Change-T.the-row .own (record { ptr = (list-b, list-o); name = list-γ; now = list }) (sliceVal (list-b, list-o) (length list) ∷ [])) ∷ ‵ (MutSlice (named 6) (κ₆) u8 .own (record { ptr = (journal-b, journal-o); name = journal-γ; now = journal-now }) (sliceVal (journal-b, journal-o) (length journal) ∷ [])) ∷ []) ∵ says ! asked $ nothing ! $ move ! (5 ∷ 0 ∷ []) $ join ! $ move ! (4 ∷ 0 ∷ []) $ join ! $ move ! (3 ∷ 0 ∷ []) $ join ! $ move ! (2 ∷ 0 ∷ []) $ join ! $ move ! (1 ∷ 0 ∷ []) $ join ! $ frame ! $ nothing ! $ owned ! Handle-T.the-row (Is Handle-T.the-row) (LL.makes Handle-T.the-type Handle-T′.the-plain 𝓤 H A) held _ held-is′ $ fjoin ! $ move ! (5 ∷ 0 ∷ []) $ fjoin ! $ move ! (4 ∷ 0 ∷ []) $ fjoin ! $ owned ! Edit-T.the-row (Is Edit-T.the-row) (EL.makes Edit-T.the-type Edit-T′.the-plain 𝓤 H A) edit _ edit-is $ fjoin ! $ move ! (3 ∷ 0 ∷ []) $ fjoin ! $ move ! (2 ∷ 0 ∷ []) $ fjoin ! $ move ! (1 ∷ 0 ∷ []) $ fjoin ! $ owned ! usize (Is usize) (uint-makes 𝓤 H A W w64) count _ (refl, count-fits′) $ fjoin ! $ owned ! usize (Is usize) (uint-makes 𝓤 H A W w64) h _ (refl, h-fits) $ fjoin ! $ owned ! usize (Is usize) (uint-makes 𝓤 H A W w64) w _ (refl, w-fits) $ fjoin ! $ owned ! u8 (Is u8) (uint-makes 𝓤 H A W w8) number _ (refl, number-fits′) $ fjoin ! $ done !

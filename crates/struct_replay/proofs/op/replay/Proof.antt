@@ -66,8 +66,8 @@ use Rattle.edit_apply.specs.Redoable.{Redoable}
 use Rattle.struct_edit.specs.Walk.{flatAll}
 use Rattle.history_model.specs.Replay.{replayChecks, replayed, replayOf}
 use Rattle.history_model.proofs.ReplayChecks.{redoable}
-use Rattle.struct_steps.specs.Phases.{doneOr}
-use Rattle.struct_steps.proofs.Replaying.{replay-is}
+use Rattle.history_replay.specs.Steps.{doneOr}
+use Rattle.history_replay.proofs.Replaying.{replay-is}
 use Rattle.struct_replay.proofs.op.replay_no as Numbering-f
 use Rattle.struct_replay.proofs.op.replay_no.Symbol as Numbering-def
 use Rattle.struct_replay.proofs.op.replay_no.Symbol.{name as #struct_replay·op·replay-no}

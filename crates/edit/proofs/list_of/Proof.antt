@@ -1,0 +1,41 @@
+-- `list_of`: by kinds. Assumes nothing.
+use borrow.Author.Needs.{needs}
+use Rattle.edit.proofs.list_of.Statement.{statement}
+use Rattle.edit.proofs.list_of.Tie as tie
+
+enum-told : tie.Need-enum-told
+enum-told c = search needs
+
+enum-told-2 : tie.Need-enum-told-2
+enum-told-2 c = search needs
+
+enum-told-3 : tie.Need-enum-told-3
+enum-told-3 c = search needs
+
+enum-known-edit : tie.Need-enum-known-edit
+enum-known-edit c = search needs
+
+returns : tie.Need-returns
+returns c = search needs
+
+returns-2 : tie.Need-returns-2
+returns-2 c = search needs
+
+returns-3 : tie.Need-returns-3
+returns-3 c = search needs
+
+returns-4 : tie.Need-returns-4
+returns-4 c = rw (c .before .edit .given .1)
+
+pub list-of-spec : {M : Type 1} → statement M
+list-of-spec =
+    tie.close
+    (tie.spec
+    enum-told
+    enum-told-2
+    enum-told-3
+    enum-known-edit
+    returns
+    returns-2
+    returns-3
+    returns-4)

@@ -1,0 +1,2 @@
+pub mod NoChecks
+pub mod Deciding

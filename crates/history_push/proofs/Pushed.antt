@@ -1,0 +1,40 @@
+-- `push` after its number: what that decides. Assumes nothing.
+use mathlib.Core.Path.{_≡_, refl}
+use mathlib.Core.Bool.{Bool, true, false, cond}
+use Prim.Native.Nat.{ℕ, zero, suc}
+use Rattle.base.specs.Checks.{orElse, firstOf, refusedOr}
+use Rattle.sheet.specs.Sheet.{Sheet}
+use Rattle.history_ledger.specs.Calls.{refused, still, done}
+use Rattle.history_ledger.specs.Journal.{State, entryChecks, pushChecks, pushOf, pushed}
+use Rattle.history_model.specs.Editing.{Given, editing}
+use Rattle.history_push_checks.specs.Steps.{isStill, pushNumber, pushedOr}
+
+-- ---- `push`: what the number decides
+pub push-is : (room : ℕ) (st : State Sheet) (g : Given) (n : ℕ) → n ≡ pushNumber room st g → pushedOr n (isStill g) st (pushed editing st g) ≡ pushOf editing room st g
+unfolding pushedOr pushNumber pushOf refusedOr
+push-is room st g n q = rw q (by (firstOf (entryChecks editing st g)) (isStill g))
+  where
+    by : (a : ℕ) (t : Bool)
+        → refusedOr (orElse a (cond t 0 (firstOf (pushChecks editing room st g)))) (refused st) (cond t (still st) (done (pushed editing st g)))
+        ≡ refusedOr a (refused st) (cond t (still st) (refusedOr (firstOf (pushChecks editing room st g)) (refused st) (done (pushed editing st g))))
+    by zero true = refl
+    by zero false = refl
+    by (suc a) t = refl
+
+-- ---- a push after its number
+module _ (n : ℕ) (empty : Bool) (st after : State Sheet) where
+  pub refused-push : (n ≡ 0 → ⊥) → refused st n ≡ pushedOr n empty st after
+  unfolding pushedOr refusedOr
+  refused-push h = by n h
+    where
+      by : (m : ℕ) → (m ≡ 0 → ⊥) → refused st m ≡ refusedOr m (refused st) (cond empty (still st) (done after))
+      by zero h = absurd (h refl)
+      by (suc m) h = refl
+
+  pub still-push : n ≡ 0 → empty ≡ true → still st ≡ pushedOr n empty st after
+  unfolding pushedOr refusedOr
+  still-push z t = rw (z, t)
+
+  pub done-push : (x : State Sheet) → n ≡ 0 → empty ≡ false → x ≡ after → done x ≡ pushedOr n empty st after
+  unfolding pushedOr refusedOr
+  done-push x z t q = rw (z, t, q)

@@ -1,0 +1,36 @@
+-- What a push does when its list stands in the record and is painted. Definitions only. Assumes nothing.
+use mathlib.Core.List.{List, [], _++_}
+use Prim.Native.Nat.{ℕ, _+_, _≤_}
+use lib.Ieee.{Float}
+use lib.ListN.{length, take, drop}
+use Rattle.base.specs.Limits.{maxChanges, maxJournal}
+use Rattle.color_lab.specs.Convert.{labOf}
+use Rattle.sheet.specs.Sheet.{Sheet, sheetOf}
+use Rattle.base.specs.declared.Edit.{Edit}
+use Rattle.edit.specs.Apply.{filledEdit, restDone}
+use Rattle.edit_apply.specs.Redoable.{EntryIn, Finishable}
+use Rattle.journal_record.specs.Record.{recordLength}
+use Rattle.journal_frame.specs.Frame.{around, Framed}
+use Rattle.base.specs.declared.Handle.{Handle}
+use Rattle.history_ledger.specs.Handle.{afterPush}
+use Rattle.history_ledger.specs.Journal.{State}
+
+-- the record around n changes that stand in it, the rest of the edit done, the handle moved
+unfoldable pub finished : State Sheet → Edit → ℕ → State Sheet
+finished st e n =
+    record {
+      sheet = restDone labOf (st .sheet) e;
+      journal = take (st .handle .offset) (st .journal) ++ around (filledEdit (st .sheet) e) n (drop (st .handle .offset) (st .journal));
+      handle = afterPush (recordLength e n) (st .handle);
+    }
+
+-- what that asks: the entry lies in storage and has LAB that is numbers, and the record fits the journal
+pub record Finishes (k : ℕ) (palette : List ℕ) (lab : List Float) (journal : List ℕ) (handle : Handle) (e : Edit) (n : ℕ) : Type 0 where
+  pub storage : Finishable k (length palette) (length lab) e
+  pub entry-bytes : EntryIn (length palette) e
+  pub entry-numbers : EntryIn (length lab) e
+  pub framed : Framed (filledEdit (sheetOf 0 0 k palette lab []) e)
+  pub short : n ≤ maxChanges
+  pub room : handle .offset + recordLength e n ≤ length journal
+  pub permitted : length journal ≤ maxJournal
+  pub before : handle .position ≤ handle .offset

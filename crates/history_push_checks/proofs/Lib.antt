@@ -1,0 +1,2 @@
+pub mod PushChecks
+pub mod PushSteps

@@ -1,0 +1,99 @@
+-- The steps of `replay` put together, of a list in any form: the number is that of the first check, and the edit is done. What goes through the list is told
+-- by what it answers, `each`, and by what it paints. Assumes nothing.
+use mathlib.Core.Path.{_≡_, refl, sym, ap, _∙_}
+use mathlib.Core.Bool.{true}
+use mathlib.Core.List.{List, flatMap}
+use Prim.Native.Nat.{ℕ, zero, suc, _*_}
+use native.Mathlib.Omega.{arith}
+use lib.IntN.{ℤ}
+use lib.Ieee.{Float}
+use lib.ListN.{length}
+use Rattle.base.specs.Checks.{orElse, firstOf, refusedOr}
+use Rattle.base.proofs.First.{or-else-assoc, first-passes}
+use Rattle.color_lab.specs.Convert.{labOf}
+use Rattle.sheet.specs.Sheet.{Sheet, sheetOf}
+use Rattle.base.specs.declared.Edit.{Edit}
+use Rattle.edit.specs.declared.ListKind.{ListKind}
+use Rattle.edit.specs.Change.{Change}
+use Rattle.edit.specs.List.{listOf, paintedList}
+use Rattle.edit.specs.Checks.{Permitted, changeChecks, leftChecks}
+use Rattle.edit.specs.Apply.{restDone, redone}
+use Rattle.edit_pixels.specs.Inside.{bare}
+use Rattle.edit_checks.specs.Marks.{ClearFor, MarksFor, Checkable}
+use Rattle.edit_list.proofs.Deciding.{first-kept, head-markable, list-decides, bare-changes, bare-left}
+use Rattle.history_ledger.specs.Calls.{refused, done}
+use Rattle.history_model.specs.Replay.{replayChecks, replayOf}
+use Rattle.history_replay.specs.Steps.{ReplayBegun, doneOr}
+
+-- ---- what is left to do, by the number
+pub refused-done : (n : ℕ) (s t : Sheet) → (n ≡ 0 → ⊥) → refused s n ≡ doneOr n s t
+unfolding doneOr refusedOr
+refused-done zero s t h = absurd (h refl)
+refused-done (suc n) s t h = refl
+
+pub passed-done : (n : ℕ) (s t u : Sheet) → n ≡ 0 → u ≡ t → done u ≡ doneOr n s t
+unfolding doneOr refusedOr
+passed-done n s t u z q = rw (z, q)
+
+-- ---- `open_replay`
+pub opened-refused : {room : ℕ} {s : Sheet} {p : Permitted} {e : Edit} {cs : List Change} {marks : List ℕ} (n : ℕ) → (n ≡ 0 → ⊥) → n ≡ firstOf (replayChecks room s p e cs) → ReplayBegun room s p e cs n marks
+opened-refused n h q = record { refuses = λ _. q; ready = λ z. absurd (h z) }
+
+-- ---- the number
+module _ (room w h k : ℕ) (palette : List ℕ) (lab : List Float) (indices : List ℤ) (p : Permitted) (e : Edit) (cs : List Change) where
+  abbrev s : Sheet
+  s = sheetOf w h k palette lab indices
+
+  abbrev kind : ListKind
+  kind = listOf e
+
+  -- what the checks of the changes answer
+  abbrev each : ℕ
+  each = firstOf (flatMap (changeChecks true (bare w h k indices) kind) cs)
+
+  module _ (n : ℕ) (marks : List ℕ) (o : ReplayBegun room s p e cs n marks) where
+    -- what the list's checks ask
+    pub opened-checkable : (m : ℕ) → m ≡ room → n ≡ 0 → Checkable kind w h (length indices) m
+    opened-checkable m q z =
+        let r = o .ready z in
+        record { pixels = r .formed .limits .indices-length; markable = head-markable true s p e m (r .formed .limits) (rw q (r .enough)) (r .head) }
+
+    module _ (c : ℕ) (d : c ≡ orElse n each) where
+      began : c ≡ 0 → n ≡ 0
+      began z = first-passes n each (sym d ∙ z) .0
+
+      pub checked-checkable : (m : ℕ) → m ≡ room → c ≡ 0 → Checkable kind w h (length indices) m
+      checked-checkable m q z = opened-checkable m q (began z)
+
+      -- the marks that the list leaves, where they were clear before it
+      pub checked-marks : (after : List ℕ) → c ≡ 0 → (ClearFor kind (w * h) marks → MarksFor kind w (w * h) cs after) → MarksFor kind w (w * h) cs after
+      checked-marks after z leaves = leaves (o .ready (began z) .clear)
+
+      -- with 13, the whole number
+      pub replay-number : (l : ℕ) → l ≡ orElse c (firstOf (leftChecks (bare w h 0 indices) kind cs)) → l ≡ firstOf (replayChecks room s p e cs)
+      replay-number l q = by-number n refl
+        where
+          changes : c ≡ orElse n (firstOf (flatMap (changeChecks true s kind) cs))
+          changes = d ∙ ap (orElse n) (bare-changes true s kind cs)
+
+          whole : l ≡ orElse n (orElse (firstOf (flatMap (changeChecks true s kind) cs)) (firstOf (leftChecks s kind cs)))
+          whole = q ∙ rw (changes, bare-left s kind cs) (sym (or-else-assoc n (firstOf (flatMap (changeChecks true s kind) cs)) (firstOf (leftChecks s kind cs))))
+
+          by-number : (m : ℕ) → n ≡ m → l ≡ firstOf (replayChecks room s p e cs)
+          by-number zero z = let r = o .ready z in rw z at whole ∙ sym (list-decides true s p e cs (r .head)) ∙ r .decides
+          by-number (suc m) z =
+              let kept : n ≡ 0 → ⊥ = λ y. omega (arith, z, y) in
+              whole ∙ first-kept n _ kept ∙ o .refuses kept
+
+-- ---- the edit done, where the list is painted if no number refuses it
+pub done-either : (w h k : ℕ) (palette : List ℕ) (lab : List Float) (indices : List ℤ) (e : Edit) (cs : List Change) (n : ℕ) (l : List ℤ)
+    → (n ≡ 0 → l ≡ paintedList (listOf e) w cs indices) → ((n ≡ 0 → ⊥) → l ≡ indices)
+    → doneOr n (sheetOf w h k palette lab l) (restDone labOf (sheetOf w h k palette lab l) e) ≡ doneOr n (sheetOf w h k palette lab indices) (redone labOf (sheetOf w h k palette lab indices) e cs)
+unfolding doneOr refusedOr redone
+done-either w h k palette lab indices e cs zero l paints keeps = ap (λ (x : List ℤ). done (restDone labOf (sheetOf w h k palette lab x) e)) (paints refl)
+done-either w h k palette lab indices e cs (suc n) l paints keeps = rw (keeps (λ z. omega (arith, z)))
+
+-- ---- `replay`
+pub replay-is : (room : ℕ) (s : Sheet) (p : Permitted) (e : Edit) (cs : List Change) (n : ℕ) → n ≡ firstOf (replayChecks room s p e cs) → doneOr n s (redone labOf s e cs) ≡ replayOf room s p e cs
+unfolding doneOr replayOf
+replay-is room s p e cs n q = rw q

@@ -1,0 +1,28 @@
+-- `finish_replay`: refused, or done. Assumes nothing.
+use Rattle.history_replay.proofs.Replaying.{refused-done, passed-done}
+use borrow.Author.Needs.{needs}
+use Rattle.history_replay.proofs.finish_replay.Statement.{statement}
+use Rattle.history_replay.proofs.finish_replay.Tie as tie
+
+returns : tie.Need-returns
+returns c w h = refused-done _ _ _ (c .if1 .taken)
+
+finish-edit-requires : tie.Need-finish-edit-requires
+finish-edit-requires c κs = c .before .before .before .before .before .before .pre (c .before .before .before .if1 .left)
+
+same-length : tie.Need-same-length
+same-length c = search needs
+
+same-length-2 : tie.Need-same-length-2
+same-length-2 c = search needs
+
+same-length-3 : tie.Need-same-length-3
+same-length-3 c = search needs
+
+returns-2 : tie.Need-returns-2
+returns-2 c w h = passed-done _ _ _ _ (c .before .before .before .before .before .before .before .before .before .if1 .left) (c .before .before .before .before .before .finish-edit .ensures w h)
+
+pub finish-replay-spec : {M : Type 1} → statement M
+finish-replay-spec =
+    tie.close
+    (tie.spec returns finish-edit-requires same-length same-length-2 same-length-3 returns-2)

@@ -1,0 +1,94 @@
+-- `open_replay`: 1 of the permitted colours, 1 to 3, 21, 16, then the edit's checks before its list. Assumes nothing.
+use mathlib.Core.Path.{_≡_, refl, sym, _∙_}
+use mathlib.Core.Bool.{true}
+use native.Mathlib.Omega.{arith}
+use Rattle.base.specs.Checks.{firstOf}
+use Rattle.sheet.specs.Sheet.{sheetOf}
+use Rattle.sheet.specs.Checks.{permittedChecks, WellFormed}
+use mathlib.Core.List.{List}
+use lib.ListN.{length}
+use Rattle.edit.specs.Change.{Change}
+use Rattle.edit.specs.Checks.{permittedOf, ownChecks}
+use Rattle.history_model.specs.Replay.{replayChecks}
+use Rattle.history_model.proofs.ReplayChecks.{given-refused, sheet-refused, too-long, no-space, own-decides}
+use Rattle.edit_list.proofs.Deciding.{head-decides}
+use Rattle.history_replay.proofs.Replaying.{opened-refused}
+use borrow.Author.Needs.{needs}
+use Rattle.history_replay.proofs.open_replay.Statement.{statement}
+use Rattle.history_replay.proofs.open_replay.Tie as tie
+
+permitted-no-requires : tie.Need-permitted-no-requires
+permitted-no-requires c κs = search needs
+
+returns : tie.Need-returns
+returns c cs q = opened-refused _ (c .if1 .taken) (given-refused _ _ _ _ _ _ (c .before .permitted-no .ensures) (c .if1 .taken))
+
+-- past the first test the permitted colours are, past the second the sheet is well-formed
+given : (c : tie.Else1) → let a = c .before .before .before .before .before .before .args in firstOf (permittedChecks (a .limited) (a .permitted .now)) ≡ 0
+given c = sym (c .before .permitted-no .ensures) ∙ c .if1 .left
+
+formed : (c : tie.Else2) → let a = c .before .before .before .before .before .before .before .before .args in WellFormed (sheetOf (a .w) (a .h) (a .k) (a .palette .now) (a .lab .now) (a .indices .now))
+formed c = c .before .check .ensures .fine (c .if2 .left)
+
+check-requires : tie.Need-check-requires
+check-requires c κs = search needs
+
+returns-2 : tie.Need-returns-2
+returns-2 c cs q = opened-refused _ (c .if2 .taken) (sheet-refused _ _ _ _ _ (given (c .before .before)) _ (c .before .check .ensures) (c .if2 .taken))
+
+returns-3 : tie.Need-returns-3
+returns-3 c cs q = opened-refused _ (λ z. omega (arith, z)) (too-long _ _ _ _ _ (given (c .before .before .before)) (formed (c .before)) (rw q (c .if3 .taken)))
+
+returns-4 : tie.Need-returns-4
+returns-4 c cs q = opened-refused _ (λ z. omega (arith, z)) (no-space _ _ _ _ _ (given (c .before .before .before .before)) (formed (c .before .before)) (rw q (c .before .if3 .left)) (rw (← formed (c .before .before) .limits .indices-length) (c .if4 .taken)))
+
+-- past the fourth the edit's own checks decide
+decided : (c : tie.Else4) → let a = c .before .before .before .before .before .before .before .before .before .before .args in (cs : List Change) → length cs ≡ a .n → firstOf (ownChecks true (sheetOf (a .w) (a .h) (a .k) (a .palette .now) (a .lab .now) (a .indices .now)) (permittedOf (a .limited) (a .permitted .now)) (a .edit) cs) ≡ firstOf (replayChecks (length (a .marks .now)) (sheetOf (a .w) (a .h) (a .k) (a .palette .now) (a .lab .now) (a .indices .now)) (permittedOf (a .limited) (a .permitted .now)) (a .edit) cs)
+decided c cs q = own-decides _ _ _ _ _ (given (c .before .before .before .before)) (formed (c .before .before)) (rw q (c .before .if3 .left)) (rw (← formed (c .before .before) .limits .indices-length) (c .if4 .left))
+
+head-no-requires : tie.Need-head-no-requires
+head-no-requires c κs = let l = formed (c .before .before) .limits in (l .k-small, l .palette-length)
+
+returns-5 : tie.Need-returns-5
+returns-5 c cs q = opened-refused _ (c .if5 .taken) (head-decides true _ _ _ cs _ (c .before .head-no .ensures _ _ (c .before .before .before .before .before .before .before .before .before .before .before .before .args .lab .now) _) (c .if5 .taken) ∙ decided (c .before .before) cs q)
+
+list-of-requires : tie.Need-list-of-requires
+list-of-requires c κs = search needs
+
+clear-marks-requires : tie.Need-clear-marks-requires
+clear-marks-requires c κs = search needs
+
+same-length : tie.Need-same-length
+same-length c = search needs
+
+returns-6 : tie.Need-returns-6
+returns-6 c cs q =
+    let f = formed (c .before .before .before .before .before .before .before .before .before) in
+    record {
+      refuses = λ h. absurd (h refl);
+      ready = λ _.
+          record {
+            formed = f;
+            enough = rw (← f .limits .indices-length) (c .before .before .before .before .before .before .before .if4 .left);
+            head = sym (c .before .before .before .before .before .before .head-no .ensures _ _ (c .before .before .before .before .before .before .before .before .before .before .before .before .before .before .before .before .before .args .lab .now) _) ∙ c .before .before .before .before .before .if5 .left;
+            decides = decided (c .before .before .before .before .before .before .before) cs q;
+            clear = rw (c .before .before .before .before .list-of .ensures, f .limits .indices-length) at (c .before .before .clear-marks .ensures);
+          };
+    }
+
+pub open-replay-spec : {M : Type 1} → statement M
+open-replay-spec =
+    tie.close
+    (tie.spec
+    permitted-no-requires
+    returns
+    check-requires
+    returns-2
+    returns-3
+    returns-4
+    head-no-requires
+    returns-5
+    list-of-requires
+    clear-marks-requires
+    same-length
+    returns-6)

@@ -1,0 +1,210 @@
+// `replay` of op.rs: an edit done to a sheet apart from any history, where the sheet is as the edit says that it was.
+// The steps before the list, and after it, do not see the list, so that each form of the call goes through its own
+// between them.
+use base::Answer;
+use base::Edit;
+use base::LIST_TOO_LONG;
+use base::MAX_CHANGES;
+use base::NO_SPACE;
+use base::Replayed;
+use edit::list_of;
+use edit_apply::finish_edit;
+use edit_checks::clear_marks;
+use edit_checks::head_no;
+use edit_checks::left_no;
+use edit_list::check_list;
+use edit_list::paint_list;
+use sheet::check;
+use sheet::permitted_no;
+ghost use mathlib.Core.Path.{_≡_};
+ghost use mathlib.Core.List.{List, map};
+ghost use Prim.Native.Nat.{ℕ, _*_};
+ghost use lib.ListN.{length};
+ghost use Rattle.base.specs.Checks.{orElse, firstOf};
+ghost use Rattle.color_lab.specs.Convert.{labOf};
+ghost use Rattle.sheet.specs.Sheet.{sheetOf};
+ghost use Rattle.edit.specs.Change.{Change, unpacked};
+ghost use Rattle.edit.specs.List.{listOf};
+ghost use Rattle.edit.specs.Checks.{permittedOf, leftChecks};
+ghost use Rattle.edit.specs.Apply.{restDone};
+ghost use Rattle.edit_pixels.specs.Inside.{bare};
+ghost use Rattle.edit_checks.specs.Marks.{MarksFor, Checkable};
+ghost use Rattle.edit_apply.specs.Redoable.{Finishable};
+ghost use Rattle.history_model.specs.Replay.{replayChecks, replayed, replayOf};
+ghost use Rattle.history_replay.specs.Steps.{ReplayBegun, doneOr};
+
+// Before the list: the number of the first check that applies, or 0. A removal's marks are cleared.
+pub fn open_replay(
+    w: usize,
+    h: usize,
+    k: usize,
+    palette: &[u8],
+    lab: &[f64],
+    indices: &[i16],
+    limited: bool,
+    permitted: &[u8],
+    edit: Edit,
+    n: usize,
+    marks: &mut [u8],
+) -> u8
+    ensures { λ r. ⌜
+        ((cs : List Change) → length cs ≡ n → ReplayBegun (length (now (marks .entry)))
+        (sheetOf w h k (now (palette .entry)) (now (lab .entry)) (now (indices .entry)))
+        (permittedOf limited (now (permitted .entry))) edit cs r (now (marks .exit)))
+        ⌝ }
+{
+    let given = permitted_no(limited, permitted);
+    if given != 0 {
+        return given;
+    }
+    let no = check(w, h, k, palette, lab, indices);
+    if no != 0 {
+        return no;
+    }
+    if MAX_CHANGES < n {
+        return LIST_TOO_LONG;
+    }
+    let size = indices.len();
+    if marks.len() < size {
+        return NO_SPACE;
+    }
+    let head = head_no(k, palette, limited, permitted, edit, true);
+    if head != 0 {
+        return head;
+    }
+    clear_marks(list_of(edit), size, marks);
+    0
+}
+
+// After the list: the number so far or, where that is 0, 13 of a removal that leaves a pixel of its entry, or 0.
+pub fn left_after(no: u8, edit: Edit, w: usize, h: usize, indices: &[i16], marks: &[u8]) -> u8
+    requires { ⌜ (no ≡ 0 → Checkable (listOf edit) w h (length (now indices)) (length (now marks))) ⌝ }
+    ensures { λ r. ⌜
+        ((cs : List Change) → (no ≡ 0 → MarksFor (listOf edit) w (w * h) cs (now (marks .entry)))
+        → r ≡ orElse no (firstOf (leftChecks (bare w h 0 (now (indices .entry))) (listOf edit) cs)))
+        ⌝ }
+{
+    if no != 0 {
+        return no;
+    }
+    left_no(list_of(edit), w, h, indices, marks)
+}
+
+// What an edit does beside its list, where it was not refused.
+pub fn finish_replay(
+    no: u8,
+    k: usize,
+    palette: &mut [u8],
+    lab: &mut [f64],
+    indices: &mut [i16],
+    edit: Edit,
+) -> Replayed
+    requires { ⌜ (no ≡ 0 → Finishable k (length (now palette)) (length (now lab)) edit) ⌝ }
+    ensures { λ r. ⌜
+        ((w h : ℕ)
+        → replayed (r .answer) (sheetOf w h (r .k) (now (palette .exit)) (now (lab .exit)) (now (indices .exit)))
+        ≡ doneOr no (sheetOf w h k (now (palette .entry)) (now (lab .entry)) (now (indices .entry)))
+        (restDone labOf (sheetOf w h k (now (palette .entry)) (now (lab .entry)) (now (indices .entry))) edit))
+        ⌝ }
+{
+    if no != 0 {
+        return Replayed {
+            answer: Answer::Refused(no),
+            k,
+        };
+    }
+    let after = finish_edit(k, palette, lab, indices, edit);
+    Replayed {
+        answer: Answer::Done,
+        k: after,
+    }
+}
+
+// The number of the first check that applies, or 0.
+fn replay_no(
+    w: usize,
+    h: usize,
+    k: usize,
+    palette: &[u8],
+    lab: &[f64],
+    indices: &[i16],
+    limited: bool,
+    permitted: &[u8],
+    edit: Edit,
+    list: &[u64],
+    scratch: &mut [u8],
+) -> u8
+    ensures { λ r. ⌜ (
+        let sheet = sheetOf w h k (now (palette .entry)) (now (lab .entry)) (now (indices .entry)) in
+        r
+        ≡ firstOf
+        (replayChecks (length (now (scratch .entry))) sheet (permittedOf limited (now (permitted .entry))) edit
+        (map unpacked (now (list .entry))))
+        ) ⌝ }
+{
+    let n = list.len();
+    let opened = open_replay(
+        w,
+        h,
+        k,
+        palette,
+        lab,
+        indices,
+        limited,
+        permitted,
+        edit,
+        n,
+        scratch,
+    );
+    if opened != 0 {
+        return opened;
+    }
+    let checked = check_list(list_of(edit), true, w, h, k, indices, scratch, list);
+    left_after(checked, edit, w, h, indices, scratch)
+}
+
+// Does an edit whose old values are the sheet's, and answers the palette count after it. LAB is worked out
+// from the colour. The scratch has at least w × h bytes; what they are afterwards is free.
+pub fn replay(
+    w: usize,
+    h: usize,
+    k: usize,
+    palette: &mut [u8],
+    lab: &mut [f64],
+    indices: &mut [i16],
+    limited: bool,
+    permitted: &[u8],
+    edit: Edit,
+    list: &[u64],
+    scratch: &mut [u8],
+) -> Replayed
+    ensures { λ r. ⌜ (
+        let sheet = sheetOf w h k (now (palette .entry)) (now (lab .entry)) (now (indices .entry)) in
+        replayed (r .answer) (sheetOf w h (r .k) (now (palette .exit)) (now (lab .exit)) (now (indices .exit)))
+        ≡ replayOf (length (now (scratch .entry))) sheet (permittedOf limited (now (permitted .entry))) edit
+        (map unpacked (now (list .entry)))
+        ) ⌝ }
+    ensures { λ _. ⌜ length (now (scratch .exit)) ≡ length (now (scratch .entry)) ⌝ }
+{
+    let no = replay_no(
+        w,
+        h,
+        k,
+        palette,
+        lab,
+        indices,
+        limited,
+        permitted,
+        edit,
+        list,
+        scratch,
+    );
+    if no != 0 {
+        return Replayed {
+            answer: Answer::Refused(no),
+            k,
+        };
+    }
+    paint_list(list_of(edit), indices, w, list);
+    finish_replay(no, k, palette, lab, indices, edit)
+}
