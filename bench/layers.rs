@@ -107,6 +107,7 @@ impl Symbol {
             palette: self.palettes[a..a + STORAGE].to_vec(),
             lab: self.labs[a..a + STORAGE].to_vec(),
             indices: self.indices[b..b + self.pixels()].to_vec(),
+            locks: vec![false; STORAGE / 3],
         }
     }
 

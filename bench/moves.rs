@@ -86,6 +86,7 @@ impl Ours {
             &mut s.palette,
             &mut s.lab,
             &mut s.indices,
+            &mut s.locks,
             &self.journal,
             &mut self.state,
         )
@@ -100,6 +101,7 @@ impl Ours {
             &mut s.palette,
             &mut s.lab,
             &mut s.indices,
+            &mut s.locks,
             journal,
             scratch,
             &mut self.state,
@@ -117,6 +119,7 @@ impl Ours {
             &mut s.palette,
             &mut s.lab,
             &mut s.indices,
+            &mut s.locks,
             false,
             &[],
             &bytes,

@@ -24,6 +24,7 @@ pub struct Sheet {
     pub palette: Vec<u8>,
     pub lab: Vec<f64>,
     pub indices: Vec<i16>,
+    pub locks: Vec<bool>,
 }
 
 impl Sheet {
@@ -35,6 +36,7 @@ impl Sheet {
             lab: color_exact::rgb8_to_lab(&palette),
             palette,
             indices: (0..side * side).map(|p| picture(p, side, k)).collect(),
+            locks: vec![false; ENTRIES],
         }
     }
 
@@ -57,6 +59,7 @@ impl Sheet {
             &self.palette,
             &mut self.lab,
             &self.indices,
+            &mut self.locks,
         )
     }
 

@@ -57,8 +57,8 @@ ours! {
     call_check(sheet,) -> u8;
     call_permitted_no(limited: bool, permitted: [u8],) -> u8;
     call_any_stray_below(indices: [i16], k: i16,) -> bool;
-    call_with_lab(sheet,) -> u8;
-    call_new(w: usize, h: usize, k: usize, palette: [u8], lab: mut [f64], indices: [i16],) -> u8;
+    call_with_lab(sheet, locks: mut [bool],) -> u8;
+    call_new(w: usize, h: usize, k: usize, palette: [u8], lab: mut [f64], indices: [i16], locks: mut [bool],) -> u8;
     call_get_at(sheet, x: i32, y: i32, got: &mut [i16; 1],) -> u8;
     call_counts(sheet, out: mut [u32], r: R,) -> u8;
     call_diff_mask(sheet, bw: usize, bh: usize, bk: usize, base: [u8], base_indices: [i16], mask: mut [u8], r: R,) -> u8;
@@ -100,20 +100,20 @@ ours! {
 
     call_check_color(limited: bool, permitted: [u8], rgb: &[u8; 3],) -> u8;
     call_fixed_choices(sheet, limited: bool, permitted: [u8], used: mut [u8], r: R,) -> u8;
-    call_set_color(sheet, limited: bool, permitted: [u8], index: usize, rgb: &[u8; 3], bytes: &mut [u8; 8], doubles: &mut [f64; 3], r: R,) -> u8;
+    call_set_color(sheet, locks: [bool], limited: bool, permitted: [u8], index: usize, rgb: &[u8; 3], bytes: &mut [u8; 8], doubles: &mut [f64; 3], r: R,) -> u8;
     call_add_color(sheet, limited: bool, permitted: [u8], rgb: &[u8; 3], bytes: &mut [u8; 8], doubles: &mut [f64; 3], r: R,) -> u8;
     call_nearest_other(sheet, index: usize, r: R, away: Away,) -> u8;
-    call_remove_entry(sheet, index: usize, list: mut [u64], bytes: &mut [u8; 8], doubles: &mut [f64; 3], r: R, away: Away,) -> u8;
-    call_merge_entries(sheet, from: usize, into: usize, list: mut [u64], bytes: &mut [u8; 8], doubles: &mut [f64; 3], r: R,) -> u8;
+    call_remove_entry(sheet, locks: [bool], index: usize, list: mut [u64], bytes: &mut [u8; 8], doubles: &mut [f64; 3], r: R, away: Away,) -> u8;
+    call_merge_entries(sheet, locks: [bool], from: usize, into: usize, list: mut [u64], bytes: &mut [u8; 8], doubles: &mut [f64; 3], r: R,) -> u8;
 
     call_fresh(state: State,) -> ();
-    call_push(w: usize, h: usize, palette: mut [u8], lab: mut [f64], indices: mut [i16], limited: bool, permitted: [u8], bytes: &[u8; 8], index: usize, doubles: &[f64; 3], list: [u64], journal: mut [u8], scratch: mut [u8], state: State,) -> u8;
-    call_undo(w: usize, h: usize, palette: mut [u8], lab: mut [f64], indices: mut [i16], journal: [u8], state: State,) -> u8;
-    call_redo(w: usize, h: usize, palette: mut [u8], lab: mut [f64], indices: mut [i16], journal: [u8], scratch: mut [u8], state: State,) -> u8;
+    call_push(w: usize, h: usize, palette: mut [u8], lab: mut [f64], indices: mut [i16], locks: mut [bool], limited: bool, permitted: [u8], bytes: &[u8; 8], index: usize, doubles: &[f64; 3], list: [u64], journal: mut [u8], scratch: mut [u8], state: State,) -> u8;
+    call_undo(w: usize, h: usize, palette: mut [u8], lab: mut [f64], indices: mut [i16], locks: mut [bool], journal: [u8], state: State,) -> u8;
+    call_redo(w: usize, h: usize, palette: mut [u8], lab: mut [f64], indices: mut [i16], locks: mut [bool], journal: [u8], scratch: mut [u8], state: State,) -> u8;
     call_mark_saved(journal: [u8], state: State,) -> u8;
     call_asked(question: u8, journal: [u8], state: &[usize; 6], r: R,) -> u8;
     call_next(question: u8, journal: [u8], state: &[usize; 6], number: usize, bytes: &mut [u8; 8], doubles: &mut [f64; 3], r: R,) -> u8;
-    call_replay(w: usize, h: usize, palette: mut [u8], lab: mut [f64], indices: mut [i16], limited: bool, permitted: [u8], bytes: &[u8; 8], index: usize, doubles: &[f64; 3], list: [u64], scratch: mut [u8], state: State,) -> u8;
+    call_replay(w: usize, h: usize, palette: mut [u8], lab: mut [f64], indices: mut [i16], locks: mut [bool], limited: bool, permitted: [u8], bytes: &[u8; 8], index: usize, doubles: &[f64; 3], list: [u64], scratch: mut [u8], state: State,) -> u8;
 
     call_flatten(sizes: [usize], palettes: [u8], labs: [f64], indices: [i16], out: mut [u8], r: R,) -> u8;
     call_repaint(sizes: [usize], palettes: [u8], labs: [f64], indices: [i16], edited: usize, w: usize, h: usize, k: usize, palette: [u8], lab: [f64], earlier: [i16], out: mut [u8], r: R,) -> u8;

@@ -6,6 +6,7 @@
 use crate::draw::Draw;
 use crate::histories::{any_push, applied, our_push, our_redo, our_undo};
 use crate::journal::{self, Handle, State, NOWHERE};
+use crate::locks::any_edit_or_lock;
 use crate::sheet::*;
 use crate::sheets::Permitted;
 
@@ -57,10 +58,14 @@ fn both_ends(f: &mut Figures, st: &mut State, what: &dyn Fn() -> String) {
     while step(f, st, false, what) {}
 }
 
-/// A history of some pushes of every kind, which stands at its end.
-fn history(draw: &mut Draw) -> State {
+/// A history of some pushes of every kind, which stands at its end; of locks, too, from any marks on, where they are asked
+/// for.
+fn history(locks: bool, draw: &mut Draw) -> State {
     let k = draw.from(&[2, 3, 4, 4, 254]);
-    let sheet = good(1 + draw.below(4), 1 + draw.below(3), k, draw);
+    let mut sheet = good(1 + draw.below(4), 1 + draw.below(3), k, draw);
+    if locks {
+        sheet.locks = any_locks(MARKS, draw);
+    }
     let free = Permitted {
         limited: false,
         list: Vec::new(),
@@ -70,10 +75,14 @@ fn history(draw: &mut Draw) -> State {
         journal: vec![0xee; 400],
         handle: Handle::FRESH,
     };
-    let mut kinds = [0; 5];
+    let mut kinds = [0; 6];
+    kinds[5] = usize::from(!locks);
     while st.handle.count < 6 || kinds[1..].contains(&0) {
-        let doc = journal::document(&st.sheet);
-        let (e, list) = any_push(&st.sheet, &doc, draw);
+        let (e, list) = if locks {
+            any_edit_or_lock(&st.sheet, draw)
+        } else {
+            any_push(&st.sheet, &journal::document(&st.sheet), draw)
+        };
         let n = st.sheet.w * st.sheet.h;
         match our_push(&mut st, &free, &e, &list, n) {
             0 => kinds[usize::from(e.bytes[0])] += 1,
@@ -88,11 +97,18 @@ fn history(draw: &mut Draw) -> State {
 
 /// Prints the figures, and answers whether nothing differs.
 pub fn run() -> bool {
-    let mut draw = Draw::new(10);
+    println!("Damage, no entry locked:");
+    let plain = histories(false, &mut Draw::new(10));
+    println!();
+    println!("Damage to journals that hold records of locks, from any marks on:");
+    plain & histories(true, &mut Draw::new(46))
+}
+
+fn histories(locks: bool, draw: &mut Draw) -> bool {
     let (mut bytes, mut fields) = (Figures::default(), Figures::default());
     let (mut histories, mut length, mut records) = (0, 0, 0);
     for _ in 0..16 {
-        let st = history(&mut draw);
+        let st = history(locks, draw);
         histories += 1;
         length += st.journal.len();
         records += st.handle.count;
@@ -143,7 +159,7 @@ pub fn run() -> bool {
             }
         }
     }
-    println!("Damage: {histories} histories, {records} records, {length} bytes of journal.");
+    println!("{histories} histories, {records} records, {length} bytes of journal.");
     println!("| changed | how many | calls | 4 | a sound step | still | differing |");
     println!("|---|---|---|---|---|---|---|");
     for (name, f) in [

@@ -14,6 +14,7 @@ mod inputs;
 mod journal;
 mod layers;
 mod lines;
+mod locks;
 mod panel;
 mod sample;
 mod sheet;
@@ -34,6 +35,7 @@ fn main() {
     inputs::run(&mut t);
     tiled::run(&mut t);
     histories::run(&mut t);
+    locks::run(&mut t);
     layers::run(&mut t);
     panel::run(&mut t);
     spell::run(&mut t);

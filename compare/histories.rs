@@ -23,6 +23,7 @@ pub fn our_push(st: &mut State, p: &Permitted, e: &Flat, list: &[u64], scratch: 
         &mut s.palette,
         &mut s.lab,
         &mut s.indices,
+        &mut s.locks,
         p.limited,
         &p.list,
         &e.bytes,
@@ -46,6 +47,7 @@ pub fn our_undo(st: &mut State) -> u8 {
         &mut s.palette,
         &mut s.lab,
         &mut s.indices,
+        &mut s.locks,
         &st.journal,
         &mut n,
     );
@@ -62,6 +64,7 @@ pub fn our_redo(st: &mut State, scratch: usize) -> u8 {
         &mut s.palette,
         &mut s.lab,
         &mut s.indices,
+        &mut s.locks,
         &st.journal,
         &mut room,
         &mut n,
@@ -75,7 +78,7 @@ fn take(st: &mut State, n: [usize; 6]) {
     st.handle = Handle::of([n[1], n[2], n[3], n[4], n[5]]);
 }
 
-fn told(no: u8, st: &State) -> Vec<u64> {
+pub fn told(no: u8, st: &State) -> Vec<u64> {
     let mut words = vec![no.into()];
     words.extend(st.words());
     words
@@ -146,7 +149,7 @@ fn next(no: u8, b: [u8; 8], f: [f64; 3], r: [usize; 5]) -> Vec<u64> {
 }
 
 fn record_shown(r: &journal::Read) -> Vec<u64> {
-    let (b, f, mut n, list) = flat_of(&r.op);
+    let (b, f, mut n, list) = flat_of_edit(&r.edit);
     assert_eq!(list.len(), r.count);
     n[1..].copy_from_slice(&[r.start, r.length, r.list, r.count]);
     next(0, b, f, n)
@@ -219,17 +222,16 @@ pub fn applied(st: &State, number: usize) -> Pair {
 // An edit on a sheet, by the Rust.
 
 /// The number of the sheet with a list of colours; then 4 of the handle.
-fn push_entry(st: &State, p: &Permitted) -> u8 {
-    match st
-        .sheet
-        .number(p.is_bad() || st.journal.len() > MAX_JOURNAL)
-    {
+pub fn push_entry(st: &State, p: &Permitted) -> u8 {
+    let bad = p.is_bad() || st.journal.len() > MAX_JOURNAL;
+    match st.sheet.marked_number(bad) {
         0 => first(&[(4, !st.handle.sound(st.journal.len()))]),
         no => no,
     }
 }
 
-/// What is expected of a push onto a history whose Rust twin is given: the number, what is left, and the twin after it.
+/// What is expected of a push onto a history whose Rust twin is given: the number, what is left, and the twin after it. A
+/// lock, which the Rust has not, leaves the twin as it is.
 pub fn push(
     st: &State,
     twin: (&History, &Document),
@@ -243,10 +245,12 @@ pub fn push(
     if no != 0 {
         return kept(no);
     }
-    let op = e.op(list);
-    if op.is_empty() {
+    let edit = e.edit(list);
+    if edit.is_empty() {
         let (mut history, mut doc) = (twin.0.clone(), twin.1.clone());
-        assert_eq!(history.push(&mut doc, op), Ok(false));
+        if let Edit::Op(op) = edit {
+            assert_eq!(history.push(&mut doc, op), Ok(false));
+        }
         return kept(255);
     }
     let no = first(&[
@@ -256,13 +260,28 @@ pub fn push(
     if no != 0 {
         return kept(no);
     }
+    // "directly after 7"
+    if edit.recoloured().is_some_and(|i| st.sheet.is_locked(i)) {
+        return kept(24);
+    }
     let (mut history, mut doc) = (twin.0.clone(), twin.1.clone());
     doc.fixed = p.fixed();
-    match history.push(&mut doc, op) {
-        Err(told) => return kept(refusal(&told.0)),
-        Ok(pushed) => assert!(pushed),
-    }
-    let record = journal::record(history.next_undo().unwrap());
+    let record = match edit.clone() {
+        Edit::Op(op) => {
+            match history.push(&mut doc, op) {
+                Err(told) => return kept(refusal(&told.0)),
+                Ok(pushed) => assert!(pushed),
+            }
+            journal::record(history.next_undo().unwrap())
+        }
+        Edit::Lock { index, .. } if index >= st.sheet.k => return kept(7),
+        // the sheet's own mark is the old one
+        Edit::Lock { index, new, .. } => journal::record_of(&Edit::Lock {
+            index,
+            old: st.sheet.locks[index],
+            new,
+        }),
+    };
     let h = st.handle;
     let end = h.offset + record.len();
     if end > st.journal.len() {
@@ -270,6 +289,7 @@ pub fn push(
     }
     let mut after = st.clone();
     after.sheet = journal::shown(&doc, &st.sheet).expect("what a push makes is well-formed");
+    journal::marks_done(&mut after.sheet.locks, st.sheet.k, &edit);
     after.journal[h.offset..end].copy_from_slice(&record);
     after.handle = Handle {
         offset: end,
@@ -287,22 +307,30 @@ pub fn push(
 
 /// What is expected of `replay` of an edit on a sheet, and the sheet after it.
 pub fn replayed(s: &Sheet, p: &Permitted, e: &Flat, list: &[u64], scratch: usize) -> (u8, Sheet) {
-    let mut no = s.number(p.is_bad());
+    let mut no = s.marked_number(p.is_bad());
     if no == 0 {
         no = first(&[(21, list.len() > MAX_CHANGES), (16, scratch < s.w * s.h)]);
     }
     if no != 0 {
         return (no, s.clone());
     }
+    let edit = e.edit(list);
+    if edit.recoloured().is_some_and(|i| s.is_locked(i)) {
+        return (24, s.clone());
+    }
     let mut doc = journal::document(s);
     doc.fixed = p.fixed();
-    match doc.replay(&e.op(list)) {
-        Ok(()) => (
-            0,
-            journal::shown(&doc, s).expect("what a replay makes is well-formed"),
-        ),
-        Err(told) => (refusal(&told.0), s.clone()),
+    let no = match &edit {
+        Edit::Op(op) => doc.replay(op).err().map_or(0, |told| refusal(&told.0)),
+        Edit::Lock { index, .. } if *index >= s.k => 7,
+        Edit::Lock { index, old, .. } => first(&[(11, s.locks[*index] != *old)]),
+    };
+    if no != 0 {
+        return (no, s.clone());
     }
+    let mut after = journal::shown(&doc, s).expect("what a replay makes is well-formed");
+    journal::marks_done(&mut after.locks, s.k, &edit);
+    (0, after)
 }
 
 /// `replay` of an edit on a sheet.
@@ -322,6 +350,7 @@ pub fn replay(s: &Sheet, p: &Permitted, e: &Flat, list: &[u64], scratch: usize) 
         &mut s.palette,
         &mut s.lab,
         &mut s.indices,
+        &mut s.locks,
         p.limited,
         &p.list,
         &e.bytes,
@@ -335,13 +364,14 @@ pub fn replay(s: &Sheet, p: &Permitted, e: &Flat, list: &[u64], scratch: usize) 
     [expected, words(no, &s)]
 }
 
-// Document 01's ledger.
+// Document 01's ledger, whose pictures include the marks: document 02, E5.
 
 #[derive(Clone, PartialEq)]
 struct Picture {
     indices: Vec<i16>,
     palette: Vec<[u8; 3]>,
     lab: Vec<[u64; 3]>,
+    locks: Vec<bool>,
 }
 
 pub struct Ledger {
@@ -358,6 +388,7 @@ fn picture(s: &Sheet) -> Picture {
         indices: s.indices.clone(),
         palette: s.colours(),
         lab: s.lab[..3 * s.k].chunks_exact(3).map(triple).collect(),
+        locks: s.locks[..s.k].to_vec(),
     }
 }
 
@@ -383,10 +414,15 @@ impl Ledger {
     }
 
     /// The number of the first of a push's own checks that applies to the standing picture, or 0.
-    fn own_number(&self, p: &Permitted, op: &Op) -> u8 {
+    fn own_number(&self, p: &Permitted, edit: &Edit) -> u8 {
         let now = &self.pictures[self.standing];
         let k = now.palette.len();
         let permitted = |rgb: &[u8; 3]| p.fixed().is_none_or(|list| list.contains(rgb));
+        let locked = |index: usize| now.locks.get(index) == Some(&true);
+        let op = match edit {
+            Edit::Op(op) => op,
+            Edit::Lock { index, .. } => return first(&[(7, *index >= k)]),
+        };
         match op {
             Op::Pixels { changes, .. } => {
                 let wrong = |c: &PixelChange| {
@@ -397,10 +433,14 @@ impl Ledger {
                 };
                 changes.iter().map(wrong).find(|no| *no != 0).unwrap_or(0)
             }
-            Op::PaletteSet { index, new, .. } => first(&[(7, *index >= k), (10, !permitted(new))]),
+            Op::PaletteSet { index, new, .. } => first(&[
+                (7, *index >= k),
+                (24, locked(*index)),
+                (10, !permitted(new)),
+            ]),
             Op::PaletteAdd { rgb } => first(&[(8, k == 255), (10, !permitted(rgb))]),
             Op::PaletteRemove { index, remap, .. } => {
-                let no = first(&[(7, *index >= k), (9, k < 2)]);
+                let no = first(&[(7, *index >= k), (24, locked(*index)), (9, k < 2)]);
                 if no != 0 {
                     return no;
                 }
@@ -420,8 +460,15 @@ impl Ledger {
     }
 
     /// The picture that an accepted edit makes.
-    fn made(&self, op: &Op) -> Picture {
+    fn made(&self, edit: &Edit) -> Picture {
         let mut p = self.pictures[self.standing].clone();
+        let op = match edit {
+            Edit::Op(op) => op,
+            Edit::Lock { index, new, .. } => {
+                p.locks[*index] = *new;
+                return p;
+            }
+        };
         let paint = |p: &mut Picture, list: &[PixelChange]| {
             list.iter()
                 .for_each(|c| p.indices[c.y * self.w + c.x] = c.new as i16)
@@ -434,6 +481,7 @@ impl Ledger {
             Op::PaletteAdd { rgb } => {
                 p.palette.push(*rgb);
                 p.lab.push(lab_bits(*rgb));
+                p.locks.push(false);
             }
             Op::PaletteRemove { index, remap, .. } => {
                 paint(&mut p, remap);
@@ -443,29 +491,30 @@ impl Ledger {
                     .for_each(|i| *i -= 1);
                 p.palette.remove(*index);
                 p.lab.remove(*index);
+                p.locks.remove(*index);
             }
         }
         p
     }
 
-    pub fn push(&mut self, p: &Permitted, op: &Op) -> u8 {
-        let list = match op {
-            Op::Pixels { changes, .. } => changes.len(),
-            Op::PaletteRemove { remap, .. } => remap.len(),
+    pub fn push(&mut self, p: &Permitted, edit: &Edit) -> u8 {
+        let list = match edit {
+            Edit::Op(Op::Pixels { changes, .. }) => changes.len(),
+            Edit::Op(Op::PaletteRemove { remap, .. }) => remap.len(),
             _ => 0,
         };
         let no = first(&[(1, p.is_bad()), (21, list > MAX_CHANGES)]);
         if no != 0 {
             return no;
         }
-        let no = self.own_number(p, op);
+        let no = self.own_number(p, edit);
         if no != 0 {
             return no;
         }
-        if op.is_empty() {
+        if edit.is_empty() {
             return 255;
         }
-        let made = self.made(op);
+        let made = self.made(edit);
         self.pictures.truncate(self.standing + 1);
         self.saved = self.saved.filter(|s| *s <= self.standing);
         self.pictures.push(made);
@@ -509,7 +558,7 @@ impl Ledger {
 // Sessions.
 
 /// A list of changes that a push may take: mostly inside, news mostly of the palette.
-fn any_changes(s: &Sheet, n: usize, draw: &mut Draw) -> Vec<u64> {
+pub fn any_changes(s: &Sheet, n: usize, draw: &mut Draw) -> Vec<u64> {
     let bad = draw.once_in(5);
     let change = |draw: &mut Draw| {
         let wrong = if bad && draw.once_in(3) {
@@ -722,7 +771,7 @@ fn session(t: &mut Table, draw: &mut Draw) {
                 });
                 if no != 14 && no != 16 {
                     assert_eq!(
-                        ledger.push(&p, &e.op(&list)),
+                        ledger.push(&p, &e.edit(&list)),
                         no,
                         "the ledger's answer: {}",
                         about(&format!("{e:?} {list:x?}"))
@@ -1003,6 +1052,7 @@ fn limits(t: &mut Table, draw: &mut Draw) {
                     &mut s.palette,
                     &mut s.lab,
                     &mut s.indices,
+                    &mut s.locks,
                     false,
                     &[],
                     &add,
@@ -1022,6 +1072,7 @@ fn limits(t: &mut Table, draw: &mut Draw) {
                     &mut s.palette,
                     &mut s.lab,
                     &mut s.indices,
+                    &mut s.locks,
                     &journal,
                     &mut n,
                 ),
@@ -1034,6 +1085,7 @@ fn limits(t: &mut Table, draw: &mut Draw) {
                     &mut s.palette,
                     &mut s.lab,
                     &mut s.indices,
+                    &mut s.locks,
                     &journal,
                     &mut room,
                     &mut n,

@@ -1,5 +1,6 @@
 //! Document 01's journal, read from its text: the handle and when it is sound, the four forms of a record, and when a
-//! record is sound to undo or redo. What a sound step does to the sheet is the Rust's `revert` and `apply`.
+//! record is sound to undo or redo. What a sound step does to the sheet is the Rust's `revert` and `apply`. The record of a
+//! lock, and what a step does to the lock marks, are document 02's, E5, read from its text.
 
 use crate::sheet::*;
 use pixelforge::config::Config;
@@ -89,7 +90,17 @@ impl State {
     }
 }
 
-/// An edit's record.
+/// An edit's record: "kind 5, index, old mark, new mark, length, 8 bytes" of a lock.
+pub fn record_of(e: &Edit) -> Vec<u8> {
+    match e {
+        Edit::Op(op) => record(op),
+        Edit::Lock { index, old, new } => {
+            vec![5, *index as u8, u8::from(*old), u8::from(*new), 8, 0, 0, 0]
+        }
+    }
+}
+
+/// The record of one of the Rust's edits.
 pub fn record(op: &Op) -> Vec<u8> {
     let mut to = Vec::new();
     let changes = |to: &mut Vec<u8>, list: &[u64]| {
@@ -144,7 +155,7 @@ pub fn record(op: &Op) -> Vec<u8> {
 pub struct Read {
     pub start: usize,
     pub length: usize,
-    pub op: Op,
+    pub edit: Edit,
     pub count: usize,
     pub list: usize,
 }
@@ -154,13 +165,15 @@ fn four(b: &[u8], at: usize) -> Option<usize> {
     Some(u32::from_le_bytes(four.try_into().unwrap()) as usize)
 }
 
-/// The record at the front of some bytes, which start at `start` in the journal. Kind, count and length agree, or none.
+/// The record at the front of some bytes, which start at `start` in the journal. Kind, count and length agree, or none; "a
+/// recorded mark other than 0 or 1 gets 4".
 fn read(b: &[u8], start: usize) -> Option<Read> {
     let (count_at, fixed) = match *b.first()? {
         1 => (Some(2), 10),
         2 => (None, 36),
         3 => (None, 8),
         4 => (Some(29), 37),
+        5 => (None, 8),
         _ => return None,
     };
     let count = count_at.map_or(Some(0), |at| four(b, at))?;
@@ -184,29 +197,38 @@ fn read(b: &[u8], start: usize) -> Option<Read> {
         .chunks_exact(8)
         .map(|c| u64::from_le_bytes(c.try_into().unwrap()))
         .collect();
+    if b[0] == 5 && (b[2] > 1 || b[3] > 1) {
+        return None;
+    }
     let op = match b[0] {
-        1 => Op::Pixels {
+        5 => None,
+        1 => Some(Op::Pixels {
             tool: b[1].to_string(),
             changes: changes_of(&list),
-        },
-        2 => Op::PaletteSet {
+        }),
+        2 => Some(Op::PaletteSet {
             index: b[1].into(),
             old: rgb(2),
             new: rgb(5),
             old_lab: lab(8),
-        },
-        3 => Op::PaletteAdd { rgb: rgb(1) },
-        _ => Op::PaletteRemove {
+        }),
+        3 => Some(Op::PaletteAdd { rgb: rgb(1) }),
+        _ => Some(Op::PaletteRemove {
             index: b[1].into(),
             rgb: rgb(2),
             lab: lab(5),
             remap: changes_of(&list),
-        },
+        }),
+    };
+    let lock = Edit::Lock {
+        index: b[1].into(),
+        old: b[2] == 1,
+        new: b[3] == 1,
     };
     Some(Read {
         start,
         length,
-        op,
+        edit: op.map_or(lock, Edit::Op),
         count,
         list: start + list_at,
     })
@@ -273,21 +295,46 @@ pub fn shown(doc: &Document, before: &Sheet) -> Option<Sheet> {
     Some(s)
 }
 
-/// `can_revert` of document.rs, which is private there: the shape alone.
-fn can_revert(doc: &Document, op: &Op) -> bool {
+/// The marks after an edit is done on k entries: false "for an added entry", and "removal moves the marks with their
+/// entries". The last old entry's storage is left.
+pub fn marks_done(locks: &mut [bool], k: usize, e: &Edit) {
+    match e {
+        Edit::Op(Op::PaletteAdd { .. }) => locks[k] = false,
+        Edit::Op(Op::PaletteRemove { index, .. }) => locks.copy_within(index + 1..k, *index),
+        Edit::Op(_) => {}
+        Edit::Lock { index, new, .. } => locks[*index] = *new,
+    }
+}
+
+/// The marks after an edit is undone on k entries: false "for one brought back by undo".
+fn marks_undone(locks: &mut [bool], k: usize, e: &Edit) {
+    match e {
+        Edit::Op(Op::PaletteRemove { index, .. }) => {
+            locks.copy_within(*index..k, index + 1);
+            locks[*index] = false;
+        }
+        Edit::Op(_) => {}
+        Edit::Lock { index, old, .. } => locks[*index] = *old,
+    }
+}
+
+/// `can_revert` of document.rs, which is private there: the shape alone. That "of kind 5 asks for an index below k bearing
+/// the new mark".
+fn can_revert(doc: &Document, locks: &[bool], e: &Edit) -> bool {
     let k = doc.palette.len();
     let inside = |c: &pixelforge::editor::PixelChange| c.x < doc.width() && c.y < doc.height();
-    match op {
-        Op::Pixels { changes, .. } => changes.iter().all(inside),
-        Op::PaletteSet { index, .. } => *index < k,
-        Op::PaletteAdd { .. } => k > 0,
-        Op::PaletteRemove { index, remap, .. } => *index <= k && remap.iter().all(inside),
+    match e {
+        Edit::Op(Op::Pixels { changes, .. }) => changes.iter().all(inside),
+        Edit::Op(Op::PaletteSet { index, .. }) => *index < k,
+        Edit::Op(Op::PaletteAdd { .. }) => k > 0,
+        Edit::Op(Op::PaletteRemove { index, remap, .. }) => *index <= k && remap.iter().all(inside),
+        Edit::Lock { index, new, .. } => *index < k && locks[*index] == *new,
     }
 }
 
 /// 1 to 4, as undo and redo have them.
 fn entry_number(st: &State) -> u8 {
-    match st.sheet.number(st.journal.len() > MAX_JOURNAL) {
+    match st.sheet.marked_number(st.journal.len() > MAX_JOURNAL) {
         0 => first(&[(4, !st.handle.sound(st.journal.len()))]),
         no => no,
     }
@@ -308,13 +355,16 @@ pub fn undo(st: &State) -> (u8, State) {
     };
     let handle = back(st.handle, &r);
     let mut doc = document(&st.sheet);
-    if !handle.sound(st.journal.len()) || !can_revert(&doc, &r.op) {
+    if !handle.sound(st.journal.len()) || !can_revert(&doc, &st.sheet.locks, &r.edit) {
         return kept(4);
     }
-    doc.revert(&r.op);
-    let Some(sheet) = shown(&doc, &st.sheet) else {
+    if let Edit::Op(op) = &r.edit {
+        doc.revert(op);
+    }
+    let Some(mut sheet) = shown(&doc, &st.sheet) else {
         return kept(4);
     };
+    marks_undone(&mut sheet.locks, st.sheet.k, &r.edit);
     (
         0,
         State {
@@ -325,8 +375,19 @@ pub fn undo(st: &State) -> (u8, State) {
     )
 }
 
-/// What document 01 has redo answer with so much scratch, and what it leaves. The Rust's `apply` makes push's checks; 10 is
-/// left out, since the document has no list of colours.
+/// Whether an edit that was read passes push's checks, and if so what it does. The Rust's `apply` makes document 01's; 10
+/// is left out, since the document has no list of colours. Before it comes 24, and of a lock there is 7 alone.
+fn applies(doc: &mut Document, s: &Sheet, e: &mut Edit) -> bool {
+    if e.recoloured().is_some_and(|index| s.is_locked(index)) {
+        return false;
+    }
+    match e {
+        Edit::Op(op) => doc.apply(op).is_ok(),
+        Edit::Lock { index, .. } => *index < s.k,
+    }
+}
+
+/// What document 01 has redo answer with so much scratch, and what it leaves.
 pub fn redo(st: &State, scratch: usize) -> (u8, State) {
     let kept = |no: u8| (no, st.clone());
     let no = entry_number(st);
@@ -344,10 +405,14 @@ pub fn redo(st: &State, scratch: usize) -> (u8, State) {
     };
     let handle = forth(st.handle, &r);
     let mut doc = document(&st.sheet);
-    if !handle.sound(st.journal.len()) || r.count > MAX_CHANGES || doc.apply(&mut r.op).is_err() {
+    if !handle.sound(st.journal.len())
+        || r.count > MAX_CHANGES
+        || !applies(&mut doc, &st.sheet, &mut r.edit)
+    {
         return kept(4);
     }
-    let sheet = shown(&doc, &st.sheet).expect("what push's checks accept is well-formed");
+    let mut sheet = shown(&doc, &st.sheet).expect("what push's checks accept is well-formed");
+    marks_done(&mut sheet.locks, st.sheet.k, &r.edit);
     (
         0,
         State {

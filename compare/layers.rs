@@ -53,6 +53,7 @@ impl Lent {
             palette: part(&mut palettes, STORAGE, i + 1 == count),
             lab: part(&mut labs, STORAGE, i + 1 == count),
             indices: part(&mut indices, c[0].saturating_mul(c[1]), i + 1 == count),
+            locks: unlocked(c[2]),
         };
         self.sizes.chunks_exact(3).enumerate().map(layer).collect()
     }
@@ -730,6 +731,7 @@ struct Twin {
 /// Ours: the layers' buffers, a journal and a palette count with a handle for each.
 struct Ours {
     lent: Lent,
+    locks: Vec<Vec<bool>>,
     journals: Vec<Vec<u8>>,
     states: Vec<[usize; 6]>,
 }
@@ -747,9 +749,16 @@ macro_rules! part {
 }
 
 /// All that all layers have, so that a call on one is seen to leave the others.
-fn told_all(no: u8, lent: &Lent, states: &[[usize; 6]], journals: &[Vec<u8>]) -> Vec<u64> {
+fn told_all(
+    no: u8,
+    lent: &Lent,
+    locks: &[Vec<bool>],
+    states: &[[usize; 6]],
+    journals: &[Vec<u8>],
+) -> Vec<u64> {
     let mut words = vec![no.into()];
     words.extend(lent.words());
+    flags(&mut words, &locks.concat());
     sizes(&mut words, &states.concat());
     bytes(&mut words, &journals.concat());
     words
@@ -759,7 +768,8 @@ fn expected_all(no: u8, twins: &[Twin]) -> Vec<u64> {
     let layers: Vec<Sheet> = twins.iter().map(|t| t.st.sheet.clone()).collect();
     let states: Vec<[usize; 6]> = twins.iter().map(|t| t.st.numbers()).collect();
     let journals: Vec<Vec<u8>> = twins.iter().map(|t| t.st.journal.clone()).collect();
-    told_all(no, &Lent::of(&layers), &states, &journals)
+    let locks: Vec<Vec<bool>> = layers.iter().map(|s| s.locks.clone()).collect();
+    told_all(no, &Lent::of(&layers), &locks, &states, &journals)
 }
 
 /// One symbol, call by call.
@@ -786,6 +796,7 @@ fn session(t: &mut Table, draw: &mut Draw) {
         |twins: &[Twin]| -> Vec<Sheet> { twins.iter().map(|t| t.st.sheet.clone()).collect() };
     let mut ours = Ours {
         lent: Lent::of(&sheets(&twins)),
+        locks: twins.iter().map(|t| t.st.sheet.locks.clone()).collect(),
         journals: twins.iter().map(|t| t.st.journal.clone()).collect(),
         states: twins.iter().map(|t| t.st.numbers()).collect(),
     };
@@ -802,7 +813,11 @@ fn session(t: &mut Table, draw: &mut Draw) {
         };
         let (earlier, twin) = (twins[i].st.sheet.clone(), &mut twins[i]);
         let (palette, lab, indices) = part!(ours, i, n);
-        let (journal, state) = (&mut ours.journals[i], &mut ours.states[i]);
+        let (locks, journal, state) = (
+            &mut ours.locks[i],
+            &mut ours.journals[i],
+            &mut ours.states[i],
+        );
         let mut room = vec![BYTE; scratch];
         let name;
         let (no, told) = match draw.below(10) {
@@ -818,14 +833,14 @@ fn session(t: &mut Table, draw: &mut Draw) {
                 }
                 if no != 14 && no != 16 {
                     assert_eq!(
-                        twin.ledger.push(&p, &e.op(&list)),
+                        twin.ledger.push(&p, &e.edit(&list)),
                         no,
                         "the ledger's answer"
                     );
                 }
                 let told = call_push(
-                    w, h, palette, lab, indices, p.limited, &p.list, &e.bytes, e.index, &e.lab,
-                    &list, journal, &mut room, state,
+                    w, h, palette, lab, indices, locks, p.limited, &p.list, &e.bytes, e.index,
+                    &e.lab, &list, journal, &mut room, state,
                 );
                 (no, told)
             }
@@ -835,7 +850,8 @@ fn session(t: &mut Table, draw: &mut Draw) {
                 twin.st = after;
                 assert_eq!(twin.history.undo(&mut twin.doc), no == 0, "the Rust's undo");
                 assert_eq!(twin.ledger.undo(), no, "the ledger's undo");
-                (no, call_undo(w, h, palette, lab, indices, journal, state))
+                let told = call_undo(w, h, palette, lab, indices, locks, journal, state);
+                (no, told)
             }
             7..=8 => {
                 name = "redo on a layer";
@@ -845,7 +861,9 @@ fn session(t: &mut Table, draw: &mut Draw) {
                     assert_eq!(twin.history.redo(&mut twin.doc), no == 0, "the Rust's redo");
                     assert_eq!(twin.ledger.redo(), no, "the ledger's redo");
                 }
-                let told = call_redo(w, h, palette, lab, indices, journal, &mut room, state);
+                let told = call_redo(
+                    w, h, palette, lab, indices, locks, journal, &mut room, state,
+                );
                 (no, told)
             }
             _ => {
@@ -858,7 +876,7 @@ fn session(t: &mut Table, draw: &mut Draw) {
         };
         ours.lent.sizes[3 * i + 2] = ours.states[i][0];
         let expected = expected_all(no, &twins);
-        let all = told_all(told, &ours.lent, &ours.states, &ours.journals);
+        let all = told_all(told, &ours.lent, &ours.locks, &ours.states, &ours.journals);
         t.tell(name, &expected, &all, || {
             format!("layer {i} of {count}: {}", earlier.about())
         });

@@ -72,6 +72,7 @@ pub fn opened(b: &[u8]) -> Result<Open, u8> {
         palette: over(colours, STORAGE, 0),
         lab: over(&pixelforge::color::rgb8_to_lab(colours), STORAGE, 0.0),
         indices: Vec::new(),
+        locks: vec![false; MARKS],
     };
     let index = |&i: &u8| if i == 0xff { -1 } else { i16::from(i) };
     sheet.indices = b[6 + 3 * k..].iter().map(index).collect();

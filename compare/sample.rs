@@ -1,5 +1,5 @@
 //! The lines that the program `test_sample` must print. Its inputs are dealt from seeds, here as in crates/test_inputs and crates/test_sample,
-//! and the answers are the ones that the comparison expects: document 01's checks, the Rust, and E3's distances.
+//! and the answers are the ones that the comparison expects: document 01's checks, the Rust, E3's distances and E5's locks.
 
 use crate::drawn;
 use crate::histories;
@@ -134,7 +134,7 @@ fn side(x: u64) -> usize {
 }
 
 fn kind(x: u64) -> u8 {
-    pick(x, 4) as u8 + 1
+    pick(x, 5) as u8 + 1
 }
 
 fn index(x: u64) -> i16 {
@@ -170,6 +170,10 @@ fn indices_of(seed: u64, k: usize, n: usize) -> Vec<i16> {
     dealt(seed, n, |x| pick(x, k + 1) as i16 - 1)
 }
 
+fn locks_of(seed: u64) -> Vec<bool> {
+    dealt(seed, MARKS, |x| once_in(x, 2))
+}
+
 fn change(x: u64) -> u64 {
     let field = |n: u64| if n == 3 { 0xffff } else { n };
     (x >> 11 & 0x0003_0003) | field(x >> 31 & 3) << 32 | field(x >> 41 & 3) << 48
@@ -202,6 +206,22 @@ fn sheet(d: &Deck, (w, h): (usize, usize)) -> Sheet {
         palette,
         lab,
         indices,
+        locks: locks_of(d[9]),
+    }
+}
+
+/// An edit of the kind, with the tool, the entry, the colours or the marks that are dealt.
+fn flat(kind: u8, d: &Deck) -> Flat {
+    let rgb = colour(d);
+    let (old, new) = if kind == 5 {
+        (once_in(d[26], 2).into(), once_in(d[27], 2).into())
+    } else {
+        (d[25] as u8, rgb[0])
+    };
+    Flat {
+        bytes: [kind, d[24] as u8, old, 0, 0, new, rgb[1], rgb[2]],
+        index: pick(d[20], 4),
+        lab: [0.0; 3],
     }
 }
 
@@ -261,6 +281,7 @@ fn over_sheet(c: usize, d: &Deck) -> Vec<u64> {
                 palette: bytes_of(d[12], STORAGE),
                 lab: Vec::new(),
                 indices: indices_of(d[25], k, 6),
+                locks: Vec::new(),
             };
             sheets::diff_mask(case, &base, 7)
         }
@@ -313,7 +334,7 @@ fn over_sheet(c: usize, d: &Deck) -> Vec<u64> {
         _ => tiled::mirror_tiles(
             case,
             a,
-            !once_in(d[29], 40),
+            !once_in(d[29], 12),
             size,
             &dealt(d[25], 2, change),
             6,
@@ -343,20 +364,7 @@ fn loose(c: usize, d: &Deck) -> Vec<u64> {
     let (w, h) = (side(d[8]), side(d[9]));
     let (x, y) = (coordinate(d[19]), coordinate(d[20]));
     let rgb = colour(d);
-    let edit = Flat {
-        bytes: [
-            kind(d[23]),
-            d[24] as u8,
-            d[25] as u8,
-            0,
-            0,
-            rgb[0],
-            rgb[1],
-            rgb[2],
-        ],
-        index: pick(d[20], 4),
-        lab: [0.0; 3],
-    };
+    let edit = flat(kind(d[23]), d);
     let list = |seed: u64, n: usize| dealt(seed, n, change);
     let normal = || list_of(&normalize(changes_of(&list(d[25], 4))));
     let [expected, _] = match c {
@@ -442,15 +450,9 @@ fn told(no: u8, st: &State) -> Vec<u64> {
 
 /// One call of a history, after which the state is what is expected.
 fn step(c: usize, d: &Deck, st: &mut State) -> Vec<u64> {
-    if once_in(d[29], 40) {
+    if once_in(d[29], 12) {
         st.journal[pick(d[30], 120)] = d[25] as u8;
     }
-    let rgb = colour(d);
-    let flat = |kind: u8| Flat {
-        bytes: [kind, d[24] as u8, d[25] as u8, 0, 0, rgb[0], rgb[1], rgb[2]],
-        index: pick(d[20], 4),
-        lab: [0.0; 3],
-    };
     let p = permitted(d, once_in(d[28], 3));
     let [expected, _] = match c {
         45 => {
@@ -458,15 +460,15 @@ fn step(c: usize, d: &Deck, st: &mut State) -> Vec<u64> {
             let list = if kind == 4 {
                 let (from, into) = (pick(d[20], 4), pick(d[21], 4));
                 match rust_palette::merge_entries(&journal::document(&st.sheet), from, into) {
-                    Ok(op) => flat_of(&op).3,
-                    Err(_) => Vec::new(),
+                    Ok(op) if !st.sheet.is_locked(from) => flat_of(&op).3,
+                    _ => Vec::new(),
                 }
             } else {
                 dealt(d[25], pick(d[24], 5), change)
             };
             let doc = journal::document(&st.sheet);
             let (no, after, _) =
-                histories::push(st, (&History::new(), &doc), &p, &flat(kind), &list, 6);
+                histories::push(st, (&History::new(), &doc), &p, &flat(kind, d), &list, 6);
             *st = after;
             return told(no, st);
         }
@@ -494,7 +496,8 @@ fn step(c: usize, d: &Deck, st: &mut State) -> Vec<u64> {
         54 => histories::applied(st, pick(d[21], 4)),
         _ => {
             let list = dealt(d[25], 2, change);
-            let (no, after) = histories::replayed(&st.sheet, &p, &flat(kind(d[23])), &list, 6);
+            let edit = flat(kind(d[23]), d);
+            let (no, after) = histories::replayed(&st.sheet, &p, &edit, &list, 6);
             st.sheet = after;
             return told(no, st);
         }
@@ -504,8 +507,10 @@ fn step(c: usize, d: &Deck, st: &mut State) -> Vec<u64> {
 
 fn history(seed: u64) {
     let d = deck(seed);
+    let mut opened = sheet(&d, (3, 2));
+    opened.locks[..opened.k].fill(false);
     let mut st = State {
-        sheet: sheet(&d, (3, 2)),
+        sheet: opened,
         journal: bytes_of(d[14], 120),
         handle: Handle::FRESH,
     };

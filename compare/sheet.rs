@@ -8,6 +8,8 @@ use pixelforge::pyjson::Json;
 
 pub const STORAGE: usize = 765;
 pub const MAX_CHANGES: usize = 1_048_576;
+/// Lock marks of a sheet: document 02, E5.
+pub const MARKS: usize = 255;
 
 // What buffers hold before a call.
 pub const WORD: u64 = 0x5a5a_5a5a_5a5a_5a5a;
@@ -37,6 +39,7 @@ pub struct Sheet {
     pub palette: Vec<u8>,
     pub lab: Vec<f64>,
     pub indices: Vec<i16>,
+    pub locks: Vec<bool>,
 }
 
 impl Sheet {
@@ -70,6 +73,26 @@ impl Sheet {
         first(&[(2, self.is_stray()), (3, self.is_unfit())])
     }
 
+    /// The same in a call that takes the marks, which holds their length to number 1, too.
+    pub fn marked_number(&self, bad: bool) -> u8 {
+        self.number(bad || self.locks.len() != MARKS)
+    }
+
+    /// Whether 24 applies to an entry that is there.
+    pub fn is_locked(&self, index: usize) -> bool {
+        index < self.k && self.locks[index]
+    }
+
+    /// The same sheet with any marks, now and then too many or too few.
+    pub fn with_any_locks(mut self, draw: &mut Draw) -> Sheet {
+        let n = match draw.below(40) {
+            0 => draw.from(&[0, 1, MARKS - 1, MARKS + 1]),
+            _ => MARKS,
+        };
+        self.locks = any_locks(n, draw);
+        self
+    }
+
     pub fn image(&self) -> IndexImage {
         IndexImage {
             indices: self.indices.iter().map(|&i| i64::from(i)).collect(),
@@ -93,6 +116,7 @@ impl Sheet {
     pub fn same(&self, other: &Sheet) -> bool {
         self.palette == other.palette
             && self.indices == other.indices
+            && self.locks == other.locks
             && self
                 .lab
                 .iter()
@@ -105,14 +129,21 @@ impl Sheet {
         bytes(to, &self.palette);
         doubles(to, &self.lab);
         indices(to, &self.indices);
+        flags(to, &self.locks);
     }
 
     pub fn about(&self) -> String {
         let few: Vec<i16> = self.indices.iter().copied().take(16).collect();
         let lens = (self.palette.len(), self.lab.len(), self.indices.len());
+        let locked: Vec<usize> = (0..self.k.min(self.locks.len()))
+            .filter(|&i| self.locks[i])
+            .collect();
         format!(
-            "{} x {}, k {}, lengths {lens:?}, indices {few:?}",
-            self.w, self.h, self.k
+            "{} x {}, k {}, lengths {lens:?}, indices {few:?}, locked {locked:?} of {}",
+            self.w,
+            self.h,
+            self.k,
+            self.locks.len()
         )
     }
 }
@@ -169,6 +200,10 @@ pub fn doubles(to: &mut Vec<u64>, from: &[f64]) {
 
 pub fn indices(to: &mut Vec<u64>, from: &[i16]) {
     to.extend(from.iter().map(|&x| x as u16 as u64));
+}
+
+pub fn flags(to: &mut Vec<u64>, from: &[bool]) {
+    to.extend(from.iter().map(|&x| u64::from(x)));
 }
 
 pub fn halves(to: &mut Vec<u64>, from: &[i32]) {
@@ -258,7 +293,33 @@ pub fn far(z: i32) -> bool {
     !(-65_536..=65_536).contains(&z)
 }
 
-/// An edit flat: kind, tool, old and new colour; index; LAB.
+/// An edit: one of the Rust's, or document 02's lock, which the Rust has not.
+#[derive(Clone)]
+pub enum Edit {
+    Op(Op),
+    Lock { index: usize, old: bool, new: bool },
+}
+
+impl Edit {
+    pub fn is_empty(&self) -> bool {
+        match self {
+            Edit::Op(op) => op.is_empty(),
+            Edit::Lock { .. } => false,
+        }
+    }
+
+    /// The entry that is set or removed: "set and remove of a locked entry are refused".
+    pub fn recoloured(&self) -> Option<usize> {
+        match self {
+            Edit::Op(Op::PaletteSet { index, .. } | Op::PaletteRemove { index, .. }) => {
+                Some(*index)
+            }
+            _ => None,
+        }
+    }
+}
+
+/// An edit flat: kind, tool, old and new colour; index; LAB. A lock's marks stand where the colours' reds do.
 #[derive(Clone, Copy, Debug)]
 pub struct Flat {
     pub bytes: [u8; 8],
@@ -267,7 +328,18 @@ pub struct Flat {
 }
 
 impl Flat {
-    pub fn op(&self, list: &[u64]) -> Op {
+    pub fn edit(&self, list: &[u64]) -> Edit {
+        match self.bytes[0] {
+            5 => Edit::Lock {
+                index: self.index,
+                old: self.bytes[2] != 0,
+                new: self.bytes[5] != 0,
+            },
+            _ => Edit::Op(self.op(list)),
+        }
+    }
+
+    fn op(&self, list: &[u64]) -> Op {
         let [kind, tool, a, b, c, d, e, f] = self.bytes;
         match kind {
             1 => Op::Pixels {
@@ -328,6 +400,18 @@ pub fn flat_of(op: &Op) -> ([u8; 8], [f64; 3], [usize; 5], Vec<u64>) {
     (b, f, r, list)
 }
 
+/// The same of any edit.
+pub fn flat_of_edit(e: &Edit) -> ([u8; 8], [f64; 3], [usize; 5], Vec<u64>) {
+    match e {
+        Edit::Op(op) => flat_of(op),
+        Edit::Lock { index, old, new } => {
+            let mut b = BYTES;
+            (b[0], b[2], b[5]) = (5, u8::from(*old), u8::from(*new));
+            (b, DOUBLES, numbers(&[*index]), Vec::new())
+        }
+    }
+}
+
 /// Document 01's number for what the Rust says when it refuses.
 pub fn refusal(told: &str) -> u8 {
     let words = [
@@ -348,6 +432,17 @@ pub fn refusal(told: &str) -> u8 {
 }
 
 // Sheets to compare over.
+
+/// Marks of which none of k entries has one, past them any: sheets that the Rust can show.
+pub fn unlocked(k: usize) -> Vec<bool> {
+    (0..MARKS).map(|i| i >= k && i % 3 != 1).collect()
+}
+
+/// Any marks.
+pub fn any_locks(n: usize, draw: &mut Draw) -> Vec<bool> {
+    let seldom = draw.from(&[2, 3, 5]);
+    (0..n).map(|_| draw.once_in(seldom)).collect()
+}
 
 /// Storage of k distinct colours and their LAB; past them whatever, no numbers among it.
 fn storage(k: usize, draw: &mut Draw) -> (Vec<u8>, Vec<f64>) {
@@ -399,6 +494,7 @@ fn sheets_of(past: usize) -> Vec<Sheet> {
                 palette,
                 lab,
                 indices,
+                locks: unlocked(k),
             });
         }
     }
@@ -420,6 +516,7 @@ pub fn good(w: usize, h: usize, k: usize, draw: &mut Draw) -> Sheet {
         palette,
         lab,
         indices,
+        locks: unlocked(k),
     }
 }
 

@@ -18,16 +18,31 @@ pub fn check(c: &Case) -> Pair {
     [vec![c.no.into()], vec![sheet!(call_check, s,).into()]]
 }
 
+/// The marks after an opening: "false at opening", those of the k entries.
+fn opened(s: &Sheet, no: u8) -> Vec<bool> {
+    let mut locks = s.locks.clone();
+    if no == 0 {
+        locks[..s.k].fill(false);
+    }
+    locks
+}
+
 pub fn with_lab(c: &Case) -> Pair {
     let s = &c.sheet;
-    [vec![c.no.into()], vec![sheet!(call_with_lab, s,).into()]]
+    let no = s.marked_number(false);
+    let mut expected = vec![no.into()];
+    flags(&mut expected, &opened(s, no));
+    let mut locks = s.locks.clone();
+    let mut ours = vec![sheet!(call_with_lab, s, &mut locks).into()];
+    flags(&mut ours, &locks);
+    [expected, ours]
 }
 
 /// LAB storage is written over, so 3 is no check of it.
 pub fn new_sheet(c: &Case) -> Pair {
     let s = &c.sheet;
     let mut lab = s.lab.clone();
-    let mut no = u8::from(s.is_bad());
+    let mut no = u8::from(s.is_bad() || s.locks.len() != MARKS);
     if no == 0 {
         match new(s) {
             Some(doc) => lab[..3 * s.k].copy_from_slice(&doc.palette_lab),
@@ -36,9 +51,12 @@ pub fn new_sheet(c: &Case) -> Pair {
     }
     let mut expected = vec![no.into()];
     doubles(&mut expected, &lab);
-    let mut lab = s.lab.clone();
-    let mut ours = vec![call_new(s.w, s.h, s.k, &s.palette, &mut lab, &s.indices).into()];
+    flags(&mut expected, &opened(s, no));
+    let (mut lab, mut locks) = (s.lab.clone(), s.locks.clone());
+    let no = call_new(s.w, s.h, s.k, &s.palette, &mut lab, &s.indices, &mut locks);
+    let mut ours = vec![no.into()];
     doubles(&mut ours, &lab);
+    flags(&mut ours, &locks);
     [expected, ours]
 }
 
@@ -484,7 +502,7 @@ pub fn is_empty(e: &Flat, list: &[u64]) -> Pair {
     let expected = if list.len() > MAX_CHANGES {
         vec![21, R[0] as u64]
     } else {
-        vec![0, e.op(list).is_empty().into()]
+        vec![0, e.edit(list).is_empty().into()]
     };
     let mut r = R;
     let no = call_is_empty(&e.bytes, e.index, &e.lab, list, &mut r);
@@ -493,7 +511,10 @@ pub fn is_empty(e: &Flat, list: &[u64]) -> Pair {
 
 pub fn kind(e: &Flat) -> Pair {
     let names = ["pixels", "palette_set", "palette_add", "palette_remove"];
-    let expected = names.iter().position(|n| *n == e.op(&[]).kind()).unwrap() as u64 + 1;
+    let expected = match e.edit(&[]) {
+        Edit::Op(op) => names.iter().position(|n| *n == op.kind()).unwrap() as u64 + 1,
+        Edit::Lock { .. } => 5,
+    };
     [
         vec![0, expected],
         vec![0, call_kind(&e.bytes, e.index, &e.lab).into()],
@@ -633,9 +654,21 @@ fn op_or_number(
     }
 }
 
+/// The number so far of a call that takes the marks, with 24 of an entry where there is none before it.
+fn with_lock(s: &Sheet, no: u8, index: usize) -> u8 {
+    if s.locks.len() != MARKS {
+        1
+    } else if no == 0 && s.is_locked(index) {
+        24
+    } else {
+        no
+    }
+}
+
 pub fn set_color(c: &Case, p: &Permitted, index: usize, rgb: [u8; 3]) -> Pair {
     let s = &c.sheet;
     let (no, doc) = with_permitted(c, p);
+    let no = with_lock(s, no, index);
     let (no, op) = op_or_number(
         no,
         || rust_palette::set_color(doc.as_ref().unwrap(), index, rgb),
@@ -646,6 +679,7 @@ pub fn set_color(c: &Case, p: &Permitted, index: usize, rgb: [u8; 3]) -> Pair {
     let no = sheet!(
         call_set_color,
         s,
+        &s.locks,
         p.limited,
         &p.list,
         index,
@@ -726,7 +760,7 @@ fn removed(
 pub fn remove_entry(c: &Case, index: usize, out: usize) -> Pair {
     let s = &c.sheet;
     let (no, op) = op_or_number(
-        c.no,
+        with_lock(s, c.no, index),
         || rust_palette::remove_entry(c.doc(), index),
         |_| none_other(c, index),
     );
@@ -748,6 +782,7 @@ pub fn remove_entry(c: &Case, index: usize, out: usize) -> Pair {
     let no = sheet!(
         call_remove_entry,
         s,
+        &s.locks,
         index,
         &mut list,
         &mut b,
@@ -765,11 +800,14 @@ pub fn merge_entries(c: &Case, from: usize, into: usize, out: usize) -> Pair {
         || rust_palette::merge_entries(c.doc(), from, into),
         |e| refusal(&e.0),
     );
+    // "after 18 in a merge": of the entry that goes
+    let no = with_lock(s, no, from);
     let expected = with_edit(no, out, true, || op.unwrap());
     let (mut list, mut b, mut f, mut r) = (vec![WORD; out], BYTES, DOUBLES, R);
     let no = sheet!(
         call_merge_entries,
         s,
+        &s.locks,
         from,
         into,
         &mut list,

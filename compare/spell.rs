@@ -201,6 +201,7 @@ fn sheet_of(w: usize, h: usize, k: usize, draw: &mut Draw) -> Sheet {
         palette: (0..STORAGE).map(|_| draw.next() as u8).collect(),
         lab: (0..STORAGE).map(|_| draw.number()).collect(),
         indices: (0..w * h).map(|_| draw.below(few) as i16 - 1).collect(),
+        locks: unlocked(k),
     };
     if w * h > 0 && k > 0 && k <= 255 {
         let at = draw.below(w * h);

@@ -16,6 +16,7 @@ MOVED, REPLAYED, MARKED, HANDLE = map(Struct, ['Moved', 'Replayed', 'Marked', 'H
 TYPES = {
     # the sheet
     'n': 'usize', 'w': 'usize', 'h': 'usize', 'k': 'usize', 'palette': 'u8', 'lab': 'f64', 'indices': 'i16',
+    'locks': 'bool',
     # an edit and the history
     'no': 'u8', 'edit': Enum('Edit'), 'kind': Enum('ListKind'), 'replay': Bool(), 'limited': Bool(), 'permitted': 'u8',
     'list': 'Change', 'journal': 'u8', 'offset': 'usize', 'handle': Struct('Handle'), 'marks': 'u8',
@@ -26,7 +27,8 @@ TYPES = {
     'on': Bool(), 't': 'usize', 'flat': 'u64', 'more': 'u64', 'scratch': 'u64', 'out': 'Change',
 }
 SHEET = 'w, h, k, &[palette], &[lab], &[indices]'
-LENT_SHEET = 'w, h, &mut k, &mut [palette], &mut [lab], &mut [indices]'
+DOCUMENT = SHEET + ', &[locks]'
+LENT_DOCUMENT = 'w, h, &mut k, &mut [palette], &mut [lab], &mut [indices], &mut [locks]'
 EDIT = 'limited, &[permitted], edit, &[list]'
 
 
@@ -70,16 +72,17 @@ sheet specs Sheet sheetOf
 edit specs Change as flat
 edit specs List listOf emptyPixels
 edit specs Checks permittedOf leftChecks
-edit specs Apply redone restDone
 edit_pixels specs Inside bare
 edit_checks specs Marks Checkable MarksFor
 edit_list specs Paintable Paintable
-edit_apply specs Redoable Redoable Finishable
+edit_locks specs Movable Redoable
+edit_apply specs Redoable Finishable
 journal_write specs List Puttable
 struct_change specs Struct packedOf
 struct_edit specs Walk packedAll flatAll walkedOf putUpto paintUpto checkUpto markUpto
 history_ledger specs Journal pushOf pushed undoOf redoOf markOf
 history_ledger specs Calls Outcome
+history_model specs Document documentOf documentDone
 history_model specs Editing givenOf editing
 history_model specs Calls stateOf leaves Standing Acceptable outcomeOf
 history_model specs Replay replayChecks replayed replayOf
@@ -268,10 +271,11 @@ palette_remove specs Removal remapped replaced removeEntryOf mergeEntriesOf
 struct_palette specs Scratch removalCount removedCount needingRemap
 '''
 REMAP = 'needingRemap (length scratch) (length indices) (%s)'
-tool('struct_palette::removing::remove_entry', 'struct_palette::removing::remove_entry_in', 'index: usize',
-     REMOVED, 'replaced', REMAP % ('removeEntryOf %s index' % S), keeps=False, using=REMOVALS)
-tool('struct_palette::removing::merge_entries', 'struct_palette::removing::merge_entries_in', 'old: usize, new: usize',
-     REMOVAL, 'remapped', REMAP % ('mergeEntriesOf %s old new' % S), keeps=False, using=REMOVALS)
+tool('struct_palette::removing::remove_entry', 'struct_palette::removing::remove_entry_in', '&[locks], index: usize',
+     REMOVED, 'replaced', REMAP % ('removeEntryOf %s locks index' % S), keeps=False, using=REMOVALS)
+tool('struct_palette::removing::merge_entries', 'struct_palette::removing::merge_entries_in',
+     '&[locks], old: usize, new: usize', REMOVAL, 'remapped', REMAP % ('mergeEntriesOf %s locks old new' % S), keeps=False,
+     using=REMOVALS)
 
 
 # ---- lists that are read, too: packed into flat, and their core's list unpacked
@@ -454,29 +458,29 @@ struct_mirror proofs Laying read-fits pack-fits read-front read-off read-judged 
          ' scratch, and that is unpacked into out; a list that is not is copied into out.')
 
 
-# ---- the state: sheet, journal and handle
-def sheet(now, k='k'):
-    return '(sheetOf w h %s %s)' % (k, ' '.join(x + now for x in ('palette', 'lab', 'indices')))
+# ---- the state: sheet and marks, journal and handle
+def document(now, k='k'):
+    return '(documentOf w h %s %s)' % (k, ' '.join(x + now for x in ('palette', 'lab', 'indices', 'locks')))
 
 
 def state(now, k='k', handle='handle', journal=None):
-    return '(stateOf %s %s %s)' % (sheet(now, k), journal or 'journal' + now, handle)
+    return '(stateOf %s %s %s)' % (document(now, k), journal or 'journal' + now, handle)
 
 
 GIVEN = '(givenOf limited permitted edit (packedAll list))'
 STATE, CALLED = state(''), state('-now', 'count', 'held')
-COUNT = sheet('-now', 'count')
+D, COUNT = document(''), document('-now', 'count')
 
 
 def stepping(name, path, own, said, end, also=None):
     """`undo` and `redo`: what the call by value leaves is stored."""
     lends = ', give scratch' if 'scratch' in own else ''
-    function('struct_history::moving::' + name, parameters(LENT_SHEET, '&[journal], &mut handle',
+    function('struct_history::moving::' + name, parameters(LENT_DOCUMENT, '&[journal], &mut handle',
         *([own] if own else [])), ANSWER,
-             said % ('leavesLent r w h k′ palette′ lab′ indices′ journal handle′ ≡ %s %s'
+             said % ('leavesLent r w h k′ palette′ lab′ indices′ locks′ journal handle′ ≡ %s %s'
                      % (('redoOf editing (length scratch)' if lends else 'undoOf editing'), STATE)),
-             [Call('Step', path, 'w, h, *k, give palette, give lab, give indices, journal, *handle' + lends, MOVED,
-                   'leavesLent (r .answer) w h (r .k) palette′ lab′ indices′ journal (r .handle) ≡ %s %s'
+             [Call('Step', path, 'w, h, *k, give palette, give lab, give indices, give locks, journal, *handle' + lends, MOVED,
+                   'leavesLent (r .answer) w h (r .k) palette′ lab′ indices′ locks′ journal (r .handle) ≡ %s %s'
                    % (('redoOf editing (length scratch-now)' if lends else 'undoOf editing'),
                       state('-now', 'k-now', 'handle-now', 'journal')),
                    to='s', also=also),
@@ -498,17 +502,17 @@ function('struct_history::moving::mark_saved', parameters('&[journal], &mut hand
          ' returned is stored, and the borrow is closed at it.')
 
 # ---- `replay`
-REPLAYED_AS = 'replayed (r .answer) (sheetOf w h (r .k) palette′ lab′ indices′) ≡ doneOr %s %s %s'
-REDONE = '(redone labOf %s edit (flatAll list))'
+REPLAYED_AS = 'replayed (r .answer) (documentOf w h (r .k) palette′ lab′ indices′ locks′) ≡ doneOr %s %s %s'
+REDONE = '(documentDone labOf %s edit (flatAll list))'
 REPLAY_WORDS = STATE_WORDS + words('''
-edit_apply proofs Redoing redoable-finishes
-history_replay specs Steps ReplayBegun doneOr
-history_replay proofs Replaying replay-is
+edit_apply proofs Redoing redoable-paints
+history_replay specs Steps ReplayBegun restOf doneOr
+history_replay proofs Replaying replay-finishes replay-is
 struct_edit proofs Told told-length
 struct_replay proofs Listed list-asks left-asks numbered paints-ask redone-list
 ''')
 PERMITTED = '(permittedOf limited permitted)'
-NAMED_SHEET = parameters('no, w, k, &mut [palette], &mut [lab], &mut [indices], edit, &[list]')
+NAMED_SHEET = parameters('no, w, k, &mut [palette], &mut [lab], &mut [indices], &mut [locks], edit, &[list]')
 
 
 def kind_of():
@@ -537,28 +541,38 @@ def checking(first, replay, why):
                 why=why)
 
 
+def finishes(no, k, now):
+    return ('{0} ≡ 0 → Finishable {1} (length palette{2}) (length lab{2}) edit × Redoable {1} (length locks{2}) edit'
+            .format(no, k, now))
+
+
+def redoes(no, k, now):
+    return '(%s ≡ 0 → Paintable (listOf edit) w (length indices%s) (flatAll list)) × (%s)' % (
+        no, now, finishes(no, k, now))
+
+
 function('struct_replay::op::redo_list', NAMED_SHEET, REPLAYED, '(h : ℕ) → ' + REPLAYED_AS
-         % ('no', S, REDONE % S),
+         % ('no', D, REDONE % D),
          [Len('n', 'list'), kind_of(), walked(),
-          painting('paints-ask w k palette lab indices edit list r₁ e₁ no r₂ e₂ fit'),
-          Call('Finishing', 'history_replay::finish_replay', 'no, k, give palette, give lab, give indices, edit',
-               REPLAYED, '(w h : ℕ) → ' + REPLAYED_AS % ('no', sheet('-now'), '(restDone labOf %s edit)' % sheet('-now')),
-               to='', asked='no ≡ 0 → Finishable k (length palette-now) (length lab-now) edit',
-               why='λ z. redoable-finishes edit (fit z)')],
-         'λ (h : ℕ). e₄ w h ∙ redone-list w k palette lab indices edit list r₁ e₁ no r₂ e₂ h %s e₃' % last(3, 1),
-         fit='no ≡ 0 → Redoable w k palette lab indices edit (flatAll list)', uses=REPLAY_WORDS,
+          painting('paints-ask w k palette lab indices locks edit list r₁ e₁ no r₂ e₂ (fit .0)'),
+          Call('Finishing', 'history_replay::finish_replay', 'no, k, give palette, give lab, give indices, give locks,'
+               ' edit', REPLAYED,
+               '(w h : ℕ) → ' + REPLAYED_AS % ('no', document('-now'), '(restOf %s edit)' % document('-now')),
+               to='', asked=finishes('no', 'k', '-now'), why='fit .1')],
+         'λ (h : ℕ). e₄ w h ∙ redone-list w k palette lab indices locks edit list r₁ e₁ no r₂ e₂ h %s e₃' % last(3, 1),
+         fit=redoes('no', 'k', ''), uses=REPLAY_WORDS,
          story='The indices are lent to the loop, and then the storage is given to the last step.')
 
-ALL = ('(length marks) w h k palette lab indices %s edit list r₁ e₁ r₂ %s (e₂ (flatAll list) (told-length list))'
-       % (PERMITTED, last(2, 10)))
-function('struct_replay::op::replay_no', parameters(SHEET, EDIT, '&mut [marks]'), Uint('u8'),
-         'r ≡ firstOf (replayChecks (length marks) %s %s edit (flatAll list))' % (S, PERMITTED),
+ALL = ('(length marks) w h k palette lab indices locks %s edit list r₁ e₁ r₂ %s (e₂ (flatAll list) (told-length list))'
+       % (PERMITTED, last(2, 11)))
+function('struct_replay::op::replay_no', parameters(DOCUMENT, EDIT, '&mut [marks]'), Uint('u8'),
+         'r ≡ firstOf (replayChecks (length marks) %s %s edit (flatAll list))' % (D, PERMITTED),
          [Len('n', 'list'), kind_of(),
-          Call('Opening', 'history_replay::open_replay', 'w, h, k, palette, lab, indices, limited, permitted, edit,'
-               ' n, lend marks', Uint('u8'),
+          Call('Opening', 'history_replay::open_replay', 'w, h, k, palette, lab, indices, locks, limited, permitted,'
+               ' edit, n, lend marks', Uint('u8'),
                '(cs : List flat.Change) → length cs ≡ n → ReplayBegun (length marks-now) %s %s edit cs r marks′'
-               % (S, PERMITTED), to='opened'),
-          checking('opened', 'true', 'list-asks %s (length %s) (l₂-marks)' % (ALL, last(2, 10))),
+               % (D, PERMITTED), to='opened'),
+          checking('opened', 'true', 'list-asks %s (length %s) (l₂-marks)' % (ALL, last(2, 11))),
           Call('Leaving', 'history_replay::left_after', 'checked, edit, w, h, indices, share marks', Uint('u8'),
                '(cs : List flat.Change) → (checked ≡ 0 → MarksFor (listOf edit) w (w * h) cs marks-now) → r ≡ orElse'
                ' checked (firstOf (leftChecks (bare w h 0 indices) (listOf edit) cs))', to='',
@@ -567,43 +581,43 @@ function('struct_replay::op::replay_no', parameters(SHEET, EDIT, '&mut [marks]')
          'numbered %s r₃ %s e₃ l₂-marks r₄ e₄' % (ALL, last(3, 7)),
          uses=REPLAY_WORDS, story='The marks are lent to each step.')
 
-function('struct_replay::op::replay', parameters(LENT_SHEET, EDIT, '&mut [scratch: u8]'), ANSWER,
-         '(replayed r (sheetOf w h k′ palette′ lab′ indices′) ≡ replayOf (length scratch) %s %s edit (flatAll list)) ×'
-         ' (length scratch′ ≡ length scratch)'
-         % (S, PERMITTED),
+function('struct_replay::op::replay', parameters(LENT_DOCUMENT, EDIT, '&mut [scratch: u8]'), ANSWER,
+         '(replayed r (documentOf w h k′ palette′ lab′ indices′ locks′) ≡ replayOf (length scratch) %s %s edit (flatAll'
+         ' list)) × (length scratch′ ≡ length scratch)' % (D, PERMITTED),
          [Deref('count', 'k'),
           Call('Numbering', 'struct_replay::op::replay_no',
-               'w, h, count, share palette, share lab, share indices, limited, permitted, edit, list, lend scratch',
+               'w, h, count, share palette, share lab, share indices, share locks, limited, permitted, edit, list,'
+               ' lend scratch',
                Uint('u8'),
                'r ≡ firstOf (replayChecks (length scratch-now) %s %s edit (flatAll list))' % (COUNT, PERMITTED),
                to='number'),
           Call('Redoing', 'struct_replay::op::redo_list', 'number, w, count, give palette, give lab, give indices,'
-               ' edit, list', REPLAYED,
+               ' give locks, edit, list', REPLAYED,
                '(h : ℕ) → ' + REPLAYED_AS % ('number', COUNT, REDONE % COUNT), to='s',
-               asked='number ≡ 0 → Redoable w count palette-now lab-now indices-now edit (flatAll list)',
-               why='λ z. redoable (length scratch) w h k palette lab indices %s edit (flatAll list) (sym e₁ ∙ z)'
-               % PERMITTED),
+               asked=redoes('number', 'count', '-now'),
+               why='(λ z. redoable-paints edit (redoable {0} (sym e₁ ∙ z))), λ z. replay-finishes {0} (sym e₁ ∙ z)'
+               .format('(length scratch) w h k palette lab indices locks %s edit (flatAll list)' % PERMITTED)),
           Store('k', 'k'), Give('answer')],
-         '(e₂ h ∙ replay-is (length scratch) %s %s edit (flatAll list) r₁ e₁, l₁-scratch)' % (S, PERMITTED),
+         '(e₂ h ∙ replay-is (length scratch) %s %s edit (flatAll list) r₁ e₁, l₁-scratch)' % (D, PERMITTED),
          uses=REPLAY_WORDS,
-         story="The palette count's borrow is opened and the count copied out; the sheet is lent as `&` for its"
-         " checks and then given.")
+         story="The palette count's borrow is opened and the count copied out; sheet and marks are lent as `&`"
+         " for the checks and then given.")
 
 # ---- `push`
 PUSH_WORDS = STATE_WORDS + words('''
 struct_push_checks proofs Listed list-asks settle-asks numbered
 struct_push proofs Carrying puts-ask paints-ask finish-asks carried-out
 ''')
-ALL = ('(length marks) w h k palette lab indices journal handle limited permitted edit list r₁ e₁ r₂ %s (e₂ (packedAll list)'
-       ' (length-map list packedOf))' % last(2, 12))
-function('struct_push_checks::push_no', parameters(SHEET, EDIT, '&[journal], handle, &mut [marks]'), Uint('u8'),
+ALL = ('(length marks) w h k palette lab indices locks journal handle limited permitted edit list r₁ e₁ r₂ %s (e₂ (packedAll'
+       ' list) (length-map list packedOf))' % last(2, 13))
+function('struct_push_checks::push_no', parameters(DOCUMENT, EDIT, '&[journal], handle, &mut [marks]'), Uint('u8'),
          'PushNumbered (length marks) %s %s r' % (STATE, GIVEN),
          [Len('n', 'list'), Len('size', 'journal'), Field('offset', 'handle', 'offset'), kind_of(),
-          Call('Beginning', 'history_push_checks::begin', 'w, h, k, palette, lab, indices, limited, permitted, edit, n,'
-               ' journal, handle, lend marks',
+          Call('Beginning', 'history_push_checks::begin', 'w, h, k, palette, lab, indices, locks, limited, permitted,'
+               ' edit, n, journal, handle, lend marks',
                Uint('u8'), '(ns : List ℕ) → length ns ≡ n → Begun (length marks-now) %s (givenOf limited permitted edit'
                ' ns) r marks′' % STATE, to='begun'),
-          checking('begun', 'false', 'list-asks %s (length %s) (l₂-marks)' % (ALL, last(2, 12))),
+          checking('begun', 'false', 'list-asks %s (length %s) (l₂-marks)' % (ALL, last(2, 13))),
           Call('Settling', 'history_push_checks::settle', 'checked, edit, n, w, h, indices, share marks, size, offset',
                Uint('u8'),
                '(cs : List flat.Change) → (checked ≡ 0 → MarksFor (listOf edit) w (w * h) cs marks-now) → r ≡ orElse'
@@ -617,8 +631,8 @@ function('struct_push_checks::push_no', parameters(SHEET, EDIT, '&[journal], han
 
 
 def carried(no, at):
-    return ('(limited : Bool) (permitted : List ℕ) → leaves r w h palette′ lab′ indices′ journal′ ≡ pushedOr {0} (isStill'
-            ' {2}) {1} (pushed editing {1} {2})'.format(no, at, GIVEN))
+    return ('(limited : Bool) (permitted : List ℕ) → leaves r w h palette′ lab′ indices′ locks′ journal′ ≡ pushedOr {0}'
+            ' (isStill {2}) {1} (pushed editing {1} {2})'.format(no, at, GIVEN))
 
 
 def carries(no, at):
@@ -626,9 +640,10 @@ def carries(no, at):
             ' {1} edit (flatAll list))'.format(no, at))
 
 
-EACH = 'w h k palette lab indices journal handle edit list r₁ e₁ no r₂ e₂ (fit .0) (fit .1)'
+EACH = 'w h k palette lab indices locks journal handle edit list r₁ e₁ no r₂ e₂ (fit .0) (fit .1)'
 function('struct_push::recording::carry_out',
-         parameters('no, w, h, k, &mut [palette], &mut [lab], &mut [indices], edit, &[list], &mut [journal], handle'),
+         parameters('no, w, h, k, &mut [palette], &mut [lab], &mut [indices], &mut [locks], edit, &[list], &mut [journal],'
+                    ' handle'),
          MOVED, carried('no', STATE),
          [Len('n', 'list'), Field('offset', 'handle', 'offset'), kind_of(), walked(),
           Call('Writing', 'struct_edit::put_list', 'kind, lend journal, offset, share indices, w, list, m', Unit(),
@@ -637,34 +652,34 @@ function('struct_push::recording::carry_out',
                ' (flatAll list))', why='puts-ask %s' % EACH),
           painting('paints-ask %s' % EACH),
           Call('Finishing', 'history_push::finish',
-               'no, k, give palette, give lab, give indices, edit, n, give journal, handle', MOVED,
-               '(w h : ℕ) → leaves r w h palette′ lab′ indices′ journal′ ≡ pushedOr no (emptyPixels (listOf edit) n) {0}'
-               ' (finished {0} edit n)'.format(state('-now')),
-               to='', asked='no ≡ 0 → emptyPixels (listOf edit) n ≡ false → Finishes k palette-now lab-now journal-now'
-               ' handle edit n', why='finish-asks %s %s (l₃-journal)' % (EACH, last(3, 1)))],
+               'no, k, give palette, give lab, give indices, give locks, edit, n, give journal, handle', MOVED,
+               '(w h : ℕ) → leaves r w h palette′ lab′ indices′ locks′ journal′ ≡ pushedOr no (emptyPixels (listOf edit)'
+               ' n) {0} (finished {0} edit n)'.format(state('-now')),
+               to='', asked='no ≡ 0 → emptyPixels (listOf edit) n ≡ false → Finishes k palette-now lab-now locks-now'
+               ' journal-now handle edit n', why='finish-asks %s %s (l₃-journal)' % (EACH, last(3, 1)))],
          'λ (limited : Bool) (permitted : List ℕ). e₅ w h ∙ carried-out %s limited permitted %s %s e₄ e₃'
          % (EACH, last(4, 1), last(3, 1)),
          fit=carries('no', STATE), uses=PUSH_WORDS, story='Journal and indices are lent to the loops, and then given'
          ' to the last step.')
 
 function('struct_push::recording::push',
-         parameters(LENT_SHEET, EDIT, '&mut [journal], &mut handle, &mut [scratch: u8]'), ANSWER,
-         '(leavesLent r w h k′ palette′ lab′ indices′ journal′ handle′ ≡ pushOf editing (length scratch) %s %s) × (length'
-         ' scratch′ ≡ length scratch)' % (STATE, GIVEN),
+         parameters(LENT_DOCUMENT, EDIT, '&mut [journal], &mut handle, &mut [scratch: u8]'), ANSWER,
+         '(leavesLent r w h k′ palette′ lab′ indices′ locks′ journal′ handle′ ≡ pushOf editing (length scratch) %s %s) ×'
+         ' (length scratch′ ≡ length scratch)' % (STATE, GIVEN),
          [Deref('count', 'k'), Deref('held', 'handle'),
           Call('Numbering', 'struct_push_checks::push_no',
-               'w, h, count, share palette, share lab, share indices, limited, permitted, edit, list, share journal,'
-               ' held, lend scratch',
+               'w, h, count, share palette, share lab, share indices, share locks, limited, permitted, edit, list,'
+               ' share journal, held, lend scratch',
                Uint('u8'), 'PushNumbered (length scratch-now) %s %s r' % (CALLED, GIVEN), to='number'),
           Call('Carrying', 'struct_push::recording::carry_out',
-               'number, w, h, count, give palette, give lab, give indices, edit, list, give journal, held', MOVED,
+               'number, w, h, count, give palette, give lab, give indices, give locks, edit, list, give journal, held', MOVED,
                carried('number', CALLED), to='s',
                asked=carries('number', CALLED), why='(λ z. e₁ .stands z), λ z t. e₁ .fine z t'),
           Store('k', 'k'), Store('handle', 'handle'), Give('answer')],
          '(e₂ limited permitted ∙ push-is (length scratch) %s %s r₁ (e₁ .value), l₁-scratch)' % (STATE, GIVEN),
          uses=PUSH_WORDS,
-         story='The borrows of palette count and handle are opened and both copied out; sheet and journal are lent as'
-         ' `&` for the checks and then given.')
+         story='The borrows of palette count and handle are opened and both copied out; sheet, marks and journal'
+         ' are lent as `&` for the checks and then given.')
 
 # ---- the example: palette count, handle and list are locals, which are lent
 EXAMPLE = STATE_WORDS + words('''
@@ -677,46 +692,50 @@ example_structs proofs Drawn drawn-fits drawn-is
 ''')
 
 
-def small(k, now=''):
-    return '(sheetOf 6 4 %s %s)' % (k, ' '.join(x + now for x in ('palette', 'lab', 'indices')))
+def small(k, now='', of='sheetOf', own=()):
+    return '(%s 6 4 %s %s)' % (of, k, ' '.join(x + now for x in ('palette', 'lab', 'indices', *own)))
+
+
+def marked(k, now=''):
+    return small(k, now, 'documentOf', ['locks'])
 
 
 PENCIL = 'pencilCall %s area points 1 (pos 1) %s'
 PUSHED = 'pushOf editing (length marks) (stateOf %s journal handle) (givenOf false permitted edit %s)'
 MAKING = 'r ≡ movedOf answer colors held'
-LEAVES = 'leaves r 6 4 palette′ lab′ indices′ journal′ ≡ '
+LEAVES = 'leaves r 6 4 palette′ lab′ indices′ locks′ journal′ ≡ '
 function(
     'example_structs::lent::recorded',
-    parameters('k, &mut [palette], &mut [lab], &mut [indices], &[permitted], edit, &[list], &mut [journal], handle, &mut'
-               ' [marks]'), MOVED, LEAVES + PUSHED % (small('k'), '(packedAll list)'),
+    parameters('k, &mut [palette], &mut [lab], &mut [indices], &mut [locks], &[permitted], edit, &[list], &mut [journal],'
+               ' handle, &mut [marks]'), MOVED, LEAVES + PUSHED % (marked('k'), '(packedAll list)'),
     [Let('colors', 'k'), Let('held', 'handle'),
      Call('Pushing', 'editor::structs::push', '6usize, 4usize, &mut colors, give palette, give lab, give indices,'
-          ' false, permitted, edit, list, give journal, &mut held, give marks', ANSWER,
-          '(leavesLent r 6 4 colors′ palette′ lab′ indices′ journal′ held′ ≡ pushOf editing (length marks-now)'
+          ' give locks, false, permitted, edit, list, give journal, &mut held, give marks', ANSWER,
+          '(leavesLent r 6 4 colors′ palette′ lab′ indices′ locks′ journal′ held′ ≡ pushOf editing (length marks-now)'
           ' (stateOf %s journal-now held-now) (givenOf false permitted edit (packedAll list))) × (length marks′ ≡'
-          ' length marks-now)' % small('colors-now', '-now'), to='answer'),
+          ' length marks-now)' % marked('colors-now', '-now'), to='answer'),
      Call('Making', 'example_structs::lent::moved', 'answer, colors, held', MOVED, MAKING, to='')],
-    'ap (λ (m : Moved). leaves m 6 4 %s %s %s %s) e₂ ∙ e₁ .0' % (last(1, 3), last(1, 4), last(1, 5), last(1, 10)),
+    'ap (λ (m : Moved). leaves m 6 4 %s %s %s %s %s) e₂ ∙ e₁ .0' % tuple(last(1, i) for i in (3, 4, 5, 6, 11)),
     uses=EXAMPLE, story='Palette count and handle are put into locals, which are lent to push.')
 function(
     'example_structs::lent::stroke',
-    parameters('k, &mut [palette], &mut [lab], &mut [indices], area, &[points], &mut [scratch], &[permitted], edit,'
-               ' &mut [journal], handle, &mut [marks]'), MOVED,
-    LEAVES + PUSHED % (small('k'), '(changesOf (%s blanks))' % (PENCIL % (small('k'), '(length scratch)'))),
+    parameters('k, &mut [palette], &mut [lab], &mut [indices], &mut [locks], area, &[points], &mut [scratch],'
+               ' &[permitted], edit, &mut [journal], handle, &mut [marks]'), MOVED,
+    LEAVES + PUSHED % (marked('k'), '(changesOf (%s blanks))' % (PENCIL % (small('k'), '(length scratch)'))),
     [Call('Blank', 'example_structs::lent::blank', '', Array('Change', 24), 'r ≡ replicate 24 noChange', to='list'),
      Call('Drawing', 'editor::structs::pencil', '6usize, 4usize, k, share palette, share lab, share indices, area,'
           ' points, 1usize, 1i16, give scratch, &mut list', COUNTED,
           '(filled r (map packedOf list′) ≡ %s (map packedOf list-now)) × (length scratch′ ≡ length scratch-now)'
           % (PENCIL % (small('k', '-now'), '(length scratch-now)')), to='drawn'),
      Call('Counting', 'example_structs::lent::count', 'drawn', USIZE, 'r ≡ countOf drawn', to='n'),
-     Call('Recording', 'example_structs::lent::recorded', 'k, give palette, give lab, give indices, permitted, edit,'
-          ' front list n, give journal, handle, give marks', MOVED,
+     Call('Recording', 'example_structs::lent::recorded', 'k, give palette, give lab, give indices, give locks, permitted,'
+          ' edit, front list n, give journal, handle, give marks', MOVED,
           LEAVES + 'pushOf editing (length marks-now) (stateOf %s journal-now handle) (givenOf false permitted edit'
-          ' (packedAll list-now))' % small('k', '-now'), to='',
+          ' (packedAll list-now))' % marked('k', '-now'), to='',
           fits='subst (λ (l : List Change). r₃ ≤ length l) e₁ (drawn-fits %s area points 1 (pos 1) (length scratch) r₂'
           ' (map packedOf %s) r₁ r₃ (e₂ .0) e₃)' % (small('k'), last(2, 11)))],
     'e₄ ∙ ap (λ (ns : List ℕ). {0}) (drawn-is ({1}) r₂ {2} r₁ (replicate 24 noChange) r₃ (e₂ .0) e₃ e₁)'
-    .format(PUSHED % (small('k'), 'ns'), PENCIL % (small('k'), '(length scratch)'), last(2, 11)), uses=EXAMPLE,
+    .format(PUSHED % (marked('k'), 'ns'), PENCIL % (small('k'), '(length scratch)'), last(2, 11)), uses=EXAMPLE,
     story='The list is a local array, which is lent: the whole array to the pencil, and as much of it as the pencil'
     ' filled to `recorded`.')
 
@@ -724,19 +743,19 @@ function(
 def lent(name, call, own, by, also=None):
     """`undone` and `redone`: palette count and handle are lent for one call."""
     now = by.replace('(length marks)', '(length marks-now)')
-    said = 'leavesLent r 6 4 colors′ palette′ lab′ indices′ journal held′ ≡ %s (stateOf %s journal held-now)' % (
-        now, small('colors-now', '-now'))
+    said = 'leavesLent r 6 4 colors′ palette′ lab′ indices′ locks′ journal held′ ≡ %s (stateOf %s journal held-now)' % (
+        now, marked('colors-now', '-now'))
     function(
         'example_structs::lent::' + name,
-        parameters('k, &mut [palette], &mut [lab], &mut [indices], &[journal], handle', *own), MOVED,
-        'leaves r 6 4 palette′ lab′ indices′ journal ≡ %s (stateOf %s journal handle)' % (by, small('k')),
+        parameters('k, &mut [palette], &mut [lab], &mut [indices], &mut [locks], &[journal], handle', *own), MOVED,
+        'leaves r 6 4 palette′ lab′ indices′ locks′ journal ≡ %s (stateOf %s journal handle)' % (by, marked('k')),
         [Let('colors', 'k'), Let('held', 'handle'),
          Call('Step', 'editor::structs::' + call,
-              '6usize, 4usize, &mut colors, give palette, give lab, give indices, journal, &mut held'
+              '6usize, 4usize, &mut colors, give palette, give lab, give indices, give locks, journal, &mut held'
               + (', give marks' if own else ''), ANSWER, '(%s)%s' % (said, also) if also else said, to='answer'),
          Call('Making', 'example_structs::lent::moved', 'answer, colors, held', MOVED, MAKING, to='')],
-        'ap (λ (m : Moved). leaves m 6 4 {0} {1} {2} journal) e₂ ∙ e₁{3}'
-        .format(last(1, 3), last(1, 4), last(1, 5), ' .0' if also else ''), uses=EXAMPLE,
+        'ap (λ (m : Moved). leaves m 6 4 {0} {1} {2} {3} journal) e₂ ∙ e₁{4}'
+        .format(*(last(1, i) for i in (3, 4, 5, 6)), ' .0' if also else ''), uses=EXAMPLE,
         story='Palette count and handle are put into locals, which are lent for the call; what it leaves in them is'
         ' returned.')
 

@@ -70,3 +70,7 @@ unreadFrame = 22
 -- document 02, E1
 abbrev pub layersDiffer : ℕ
 layersDiffer = 23
+
+-- document 02, E5
+abbrev pub entryLocked : ℕ
+entryLocked = 24

@@ -100,6 +100,9 @@ pub const UNREAD_FRAME: u8 = 22;
 // Document 02, E1.
 pub const LAYERS_DIFFER: u8 = 23;
 
+// Document 02, E5.
+pub const ENTRY_LOCKED: u8 = 24;
+
 // A colour of the palette: three bytes of sRGB.
 pub struct Rgb {
     pub r: u8,
@@ -174,6 +177,12 @@ pub enum Edit {
         index: usize,
         rgb: Rgb,
         lab: Lab,
+    },
+    // An entry locked or unlocked: document 02, E5.
+    PaletteLock {
+        index: usize,
+        old: bool,
+        new: bool,
     },
 }
 

@@ -47,6 +47,7 @@ pub extern "C" fn call_push(
     palette: &mut [u8],
     lab: &mut [f64],
     indices: &mut [i16],
+    locks: &mut [bool],
     limited: bool,
     permitted: &[u8],
     bytes: &[u8; 8],
@@ -71,6 +72,7 @@ pub extern "C" fn call_push(
             palette,
             lab,
             indices,
+            locks,
             limited,
             permitted,
             edit,
@@ -90,13 +92,14 @@ pub extern "C" fn call_undo(
     palette: &mut [u8],
     lab: &mut [f64],
     indices: &mut [i16],
+    locks: &mut [bool],
     journal: &[u8],
     state: &mut [usize; 6],
 ) -> u8 {
     let k = state[0];
     let handle = handle_of(state);
     tell_moved(
-        history::undo(w, h, k, palette, lab, indices, journal, handle),
+        history::undo(w, h, k, palette, lab, indices, locks, journal, handle),
         state,
     )
 }
@@ -108,6 +111,7 @@ pub extern "C" fn call_redo(
     palette: &mut [u8],
     lab: &mut [f64],
     indices: &mut [i16],
+    locks: &mut [bool],
     journal: &[u8],
     scratch: &mut [u8],
     state: &mut [usize; 6],
@@ -115,7 +119,18 @@ pub extern "C" fn call_redo(
     let k = state[0];
     let handle = handle_of(state);
     tell_moved(
-        history::redo(w, h, k, palette, lab, indices, journal, handle, scratch),
+        history::redo(
+            w,
+            h,
+            k,
+            palette,
+            lab,
+            indices,
+            locks,
+            journal,
+            handle,
+            scratch,
+        ),
         state,
     )
 }
@@ -207,6 +222,7 @@ pub extern "C" fn call_replay(
     palette: &mut [u8],
     lab: &mut [f64],
     indices: &mut [i16],
+    locks: &mut [bool],
     limited: bool,
     permitted: &[u8],
     bytes: &[u8; 8],
@@ -228,6 +244,7 @@ pub extern "C" fn call_replay(
         palette,
         lab,
         indices,
+        locks,
         limited,
         permitted,
         edit,

@@ -54,6 +54,7 @@ pub extern "C" fn call_set_color(
     palette: &[u8],
     lab: &[f64],
     indices: &[i16],
+    locks: &[bool],
     limited: bool,
     permitted: &[u8],
     index: usize,
@@ -70,6 +71,7 @@ pub extern "C" fn call_set_color(
             palette,
             lab,
             indices,
+            locks,
             limited,
             permitted,
             index,
@@ -178,6 +180,7 @@ pub extern "C" fn call_remove_entry(
     palette: &[u8],
     lab: &[f64],
     indices: &[i16],
+    locks: &[bool],
     index: usize,
     list: &mut [u64],
     bytes: &mut [u8; 8],
@@ -186,7 +189,7 @@ pub extern "C" fn call_remove_entry(
     away: &mut [f64; 1],
 ) -> u8 {
     tell_removed(
-        palette::remove_entry(w, h, k, palette, lab, indices, index, list),
+        palette::remove_entry(w, h, k, palette, lab, indices, locks, index, list),
         bytes,
         doubles,
         r,
@@ -202,6 +205,7 @@ pub extern "C" fn call_merge_entries(
     palette: &[u8],
     lab: &[f64],
     indices: &[i16],
+    locks: &[bool],
     from: usize,
     into: usize,
     list: &mut [u64],
@@ -210,7 +214,7 @@ pub extern "C" fn call_merge_entries(
     r: &mut [usize; 5],
 ) -> u8 {
     tell_removal(
-        palette::merge_entries(w, h, k, palette, lab, indices, from, into, list),
+        palette::merge_entries(w, h, k, palette, lab, indices, locks, from, into, list),
         bytes,
         doubles,
         r,

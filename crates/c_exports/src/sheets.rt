@@ -32,8 +32,9 @@ pub extern "C" fn call_with_lab(
     palette: &[u8],
     lab: &[f64],
     indices: &[i16],
+    locks: &mut [bool],
 ) -> u8 {
-    sheet::with_lab(w, h, k, palette, lab, indices).number()
+    sheet::with_lab(w, h, k, palette, lab, indices, locks).number()
 }
 
 #[no_mangle]
@@ -44,8 +45,9 @@ pub extern "C" fn call_new(
     palette: &[u8],
     lab: &mut [f64],
     indices: &[i16],
+    locks: &mut [bool],
 ) -> u8 {
-    sheet::new(w, h, k, palette, lab, indices).number()
+    sheet::new(w, h, k, palette, lab, indices, locks).number()
 }
 
 #[no_mangle]

@@ -49,13 +49,13 @@ pub fn area_of(whole: bool, s: &[u16; 4]) -> Area {
 // What a wrapper returns for a kind that no edit has: none of document 01's numbers.
 pub const NO_EDIT: u8 = 254;
 
-// Whether the bytes are an edit's: of a kind from 1 to 4. Each wrapper asks it before `edit_of`.
+// Whether the bytes are an edit's: of a kind from 1 to 5. Each wrapper asks it before `edit_of`.
 pub fn is_edit(bytes: &[u8; 8]) -> bool {
     let kind = bytes[0];
-    1 <= kind && kind <= 4
+    1 <= kind && kind <= 5
 }
 
-// An edit: kind, tool, old colour and new colour in bytes; its index; its LAB.
+// An edit: kind, tool, old colour and new colour in bytes; its index; its LAB. A lock's marks stand where the colours' reds do.
 pub fn edit_of(bytes: &[u8; 8], index: usize, doubles: &[f64; 3]) -> Edit {
     let kind = bytes[0];
     let old = Rgb {
@@ -82,10 +82,17 @@ pub fn edit_of(bytes: &[u8; 8], index: usize, doubles: &[f64; 3]) -> Edit {
     if kind == 3 {
         return Edit::PaletteAdd { rgb: new };
     }
-    Edit::PaletteRemove {
+    if kind == 4 {
+        return Edit::PaletteRemove {
+            index,
+            rgb: old,
+            lab: lab_of(doubles),
+        };
+    }
+    Edit::PaletteLock {
         index,
-        rgb: old,
-        lab: lab_of(doubles),
+        old: bytes[2] != 0,
+        new: bytes[5] != 0,
     }
 }
 
@@ -105,6 +112,10 @@ fn tell_new(c: Rgb, bytes: &mut [u8; 8]) {
     bytes[5] = c.r;
     bytes[6] = c.g;
     bytes[7] = c.b;
+}
+
+fn byte_of(mark: bool) -> u8 {
+    if mark { 1 } else { 0 }
 }
 
 // The edit as `edit_of` reads it, its index in r[0].
@@ -134,6 +145,12 @@ pub fn tell_edit(e: Edit, bytes: &mut [u8; 8], doubles: &mut [f64; 3], r: &mut [
             bytes[0] = 4;
             tell_old(rgb, bytes);
             tell_lab(lab, doubles);
+            r[0] = index;
+        }
+        Edit::PaletteLock { index, old, new } => {
+            bytes[0] = 5;
+            bytes[2] = byte_of(old);
+            bytes[5] = byte_of(new);
             r[0] = index;
         }
     }

@@ -111,7 +111,8 @@ pub fn is_empty(edit: Edit, list: &[u64]) -> Truth
     Truth::Is(edit::is_empty(list_of(edit), list.len()))
 }
 
-// The journal's kind of an edit: 1 "pixels", 2 "palette_set", 3 "palette_add", 4 "palette_remove".
+// The journal's kind of an edit: 1 "pixels", 2 "palette_set", 3 "palette_add", 4 "palette_remove", and document 02's 5, a
+// lock.
 pub fn kind(edit: Edit) -> u8
     ensures { λ r. ⌜ r ≡ kindOf edit ⌝ }
 {
@@ -129,5 +130,10 @@ pub fn kind(edit: Edit) -> u8
             rgb: _,
             lab: _,
         } => 4,
+        Edit::PaletteLock {
+            index: _,
+            old: _,
+            new: _,
+        } => 5,
     }
 }

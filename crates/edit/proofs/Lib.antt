@@ -13,3 +13,4 @@ pub mod Again
 pub mod Numbers
 pub mod Typed
 pub mod Recorded
+pub mod Locks

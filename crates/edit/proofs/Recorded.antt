@@ -1,12 +1,12 @@
 -- What the list of a recorded edit holds is in range: places on the sheet, and olds and news among its indices. Assumes nothing.
 use mathlib.Core.Path.{_≡_, subst, _∙_}
-use mathlib.Core.Bool.{false}
+use mathlib.Core.Bool.{Bool, false}
 use mathlib.Core.List.{List, map}
 use Rattle.base.specs.Lists.{some}
 use Rattle.sheet.specs.Sheet.{Sheet, stray}
 use Rattle.sheet.specs.Checks.{WellFormed}
 use Rattle.base.specs.declared.Edit.{Edit}
-use Rattle.base.specs.declared.Edit.the-variants.{Pixels, PaletteSet, PaletteAdd, PaletteRemove}
+use Rattle.base.specs.declared.Edit.the-variants.{Pixels, PaletteSet, PaletteAdd, PaletteRemove, PaletteLock}
 use Rattle.edit.specs.Change.{Change, outside, newOf, oldOf, filledIn}
 use Rattle.edit.specs.Checks.{Permitted}
 use Rattle.edit.specs.declared.ListKind.{ListKind}
@@ -46,7 +46,8 @@ unfolding filledChanges filledList
 list-fits s (Pixels tool) cs f a = filled-recorded s cs f (a .inside) (a .in-range)
 list-fits s (PaletteSet i old new lab) cs f a = tt
 list-fits s (PaletteAdd c) cs f a = tt
+list-fits s (PaletteLock i old new) cs f a = tt
 list-fits s (PaletteRemove i c lab) cs f a = subst (Recorded s) (a .remap .filled) (filled-recorded s cs f (a .remap .inside) (a .remap .in-range))
 
-pub recorded-list : {s : Sheet} {p : Permitted} {e : Edit} {cs : List Change} → Accepted s p e cs → ListFits s (listOf e) (filledChanges s e cs)
-recorded-list {s} {p} {e} {cs} a = list-fits s e cs (a .fits) (passed false s p e cs (a .unrefused))
+pub recorded-list : {s : Sheet} {locks : List Bool} {p : Permitted} {e : Edit} {cs : List Change} → Accepted s locks p e cs → ListFits s (listOf e) (filledChanges s e cs)
+recorded-list {s} {locks} {p} {e} {cs} a = list-fits s e cs (a .fits) (passed false s locks p e cs (a .unrefused))

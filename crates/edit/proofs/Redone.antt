@@ -1,6 +1,6 @@
 -- An accepted edit makes a well-formed sheet, which shows the picture that the ledger appends. Assumes nothing.
 use mathlib.Core.Path.{_≡_, refl, _∙_}
-use mathlib.Core.Bool.{false}
+use mathlib.Core.Bool.{Bool, false}
 use mathlib.Core.List.{List}
 use Prim.Native.Nat.{suc, _-_, _*_}
 use native.Mathlib.Omega.{arith}
@@ -11,7 +11,7 @@ use Rattle.color_doubles.specs.Finite.{unfit}
 use Rattle.sheet.specs.Sheet.{Sheet, view, stray}
 use Rattle.sheet.specs.Checks.{WellFormed}
 use Rattle.base.specs.declared.Edit.{Edit}
-use Rattle.base.specs.declared.Edit.the-variants.{Pixels, PaletteSet, PaletteAdd, PaletteRemove}
+use Rattle.base.specs.declared.Edit.the-variants.{Pixels, PaletteSet, PaletteAdd, PaletteRemove, PaletteLock}
 use Rattle.edit.specs.Change.{Change, painted, newOf}
 use Rattle.edit.specs.Checks.{Permitted}
 use Rattle.edit.specs.Storage.{bytesOf, numbersOf, lowered}
@@ -38,6 +38,7 @@ module _ (curve : Rgb → Lab) where
   redone-size s (PaletteSet i old new lab) cs = record { w = refl; h = refl }
   redone-size s (PaletteAdd c) cs = record { w = refl; h = refl }
   redone-size s (PaletteRemove i c lab) cs = record { w = refl; h = refl }
+  redone-size s (PaletteLock i old new) cs = record { w = refl; h = refl }
 
   shows : (s : Sheet) (e : Edit) (cs : List Change) → WellFormed s → Passed s e cs → view (redone curve s e cs) ≡ nextPicture curve (view s) e cs
   unfolding view redone restDone paintedList nextPicture
@@ -46,10 +47,11 @@ module _ (curve : Rgb → Lab) where
       rw (set-shows (palette-store f) i (bytesOf new) refl a, set-shows (lab-store f) i (numbersOf (curve new)) refl a)
   shows s (PaletteAdd c) cs f a = rw (add-shows (palette-store f) (bytesOf c) refl a, add-shows (lab-store f) (numbersOf (curve c)) refl a)
   shows s (PaletteRemove i c lab) cs f a = rw (remove-shows (palette-store f) i (a .entry), remove-shows (lab-store f) i (a .entry))
+  shows s (PaletteLock i old new) cs f a = refl
 
-  pub redone-view : {s : Sheet} {p : Permitted} {e : Edit} {cs : List Change} → Accepted s p e cs
+  pub redone-view : {s : Sheet} {locks : List Bool} {p : Permitted} {e : Edit} {cs : List Change} → Accepted s locks p e cs
       → view (redone curve s e cs) ≡ nextPicture curve (view s) e cs
-  redone-view {s} {p} {e} {cs} a = shows s e cs (a .fits) (passed false s p e cs (a .unrefused))
+  redone-view {s} {locks} {p} {e} {cs} a = shows s e cs (a .fits) (passed false s locks p e cs (a .unrefused))
 
   module _ (finite : FiniteCurve curve) where
     fits : (s : Sheet) (e : Edit) (cs : List Change) → WellFormed s → Passed s e cs → NewBytes e → WellFormed (redone curve s e cs)
@@ -76,6 +78,7 @@ module _ (curve : Rgb → Lab) where
         (length-map (painted newOf (s .w) cs (s .indices)) (lowered i) ∙ painted-length newOf (s .w) cs (s .indices))
         (remove-in-range s i cs a (f .in-range))
         (rw (remove-shows (lab-store f) i (a .entry)) (cut-nowhere 3 unfit (3 * i) (take (3 * s .k) (s .lab)) (f .fit)))
+    fits s (PaletteLock i old new) cs f a b = f
 
-    pub redone-fits : {s : Sheet} {p : Permitted} {e : Edit} {cs : List Change} → Accepted s p e cs → WellFormed (redone curve s e cs)
-    redone-fits {s} {p} {e} {cs} a = fits s e cs (a .fits) (passed false s p e cs (a .unrefused)) (a .new-bytes)
+    pub redone-fits : {s : Sheet} {locks : List Bool} {p : Permitted} {e : Edit} {cs : List Change} → Accepted s locks p e cs → WellFormed (redone curve s e cs)
+    redone-fits {s} {locks} {p} {e} {cs} a = fits s e cs (a .fits) (passed false s locks p e cs (a .unrefused)) (a .new-bytes)

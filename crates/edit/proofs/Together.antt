@@ -13,31 +13,31 @@ use Rattle.edit.specs.Change.{Change}
 use Rattle.edit.specs.List.{listOf}
 use Rattle.edit.specs.Checks.{Permitted, pixelChecks, misdirected, remapChecks, headChecks, changeChecks, leftChecks, ownChecks}
 
-pub own-apart : (replay : Bool) (s : Sheet) (p : Permitted) (e : Edit) (cs : List Change)
-    → firstOf (ownChecks replay s p e cs)
-    ≡ orElse (firstOf (headChecks replay s p e)) (orElse (firstOf (flatMap (changeChecks replay s (listOf e)) cs)) (firstOf (leftChecks s (listOf e) cs)))
+pub own-apart : (replay : Bool) (s : Sheet) (locks : List Bool) (p : Permitted) (e : Edit) (cs : List Change)
+    → firstOf (ownChecks replay s locks p e cs)
+    ≡ orElse (firstOf (headChecks replay s locks p e)) (orElse (firstOf (flatMap (changeChecks replay s (listOf e)) cs)) (firstOf (leftChecks s (listOf e) cs)))
 unfolding ownChecks
-own-apart replay s p e cs =
+own-apart replay s locks p e cs =
     let each : List Check = flatMap (changeChecks replay s (listOf e)) cs in
-    first-append (headChecks replay s p e) (each ++ leftChecks s (listOf e) cs)
-    ∙ ap (orElse (firstOf (headChecks replay s p e))) (first-append each (leftChecks s (listOf e) cs))
+    first-append (headChecks replay s locks p e) (each ++ leftChecks s (listOf e) cs)
+    ∙ ap (orElse (firstOf (headChecks replay s locks p e))) (first-append each (leftChecks s (listOf e) cs))
 
 -- ---- none applies where none of each part does
-pub record OwnPassed (replay : Bool) (s : Sheet) (p : Permitted) (e : Edit) (cs : List Change) : Type 0 where
-  pub head : firstOf (headChecks replay s p e) ≡ 0
+pub record OwnPassed (replay : Bool) (s : Sheet) (locks : List Bool) (p : Permitted) (e : Edit) (cs : List Change) : Type 0 where
+  pub head : firstOf (headChecks replay s locks p e) ≡ 0
   pub changes : firstOf (flatMap (changeChecks replay s (listOf e)) cs) ≡ 0
   pub left : firstOf (leftChecks s (listOf e) cs) ≡ 0
 
-pub own-passed : (replay : Bool) (s : Sheet) (p : Permitted) (e : Edit) (cs : List Change) → firstOf (ownChecks replay s p e cs) ≡ 0 → OwnPassed replay s p e cs
+pub own-passed : (replay : Bool) (s : Sheet) (locks : List Bool) (p : Permitted) (e : Edit) (cs : List Change) → firstOf (ownChecks replay s locks p e cs) ≡ 0 → OwnPassed replay s locks p e cs
 unfolding ownChecks
-own-passed replay s p e cs z =
-    let a = past-both (headChecks replay s p e) _ z in
+own-passed replay s locks p e cs z =
+    let a = past-both (headChecks replay s locks p e) _ z in
     let b = past-both (flatMap (changeChecks replay s (listOf e)) cs) _ (a .right) in
     record { head = a .left; changes = b .left; left = b .right }
 
-pub own-passes : (replay : Bool) (s : Sheet) (p : Permitted) (e : Edit) (cs : List Change) → firstOf (headChecks replay s p e) ≡ 0
-    → firstOf (flatMap (changeChecks replay s (listOf e)) cs) ≡ 0 → firstOf (leftChecks s (listOf e) cs) ≡ 0 → firstOf (ownChecks replay s p e cs) ≡ 0
-own-passes replay s p e cs a b d = own-apart replay s p e cs ∙ rw (a, b, d)
+pub own-passes : (replay : Bool) (s : Sheet) (locks : List Bool) (p : Permitted) (e : Edit) (cs : List Change) → firstOf (headChecks replay s locks p e) ≡ 0
+    → firstOf (flatMap (changeChecks replay s (listOf e)) cs) ≡ 0 → firstOf (leftChecks s (listOf e) cs) ≡ 0 → firstOf (ownChecks replay s locks p e cs) ≡ 0
+own-passes replay s locks p e cs a b d = own-apart replay s locks p e cs ∙ rw (a, b, d)
 
 -- two sheets of one size, palette count and picture
 pub record SamePixels (s t : Sheet) : Type 0 where

@@ -12,7 +12,7 @@ use Rattle.base.specs.Triples.{labAt, rgbAt}
 use Rattle.sheet.specs.Sheet.{Sheet}
 use Rattle.sheet.specs.Checks.{WellFormed}
 use Rattle.base.specs.declared.Edit.{Edit}
-use Rattle.base.specs.declared.Edit.the-variants.{Pixels, PaletteSet, PaletteAdd, PaletteRemove}
+use Rattle.base.specs.declared.Edit.the-variants.{Pixels, PaletteSet, PaletteAdd, PaletteRemove, PaletteLock}
 use Rattle.edit.specs.Change.{Change}
 use Rattle.edit.specs.Checks.{Permitted}
 use Rattle.edit.specs.Storage.{bytesOf, numbersOf}
@@ -41,6 +41,7 @@ module _ (big : ℕ → Bool) (wild : Float → Bool) where
     NewTame (PaletteSet i old new lab) = Tame new (curve new)
     NewTame (PaletteAdd c) = Tame c (curve c)
     NewTame (PaletteRemove i c lab) = Unit {0}
+    NewTame (PaletteLock i old new) = Unit {0}
 
     pub redone-typed : (s : Sheet) (e : Edit) (cs : List Change) → Typed s → NewTame e → Typed (redone curve s e cs)
     unfolding redone restDone paintedList
@@ -55,6 +56,7 @@ module _ (big : ℕ → Bool) (wild : Float → Bool) where
           palette = stored-nowhere 3 big (3 * s .k) _ (s .palette) (n .bytes) (t .palette);
           lab = stored-nowhere 3 wild (3 * s .k) _ (s .lab) (n .numbers) (t .lab);
         }
+    redone-typed s (PaletteLock i old new) cs t n = record { palette = t .palette; lab = t .lab }
     redone-typed s (PaletteRemove i c lab) cs t n =
         record {
           palette = closed-nowhere 3 big (3 * i) (3 * s .k) (s .palette) (t .palette);
@@ -69,24 +71,25 @@ module _ (big : ℕ → Bool) (wild : Float → Bool) where
         numbers = entry-nowhere 3 wild (3 * i) (s .lab) (lab-entry (lab-store f) i b) (t .lab);
       }
 
-  back-typed : (s t : Sheet) (e : Edit) (cs : List Change) → WellFormed s → Passed s e cs → Typed s → Typed t
-      → Typed (reverted t (filledEdit s e) (filledChanges s e cs))
+  back-typed : (s t : Sheet) (locks : List Bool) (e : Edit) (cs : List Change) → WellFormed s → Passed s e cs → Typed s → Typed t
+      → Typed (reverted t (filledEdit s locks e) (filledChanges s e cs))
   unfolding reverted filledEdit filledChanges filledList
-  back-typed s t (Pixels tool) cs f a u v = record { palette = v .palette; lab = v .lab }
-  back-typed s t (PaletteSet i old new lab) cs f a u v =
+  back-typed s t locks (Pixels tool) cs f a u v = record { palette = v .palette; lab = v .lab }
+  back-typed s t locks (PaletteSet i old new lab) cs f a u v =
       let o = old-tame f u a in
       record {
         palette = stored-nowhere 3 big (3 * i) _ (t .palette) (o .bytes) (v .palette);
         lab = stored-nowhere 3 wild (3 * i) _ (t .lab) (o .numbers) (v .lab);
       }
-  back-typed s t (PaletteAdd c) cs f a u v = record { palette = v .palette; lab = v .lab }
-  back-typed s t (PaletteRemove i c lab) cs f a u v =
+  back-typed s t locks (PaletteAdd c) cs f a u v = record { palette = v .palette; lab = v .lab }
+  back-typed s t locks (PaletteLock i old new) cs f a u v = record { palette = v .palette; lab = v .lab }
+  back-typed s t locks (PaletteRemove i c lab) cs f a u v =
       let o = old-tame f u (a .entry) in
       record {
         palette = opened-nowhere 3 big (3 * i) (3 * t .k) _ (t .palette) (o .bytes) (v .palette);
         lab = opened-nowhere 3 wild (3 * i) (3 * t .k) _ (t .lab) (o .numbers) (v .lab);
       }
 
-  pub reverted-typed : {s t : Sheet} {p : Permitted} {e : Edit} {cs : List Change} → Accepted s p e cs → Typed s → Typed t
-      → Typed (reverted t (filledEdit s e) (filledChanges s e cs))
-  reverted-typed {s} {t} {p} {e} {cs} a = back-typed s t e cs (a .fits) (passed false s p e cs (a .unrefused))
+  pub reverted-typed : {s t : Sheet} {locks : List Bool} {p : Permitted} {e : Edit} {cs : List Change} → Accepted s locks p e cs → Typed s → Typed t
+      → Typed (reverted t (filledEdit s locks e) (filledChanges s e cs))
+  reverted-typed {s} {t} {locks} {p} {e} {cs} a = back-typed s t locks e cs (a .fits) (passed false s locks p e cs (a .unrefused))

@@ -1,6 +1,6 @@
 -- An edit that no check refuses, on a sheet that none of 1 to 3 refuses: what the laws of an edit ask. Definitions only. Assumes nothing.
 use mathlib.Core.Path.{_≡_}
-use mathlib.Core.Bool.{false}
+use mathlib.Core.Bool.{Bool, false}
 use mathlib.Core.List.{List}
 use Prim.Native.Nat.{_<_}
 use Rattle.base.specs.Checks.{firstOf}
@@ -10,7 +10,7 @@ use Rattle.color_lab.specs.Convert.{FiniteLab}
 use Rattle.sheet.specs.Sheet.{Sheet}
 use Rattle.sheet.specs.Checks.{WellFormed}
 use Rattle.base.specs.declared.Edit.{Edit}
-use Rattle.base.specs.declared.Edit.the-variants.{Pixels, PaletteSet, PaletteAdd, PaletteRemove}
+use Rattle.base.specs.declared.Edit.the-variants.{Pixels, PaletteSet, PaletteAdd, PaletteRemove, PaletteLock}
 use Rattle.edit.specs.Change.{Change}
 use Rattle.edit.specs.Checks.{Permitted, ownChecks}
 
@@ -26,11 +26,12 @@ NewBytes (Pixels tool) = Unit {0}
 NewBytes (PaletteSet i old new lab) = Bytes new
 NewBytes (PaletteAdd c) = Bytes c
 NewBytes (PaletteRemove i c lab) = Unit {0}
+NewBytes (PaletteLock i old new) = Unit {0}
 
 -- push's checks, in which no old is looked at
-pub record Accepted (s : Sheet) (p : Permitted) (e : Edit) (cs : List Change) : Type 0 where
+pub record Accepted (s : Sheet) (locks : List Bool) (p : Permitted) (e : Edit) (cs : List Change) : Type 0 where
   pub fits : WellFormed s
-  pub unrefused : firstOf (ownChecks false s p e cs) ≡ 0
+  pub unrefused : firstOf (ownChecks false s locks p e cs) ≡ 0
   pub new-bytes : NewBytes e
 
 -- a conversion whose numbers pass 3

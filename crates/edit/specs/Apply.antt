@@ -11,9 +11,10 @@ use Rattle.base.specs.Lists.{some}
 use Rattle.sheet.specs.Sheet.{Sheet, Picture, sheetOf}
 use Rattle.base.specs.Triples.{rgbAt, labAt}
 use Rattle.base.specs.declared.Edit.{Edit}
-use Rattle.base.specs.declared.Edit.the-variants.{Pixels, PaletteSet, PaletteAdd, PaletteRemove}
+use Rattle.base.specs.declared.Edit.the-variants.{Pixels, PaletteSet, PaletteAdd, PaletteRemove, PaletteLock}
 use Rattle.edit.specs.Change.{Change, outside, painted, newOf, oldOf}
 use Rattle.edit.specs.List.{listOf, filledList, paintedList}
+use Rattle.edit.specs.Locks.{lockAt}
 use Rattle.edit.specs.Storage.{bytesOf, numbersOf, stored, closed, reinserted, cut, lowered, raised}
 
 -- the sheet with other indices; with another palette count, palette and LAB
@@ -24,11 +25,12 @@ abbrev pub withEntries : Sheet → ℕ → List ℕ → List Float → Sheet
 withEntries s k palette lab = sheetOf (s .w) (s .h) k palette lab (s .indices)
 
 -- `apply`: "fills old values in the record (the caller's list is only read)"; a removal's olds are the caller's, the index by 12
-unfoldable pub filledEdit : Sheet → Edit → Edit
-filledEdit s (Pixels tool) = Pixels tool
-filledEdit s (PaletteSet i old new lab) = PaletteSet i (rgbAt (s .palette) i) new (labAt (s .lab) i)
-filledEdit s (PaletteAdd c) = PaletteAdd c
-filledEdit s (PaletteRemove i c lab) = PaletteRemove i (rgbAt (s .palette) i) (labAt (s .lab) i)
+unfoldable pub filledEdit : Sheet → List Bool → Edit → Edit
+filledEdit s locks (Pixels tool) = Pixels tool
+filledEdit s locks (PaletteSet i old new lab) = PaletteSet i (rgbAt (s .palette) i) new (labAt (s .lab) i)
+filledEdit s locks (PaletteAdd c) = PaletteAdd c
+filledEdit s locks (PaletteRemove i c lab) = PaletteRemove i (rgbAt (s .palette) i) (labAt (s .lab) i)
+filledEdit s locks (PaletteLock i old new) = PaletteLock i (lockAt locks i) new
 
 unfoldable pub filledChanges : Sheet → Edit → List Change → List Change
 filledChanges s e cs = filledList (listOf e) (s .w) (s .indices) cs
@@ -44,6 +46,7 @@ module _ (curve : Rgb → Lab) where
   restDone s (PaletteRemove i c lab) =
       withEntries (withIndices s (map (lowered i) (s .indices))) (s .k - 1)
       (closed (3 * i) (3 * s .k) (s .palette)) (closed (3 * i) (3 * s .k) (s .lab))
+  restDone s (PaletteLock i old new) = s
 
   -- `redo`: the list painted, and the rest done
   unfoldable pub redone : Sheet → Edit → List Change → Sheet
@@ -74,6 +77,7 @@ module _ (curve : Rgb → Lab) where
         colours = cut (3 * i) (p .colours);
         labs = cut (3 * i) (p .labs);
       }
+  nextPicture p (PaletteLock i old new) cs = p
 
 -- `revert` raises indices ≥ the entry, paints olds, reinserts colour and stored LAB bits
 unfoldable pub reverted : Sheet → Edit → List Change → Sheet
@@ -84,6 +88,7 @@ reverted s (PaletteRemove i c lab) cs =
     withEntries (withIndices s (painted oldOf (s .w) cs (map (raised i) (s .indices)))) (suc (s .k))
     (reinserted (3 * i) (3 * s .k) (bytesOf c) (s .palette))
     (reinserted (3 * i) (3 * s .k) (numbersOf lab) (s .lab))
+reverted s (PaletteLock i old new) cs = s
 
 -- `can_revert` of document.rs
 unfoldable pub canRevert : Sheet → Edit → List Change → Bool
@@ -91,3 +96,4 @@ canRevert s (Pixels tool) cs = not (some (outside (s .w) (s .h)) cs)
 canRevert s (PaletteSet i old new lab) cs = ltb i (s .k)
 canRevert s (PaletteAdd c) cs = ltb 0 (s .k)
 canRevert s (PaletteRemove i c lab) cs = leb i (s .k) && not (some (outside (s .w) (s .h)) cs)
+canRevert s (PaletteLock i old new) cs = ltb i (s .k)

@@ -1,13 +1,13 @@
 -- The checks of an edit, in document 01's order: "Pixels: per change 5, 6, 11. Set: 7, 11, 10. Add: 8, 10. Remove: 7, 9, 11, per change 5, 12,
--- then 13." Definitions only. Assumes nothing.
+-- then 13." Document 02, E5, adds 24 "directly after 7", and a lock's own. Definitions only. Assumes nothing.
 use Prim.Native.Nat.{ℕ, suc}
-use mathlib.Core.Bool.{Bool, false, not, _&&_, _||_}
+use mathlib.Core.Bool.{Bool, false, not, _&&_, _||_, Bool·beq}
 use mathlib.Core.List.{List, [], _∷_, _++_, flatMap}
 use lib.Dec.{ltb, leb, eqb}
 use lib.IntN.{ℤ, pos, negsuc}
 use lib.ListN.{getD}
 use Rattle.base.specs.Limits.{maxEntries}
-use Rattle.base.specs.Numbers.{offTheSheet, noSuchIndex, noSuchEntry, paletteFull, lastEntry, colourNotPermitted, stale, badRemap, stillUsed}
+use Rattle.base.specs.Numbers.{offTheSheet, noSuchIndex, noSuchEntry, paletteFull, lastEntry, colourNotPermitted, stale, badRemap, stillUsed, entryLocked}
 use Rattle.base.specs.Checks.{Check, _when_}
 use Rattle.base.specs.declared.Rgb.{Rgb}
 use Rattle.base.specs.Lists.{some}
@@ -15,11 +15,12 @@ use Rattle.base.specs.Ints.{eqZ}
 use Rattle.sheet.specs.Sheet.{Sheet, Picture, sheetOf, stray}
 use Rattle.base.specs.Triples.{rgbAt}
 use Rattle.base.specs.declared.Edit.{Edit}
-use Rattle.base.specs.declared.Edit.the-variants.{Pixels, PaletteSet, PaletteAdd, PaletteRemove}
+use Rattle.base.specs.declared.Edit.the-variants.{Pixels, PaletteSet, PaletteAdd, PaletteRemove, PaletteLock}
 use Rattle.edit.specs.declared.ListKind.{ListKind}
 use Rattle.edit.specs.declared.ListKind.the-variants.{NoList, PixelList, RemapList}
 use Rattle.edit.specs.Change.{Change, place, outside}
 use Rattle.edit.specs.List.{listOf}
+use Rattle.edit.specs.Locks.{lockAt}
 
 unfoldable pub sameRgb : Rgb → Rgb → Bool
 sameRgb a b = eqb (a .r) (b .r) && (eqb (a .g) (b .g) && eqb (a .b) (b .b))
@@ -79,19 +80,23 @@ leftFrom w i cs p [] = false
 leftFrom w i cs p (z ∷ l) = (eqZ z (pos i) && not (named w cs p)) || leftFrom w i cs (suc p) l
 
 -- ---- an edit's checks: before its list, of each change, and after the list
-unfoldable pub headChecks : Bool → Sheet → Permitted → Edit → List Check
-headChecks replay s p (Pixels tool) = []
-headChecks replay s p (PaletteSet i old new lab) =
+unfoldable pub headChecks : Bool → Sheet → List Bool → Permitted → Edit → List Check
+headChecks replay s locks p (Pixels tool) = []
+headChecks replay s locks p (PaletteSet i old new lab) =
     noSuchEntry when leb (s .k) i
+    ∷ entryLocked when lockAt locks i
     ∷ staleWhen replay (not (sameRgb (rgbAt (s .palette) i) old))
     ∷ colourNotPermitted when barred p new
     ∷ []
-headChecks replay s p (PaletteAdd c) = paletteFull when leb maxEntries (s .k) ∷ colourNotPermitted when barred p c ∷ []
-headChecks replay s p (PaletteRemove i c lab) =
+headChecks replay s locks p (PaletteAdd c) = paletteFull when leb maxEntries (s .k) ∷ colourNotPermitted when barred p c ∷ []
+headChecks replay s locks p (PaletteRemove i c lab) =
     noSuchEntry when leb (s .k) i
+    ∷ entryLocked when lockAt locks i
     ∷ lastEntry when ltb (s .k) 2
     ∷ staleWhen replay (not (sameRgb (rgbAt (s .palette) i) c))
     ∷ []
+-- "An index past the palette gets 7"; "Replay of kind 5 gets 11, after 7, when the old mark differs"
+headChecks replay s locks p (PaletteLock i old new) = noSuchEntry when leb (s .k) i ∷ staleWhen replay (not (Bool·beq (lockAt locks i) old)) ∷ []
 
 -- an edit without a list does not look at the one that it is given
 unfoldable pub changeChecks : Bool → Sheet → ListKind → Change → List Check
@@ -104,8 +109,8 @@ leftChecks s NoList cs = []
 leftChecks s PixelList cs = []
 leftChecks s (RemapList i) cs = stillUsed when leftFrom (s .w) i cs 0 (s .indices) ∷ []
 
-unfoldable pub ownChecks : Bool → Sheet → Permitted → Edit → List Change → List Check
-ownChecks replay s p e cs = headChecks replay s p e ++ (flatMap (changeChecks replay s (listOf e)) cs ++ leftChecks s (listOf e) cs)
+unfoldable pub ownChecks : Bool → Sheet → List Bool → Permitted → Edit → List Change → List Check
+ownChecks replay s locks p e cs = headChecks replay s locks p e ++ (flatMap (changeChecks replay s (listOf e)) cs ++ leftChecks s (listOf e) cs)
 
 -- a picture as a sheet of just its entries: on it the ledger tests what the calls test on theirs
 abbrev pub asSheet : Picture → Sheet

@@ -1,6 +1,7 @@
 pub mod Change
 pub mod List
-pub mod Checks
 pub mod Storage
+pub mod Locks
+pub mod Checks
 pub mod Apply
 pub mod Accepted

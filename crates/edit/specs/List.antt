@@ -6,7 +6,7 @@ use mathlib.Core.List.{List, map}
 use lib.Dec.{eqb}
 use lib.IntN.{ℤ}
 use Rattle.base.specs.declared.Edit.{Edit}
-use Rattle.base.specs.declared.Edit.the-variants.{Pixels, PaletteSet, PaletteAdd, PaletteRemove}
+use Rattle.base.specs.declared.Edit.the-variants.{Pixels, PaletteSet, PaletteAdd, PaletteRemove, PaletteLock}
 use Rattle.edit.specs.declared.ListKind.{ListKind}
 use Rattle.edit.specs.declared.ListKind.the-variants.{NoList, PixelList, RemapList}
 use Rattle.edit.specs.Change.{Change, painted, newOf, filledIn}
@@ -16,6 +16,7 @@ listOf (Pixels tool) = PixelList
 listOf (PaletteSet i old new lab) = NoList
 listOf (PaletteAdd c) = NoList
 listOf (PaletteRemove i c lab) = RemapList i
+listOf (PaletteLock i old new) = NoList
 
 -- "an empty pixel list"; "a removal with no remap is not empty"
 unfoldable pub emptyPixels : ListKind → ℕ → Bool

@@ -29,6 +29,11 @@ pub fn list_of(edit: Edit) -> ListKind
             rgb: _,
             lab: _,
         } => ListKind::RemapList { index },
+        Edit::PaletteLock {
+            index: _,
+            old: _,
+            new: _,
+        } => ListKind::NoList,
     }
 }
 

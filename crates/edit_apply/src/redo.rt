@@ -8,6 +8,7 @@ use color::rgb8_to_lab;
 use edit_entries::close_lab_gap;
 use edit_entries::close_palette_gap;
 use edit_entries::store_rgb;
+use edit_locks::is_locked;
 use edit_renumber::lower_above;
 ghost use mathlib.Core.Path.{_≡_};
 ghost use mathlib.Core.List.{List};
@@ -18,14 +19,15 @@ ghost use Rattle.color_lab.specs.Convert.{labOf};
 ghost use Rattle.sheet.specs.Sheet.{sheetOf};
 ghost use Rattle.edit.specs.Storage.{bytesOf, numbersOf, stored};
 ghost use Rattle.edit.specs.Apply.{filledEdit, restDone};
+ghost use Rattle.edit_locks.specs.Movable.{MarkIn};
 ghost use Rattle.edit_apply.specs.Redoable.{EntryIn, Finishable};
 
-// The edit with the colour and the LAB that its entry has now, as the journal keeps it.
-pub fn fill_edit(palette: &[u8], lab: &[f64], edit: Edit) -> Edit
-    requires { ⌜ EntryIn (length (now palette)) edit × EntryIn (length (now lab)) edit ⌝ }
+// The edit with the colour, the LAB or the mark that its entry has now, as the journal keeps it.
+pub fn fill_edit(palette: &[u8], lab: &[f64], locks: &[bool], edit: Edit) -> Edit
+    requires { ⌜ EntryIn (length (now palette)) edit × EntryIn (length (now lab)) edit × MarkIn (length (now locks)) edit ⌝ }
     ensures { λ r. ⌜
         ((w h k : ℕ) (indices : List ℤ)
-        → r ≡ filledEdit (sheetOf w h k (now (palette .entry)) (now (lab .entry)) indices) edit)
+        → r ≡ filledEdit (sheetOf w h k (now (palette .entry)) (now (lab .entry)) indices) (now (locks .entry)) edit)
         ⌝ }
 {
     match edit {
@@ -58,6 +60,10 @@ pub fn fill_edit(palette: &[u8], lab: &[f64], edit: Edit) -> Edit
                 rgb,
                 lab: old_lab,
             }
+        }
+        Edit::PaletteLock { index, old: _, new } => {
+            let old = is_locked(locks, index);
+            Edit::PaletteLock { index, old, new }
         }
     }
 }
@@ -111,5 +117,10 @@ pub fn finish_edit(
             close_lab_gap(lab, index, k);
             k - 1
         }
+        Edit::PaletteLock {
+            index: _,
+            old: _,
+            new: _,
+        } => k,
     }
 }

@@ -10,7 +10,7 @@ use Rattle.base.proofs.First.{past}
 use Rattle.sheet.specs.Sheet.{Sheet}
 use Rattle.sheet.specs.Checks.{Limits}
 use Rattle.base.specs.declared.Edit.{Edit}
-use Rattle.base.specs.declared.Edit.the-variants.{Pixels, PaletteSet, PaletteAdd, PaletteRemove}
+use Rattle.base.specs.declared.Edit.the-variants.{Pixels, PaletteSet, PaletteAdd, PaletteRemove, PaletteLock}
 use Rattle.edit.specs.declared.ListKind.{ListKind}
 use Rattle.edit.specs.declared.ListKind.the-variants.{NoList, PixelList, RemapList}
 use Rattle.edit.specs.Change.{Change}
@@ -25,24 +25,25 @@ pub first-kept : (n m : ℕ) → (n ≡ 0 → ⊥) → orElse n m ≡ n
 first-kept zero m h = absurd (h refl)
 first-kept (suc n) m h = refl
 
-module _ (replay : Bool) (s : Sheet) (p : Permitted) (e : Edit) (cs : List Change) where
+module _ (replay : Bool) (s : Sheet) (locks : List Bool) (p : Permitted) (e : Edit) (cs : List Change) where
   -- one of the checks before the list decides
-  pub head-decides : (n : ℕ) → n ≡ firstOf (headChecks replay s p e) → (n ≡ 0 → ⊥) → n ≡ firstOf (ownChecks replay s p e cs)
-  head-decides n q h = sym (own-apart replay s p e cs ∙ rw (← q) (first-kept n _ h))
+  pub head-decides : (n : ℕ) → n ≡ firstOf (headChecks replay s locks p e) → (n ≡ 0 → ⊥) → n ≡ firstOf (ownChecks replay s locks p e cs)
+  head-decides n q h = sym (own-apart replay s locks p e cs ∙ rw (← q) (first-kept n _ h))
 
   -- where none of them applies, the list decides, and then what it leaves
-  pub list-decides : firstOf (headChecks replay s p e) ≡ 0
-      → firstOf (ownChecks replay s p e cs) ≡ orElse (firstOf (flatMap (changeChecks replay s (listOf e)) cs)) (firstOf (leftChecks s (listOf e) cs))
-  list-decides h = own-apart replay s p e cs ∙ rw h
+  pub list-decides : firstOf (headChecks replay s locks p e) ≡ 0
+      → firstOf (ownChecks replay s locks p e cs) ≡ orElse (firstOf (flatMap (changeChecks replay s (listOf e)) cs)) (firstOf (leftChecks s (listOf e) cs))
+  list-decides h = own-apart replay s locks p e cs ∙ rw h
 
 -- where none of them applies, a removal's entry is one of k
-pub head-markable : (replay : Bool) (s : Sheet) (p : Permitted) (e : Edit) (m : ℕ) → Limits s → s .w * s .h ≤ m → firstOf (headChecks replay s p e) ≡ 0
+pub head-markable : (replay : Bool) (s : Sheet) (locks : List Bool) (p : Permitted) (e : Edit) (m : ℕ) → Limits s → s .w * s .h ≤ m → firstOf (headChecks replay s locks p e) ≡ 0
     → Markable (listOf e) (s .w * s .h) m
 unfolding headChecks Markable
-head-markable replay s p (Pixels tool) m l h q = tt
-head-markable replay s p (PaletteSet i old new lab) m l h q = tt
-head-markable replay s p (PaletteAdd c) m l h q = tt
-head-markable replay s p (PaletteRemove i c lab) m l h q = (omega (arith, leb-false (s .k) i (past _ _ (omega arith) q .off), l .k-small), h)
+head-markable replay s locks p (Pixels tool) m l h q = tt
+head-markable replay s locks p (PaletteSet i old new lab) m l h q = tt
+head-markable replay s locks p (PaletteAdd c) m l h q = tt
+head-markable replay s locks p (PaletteLock i old new) m l h q = tt
+head-markable replay s locks p (PaletteRemove i c lab) m l h q = (omega (arith, leb-false (s .k) i (past _ _ (omega arith) q .off), l .k-small), h)
 
 -- ---- the checks of a list read no storage
 pub bare-changes : (replay : Bool) (s : Sheet) (l : ListKind) (cs : List Change)

@@ -25,18 +25,20 @@ struct Drawing {
     palette: [u8; 765],
     lab: [f64; 765],
     indices: [i16; 24],
+    locks: [bool; 255],
     journal: [u8; 200],
     handle: Handle,
 }
 
-// A transparent sheet with two entries, of which the second is red.
+// A transparent sheet with two entries, of which the second is red, and none locked.
 fn open() -> Drawing {
     let mut palette: [u8; 765] = [0; 765];
     let mut lab: [f64; 765] = [0.0; 765];
     let indices: [i16; 24] = [-1; 24];
+    let mut locks: [bool; 255] = [false; 255];
     let journal: [u8; 200] = [0; 200];
     palette[3] = 200;
-    let opened = new(6, 4, 2, &palette, &mut lab, &indices);
+    let opened = new(6, 4, 2, &palette, &mut lab, &indices, &mut locks);
     show(Step::New, opened, &indices);
     let handle = fresh();
     Drawing {
@@ -44,6 +46,7 @@ fn open() -> Drawing {
         palette,
         lab,
         indices,
+        locks,
         journal,
         handle,
     }
@@ -64,15 +67,14 @@ fn count(drawn: Counted, places: usize) -> usize
     }
 }
 
-// A drag along points, with a brush of one pixel and entry 1, made a step of the history.
-fn stroke(d: Drawing, points: &[i32]) -> Drawing {
-    let mut palette = d.palette;
-    let mut lab = d.lab;
-    let mut indices = d.indices;
-    let mut journal = d.journal;
+// A drag along points, with a brush of one pixel and entry 1: how many changes stand in the list.
+fn draw(d: Drawing, points: &[i32], list: &mut [u64]) -> usize
+    ensures { λ r. ⌜ r ≤ 24 ⌝ }
+{
+    let palette = d.palette;
+    let lab = d.lab;
+    let indices = d.indices;
     let mut scratch: [u64; 24] = [0; 24];
-    let mut list: [u64; 24] = [0; 24];
-    let mut marks: [u8; 24] = [0; 24];
     let drawn = pencil(
         6,
         4,
@@ -85,9 +87,21 @@ fn stroke(d: Drawing, points: &[i32]) -> Drawing {
         1,
         1,
         &mut scratch,
-        &mut list,
+        list,
     );
-    let n = count(drawn, 24);
+    count(drawn, 24)
+}
+
+// A drag made a step of the history.
+fn stroke(d: Drawing, points: &[i32]) -> Drawing {
+    let mut list: [u64; 24] = [0; 24];
+    let n = draw(d, points, &mut list);
+    let mut palette = d.palette;
+    let mut lab = d.lab;
+    let mut indices = d.indices;
+    let mut locks = d.locks;
+    let mut journal = d.journal;
+    let mut marks: [u8; 24] = [0; 24];
     let edit = Edit::Pixels { tool: 1 };
     let moved = push(
         6,
@@ -96,6 +110,7 @@ fn stroke(d: Drawing, points: &[i32]) -> Drawing {
         &mut palette,
         &mut lab,
         &mut indices,
+        &mut locks,
         false,
         b"",
         edit,
@@ -112,6 +127,7 @@ fn stroke(d: Drawing, points: &[i32]) -> Drawing {
         palette,
         lab,
         indices,
+        locks,
         journal,
         handle,
     }
@@ -122,6 +138,7 @@ fn back(d: Drawing) -> Drawing {
     let mut palette = d.palette;
     let mut lab = d.lab;
     let mut indices = d.indices;
+    let mut locks = d.locks;
     let journal = d.journal;
     let moved = undo(
         6,
@@ -130,6 +147,7 @@ fn back(d: Drawing) -> Drawing {
         &mut palette,
         &mut lab,
         &mut indices,
+        &mut locks,
         &journal,
         d.handle,
     );
@@ -141,6 +159,7 @@ fn back(d: Drawing) -> Drawing {
         palette,
         lab,
         indices,
+        locks,
         journal,
         handle,
     }
@@ -151,6 +170,7 @@ fn forth(d: Drawing) -> Drawing {
     let mut palette = d.palette;
     let mut lab = d.lab;
     let mut indices = d.indices;
+    let mut locks = d.locks;
     let journal = d.journal;
     let mut marks: [u8; 24] = [0; 24];
     let moved = redo(
@@ -160,6 +180,7 @@ fn forth(d: Drawing) -> Drawing {
         &mut palette,
         &mut lab,
         &mut indices,
+        &mut locks,
         &journal,
         d.handle,
         &mut marks,
@@ -172,6 +193,7 @@ fn forth(d: Drawing) -> Drawing {
         palette,
         lab,
         indices,
+        locks,
         journal,
         handle,
     }

@@ -2,8 +2,8 @@
 // of its own. The badge gets a pixel more; the fill is given another colour; then the badge's pixel is taken back and
 // done again, which leaves the fill as it is. After each call the picture is repainted and printed.
 //
-// The layers lie one after the other in one buffer a kind, the bottom one first: 765 bytes, 765 numbers and 24 indices
-// a layer. A call of a history is lent its layer's parts, `flatten` and `repaint` are lent all.
+// The layers lie one after the other in one buffer a kind, the bottom one first: 765 bytes, 765 numbers, 24 indices and
+// 255 lock marks a layer. A call of a history is lent its layer's parts, `flatten` and `repaint` are lent all but the marks.
 mod keep;
 mod print;
 
@@ -52,6 +52,7 @@ fn act_on(
     palette: &mut [u8],
     lab: &mut [f64],
     indices: &mut [i16],
+    locks: &mut [bool],
     journal: &mut [u8],
     handle: Handle,
 ) -> Moved {
@@ -65,6 +66,7 @@ fn act_on(
             palette,
             lab,
             indices,
+            locks,
             false,
             b"",
             edit,
@@ -73,8 +75,19 @@ fn act_on(
             handle,
             &mut marks,
         ),
-        Act::Undo => undo(6, 4, 1, palette, lab, indices, journal, handle),
-        Act::Redo => redo(6, 4, 1, palette, lab, indices, journal, handle, &mut marks),
+        Act::Undo => undo(6, 4, 1, palette, lab, indices, locks, journal, handle),
+        Act::Redo => redo(
+            6,
+            4,
+            1,
+            palette,
+            lab,
+            indices,
+            locks,
+            journal,
+            handle,
+            &mut marks,
+        ),
     }
 }
 
@@ -85,6 +98,7 @@ fn act_on_layer(
     palettes: &mut [u8],
     labs: &mut [f64],
     indices: &mut [i16],
+    locks: &mut [bool],
     journal: &mut [u8],
     handle: Handle,
 ) -> Moved {
@@ -92,18 +106,23 @@ fn act_on_layer(
         if palettes.len() == 2295 {
             if labs.len() == 2295 {
                 if indices.len() == 72 {
-                    let entries = 765 * i;
-                    let past = entries + 765;
-                    let pixels = 24 * i;
-                    let end = pixels + 24;
-                    return act_on(
-                        act,
-                        &mut palettes[entries..past],
-                        &mut labs[entries..past],
-                        &mut indices[pixels..end],
-                        journal,
-                        handle,
-                    );
+                    if locks.len() == 765 {
+                        let entries = 765 * i;
+                        let past = entries + 765;
+                        let pixels = 24 * i;
+                        let end = pixels + 24;
+                        let first = 255 * i;
+                        let last = first + 255;
+                        return act_on(
+                            act,
+                            &mut palettes[entries..past],
+                            &mut labs[entries..past],
+                            &mut indices[pixels..end],
+                            &mut locks[first..last],
+                            journal,
+                            handle,
+                        );
+                    }
                 }
             }
         }
@@ -151,6 +170,7 @@ fn change(
     palettes: &mut [u8],
     labs: &mut [f64],
     indices: &mut [i16],
+    locks: &mut [bool],
     journal: &mut [u8],
     handle: Handle,
     out: &mut [u8],
@@ -168,7 +188,7 @@ fn change(
         &mut lab,
         &mut earlier,
     );
-    let moved = act_on_layer(i, act, palettes, labs, indices, journal, handle);
+    let moved = act_on_layer(i, act, palettes, labs, indices, locks, journal, handle);
     repaint(
         &sizes,
         palettes,
@@ -194,6 +214,7 @@ fn main() {
     let mut palettes: [u8; 2295] = [0; 2295];
     let mut labs: [f64; 2295] = [0.0; 2295];
     let mut indices: [i16; 72] = [-1; 72];
+    let mut locks: [bool; 765] = [false; 765];
     let mut out: [u8; 96] = [0; 96];
     let mut fill: [u8; 50] = [0; 50];
     let mut badge: [u8; 50] = [0; 50];
@@ -214,6 +235,7 @@ fn main() {
         &mut palettes,
         &mut labs,
         &mut indices,
+        &mut locks,
         &mut badge,
         fresh(),
         &mut out,
@@ -230,6 +252,7 @@ fn main() {
         &mut palettes,
         &mut labs,
         &mut indices,
+        &mut locks,
         &mut fill,
         fresh(),
         &mut out,
@@ -241,6 +264,7 @@ fn main() {
         &mut palettes,
         &mut labs,
         &mut indices,
+        &mut locks,
         &mut badge,
         grown,
         &mut out,
@@ -252,6 +276,7 @@ fn main() {
         &mut palettes,
         &mut labs,
         &mut indices,
+        &mut locks,
         &mut badge,
         undone,
         &mut out,

@@ -22,6 +22,7 @@ ghost use Rattle.change_list.specs.Listed.{countOf};
 ghost use Rattle.tool_draw.specs.Calls.{pencilCall};
 ghost use Rattle.struct_edit.specs.Walk.{packedAll};
 ghost use Rattle.history_ledger.specs.Journal.{pushOf, undoOf, redoOf, markOf};
+ghost use Rattle.history_model.specs.Document.{documentOf};
 ghost use Rattle.history_model.specs.Editing.{editing, givenOf};
 ghost use Rattle.history_model.specs.Calls.{stateOf, leaves};
 ghost use Rattle.example_structs.specs.Lent.{movedOf, blanks, changesOf, noChange};
@@ -62,6 +63,7 @@ fn recorded(
     palette: &mut [u8],
     lab: &mut [f64],
     indices: &mut [i16],
+    locks: &mut [bool],
     permitted: &[u8],
     edit: Edit,
     list: &[Change],
@@ -70,9 +72,11 @@ fn recorded(
     marks: &mut [u8],
 ) -> Moved
     ensures { λ r. ⌜ (
-        let sheet = sheetOf 6 4 k (now (palette .entry)) (now (lab .entry)) (now (indices .entry)) in
-        leaves r 6 4 (now (palette .exit)) (now (lab .exit)) (now (indices .exit)) (now (journal .exit))
-        ≡ pushOf editing (length (now (marks .entry))) (stateOf sheet (now (journal .entry)) handle)
+        let document =
+        documentOf 6 4 k (now (palette .entry)) (now (lab .entry)) (now (indices .entry)) (now (locks .entry)) in
+        leaves r 6 4 (now (palette .exit)) (now (lab .exit)) (now (indices .exit)) (now (locks .exit))
+        (now (journal .exit))
+        ≡ pushOf editing (length (now (marks .entry))) (stateOf document (now (journal .entry)) handle)
         (givenOf false (now (permitted .entry)) edit (packedAll (now (list .entry))))
         ) ⌝ }
 {
@@ -85,6 +89,7 @@ fn recorded(
         palette,
         lab,
         indices,
+        locks,
         false,
         permitted,
         edit,
@@ -102,6 +107,7 @@ pub(crate) fn stroke(
     palette: &mut [u8],
     lab: &mut [f64],
     indices: &mut [i16],
+    locks: &mut [bool],
     area: Area,
     points: &[i32],
     scratch: &mut [u64],
@@ -113,9 +119,12 @@ pub(crate) fn stroke(
 ) -> Moved
     ensures { λ r. ⌜ (
         let sheet = sheetOf 6 4 k (now (palette .entry)) (now (lab .entry)) (now (indices .entry)) in
+        let document =
+        documentOf 6 4 k (now (palette .entry)) (now (lab .entry)) (now (indices .entry)) (now (locks .entry)) in
         let drawn = pencilCall sheet area (now (points .entry)) 1 (pos 1) (length (now (scratch .entry))) blanks in
-        leaves r 6 4 (now (palette .exit)) (now (lab .exit)) (now (indices .exit)) (now (journal .exit))
-        ≡ pushOf editing (length (now (marks .entry))) (stateOf sheet (now (journal .entry)) handle)
+        leaves r 6 4 (now (palette .exit)) (now (lab .exit)) (now (indices .exit)) (now (locks .exit))
+        (now (journal .exit))
+        ≡ pushOf editing (length (now (marks .entry))) (stateOf document (now (journal .entry)) handle)
         (givenOf false (now (permitted .entry)) edit (changesOf drawn))
         ) ⌝ }
 {
@@ -140,6 +149,7 @@ pub(crate) fn stroke(
         palette,
         lab,
         indices,
+        locks,
         permitted,
         edit,
         &list[..n],
@@ -155,18 +165,31 @@ pub(crate) fn undone(
     palette: &mut [u8],
     lab: &mut [f64],
     indices: &mut [i16],
+    locks: &mut [bool],
     journal: &[u8],
     handle: Handle,
 ) -> Moved
     ensures { λ r. ⌜ (
-        let sheet = sheetOf 6 4 k (now (palette .entry)) (now (lab .entry)) (now (indices .entry)) in
-        leaves r 6 4 (now (palette .exit)) (now (lab .exit)) (now (indices .exit)) (now (journal .entry))
-        ≡ undoOf editing (stateOf sheet (now (journal .entry)) handle)
+        let document =
+        documentOf 6 4 k (now (palette .entry)) (now (lab .entry)) (now (indices .entry)) (now (locks .entry)) in
+        leaves r 6 4 (now (palette .exit)) (now (lab .exit)) (now (indices .exit)) (now (locks .exit))
+        (now (journal .entry))
+        ≡ undoOf editing (stateOf document (now (journal .entry)) handle)
         ) ⌝ }
 {
     let mut colors = k;
     let mut held = handle;
-    let answer = undo(6, 4, &mut colors, palette, lab, indices, journal, &mut held);
+    let answer = undo(
+        6,
+        4,
+        &mut colors,
+        palette,
+        lab,
+        indices,
+        locks,
+        journal,
+        &mut held,
+    );
     moved(answer, colors, held)
 }
 
@@ -176,14 +199,17 @@ pub(crate) fn redone(
     palette: &mut [u8],
     lab: &mut [f64],
     indices: &mut [i16],
+    locks: &mut [bool],
     journal: &[u8],
     handle: Handle,
     marks: &mut [u8],
 ) -> Moved
     ensures { λ r. ⌜ (
-        let sheet = sheetOf 6 4 k (now (palette .entry)) (now (lab .entry)) (now (indices .entry)) in
-        leaves r 6 4 (now (palette .exit)) (now (lab .exit)) (now (indices .exit)) (now (journal .entry))
-        ≡ redoOf editing (length (now (marks .entry))) (stateOf sheet (now (journal .entry)) handle)
+        let document =
+        documentOf 6 4 k (now (palette .entry)) (now (lab .entry)) (now (indices .entry)) (now (locks .entry)) in
+        leaves r 6 4 (now (palette .exit)) (now (lab .exit)) (now (indices .exit)) (now (locks .exit))
+        (now (journal .entry))
+        ≡ redoOf editing (length (now (marks .entry))) (stateOf document (now (journal .entry)) handle)
         ) ⌝ }
 {
     let mut colors = k;
@@ -195,6 +221,7 @@ pub(crate) fn redone(
         palette,
         lab,
         indices,
+        locks,
         journal,
         &mut held,
         marks,

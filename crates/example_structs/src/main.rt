@@ -20,6 +20,7 @@ struct Drawing {
     palette: [u8; 765],
     lab: [f64; 765],
     indices: [i16; 24],
+    locks: [bool; 255],
     journal: [u8; 200],
     handle: Handle,
 }
@@ -29,9 +30,10 @@ fn open() -> Drawing {
     let mut palette: [u8; 765] = [0; 765];
     let mut lab: [f64; 765] = [0.0; 765];
     let indices: [i16; 24] = [-1; 24];
+    let mut locks: [bool; 255] = [false; 255];
     let journal: [u8; 200] = [0; 200];
     palette[3] = 200;
-    let opened = new(6, 4, 2, &palette, &mut lab, &indices);
+    let opened = new(6, 4, 2, &palette, &mut lab, &indices, &mut locks);
     show(Step::New, opened, &indices);
     let handle = fresh();
     Drawing {
@@ -39,6 +41,7 @@ fn open() -> Drawing {
         palette,
         lab,
         indices,
+        locks,
         journal,
         handle,
     }
@@ -49,6 +52,7 @@ fn stroke(d: Drawing, points: &[i32]) -> Drawing {
     let mut palette = d.palette;
     let mut lab = d.lab;
     let mut indices = d.indices;
+    let mut locks = d.locks;
     let mut journal = d.journal;
     let mut scratch: [u64; 24] = [0; 24];
     let mut marks: [u8; 24] = [0; 24];
@@ -57,6 +61,7 @@ fn stroke(d: Drawing, points: &[i32]) -> Drawing {
         &mut palette,
         &mut lab,
         &mut indices,
+        &mut locks,
         Area::Whole,
         points,
         &mut scratch,
@@ -74,6 +79,7 @@ fn stroke(d: Drawing, points: &[i32]) -> Drawing {
         palette,
         lab,
         indices,
+        locks,
         journal,
         handle,
     }
@@ -84,12 +90,14 @@ fn back(d: Drawing) -> Drawing {
     let mut palette = d.palette;
     let mut lab = d.lab;
     let mut indices = d.indices;
+    let mut locks = d.locks;
     let journal = d.journal;
     let moved = lent::undone(
         d.k,
         &mut palette,
         &mut lab,
         &mut indices,
+        &mut locks,
         &journal,
         d.handle,
     );
@@ -101,6 +109,7 @@ fn back(d: Drawing) -> Drawing {
         palette,
         lab,
         indices,
+        locks,
         journal,
         handle,
     }
@@ -111,6 +120,7 @@ fn forth(d: Drawing) -> Drawing {
     let mut palette = d.palette;
     let mut lab = d.lab;
     let mut indices = d.indices;
+    let mut locks = d.locks;
     let journal = d.journal;
     let mut marks: [u8; 24] = [0; 24];
     let moved = lent::redone(
@@ -118,6 +128,7 @@ fn forth(d: Drawing) -> Drawing {
         &mut palette,
         &mut lab,
         &mut indices,
+        &mut locks,
         &journal,
         d.handle,
         &mut marks,
@@ -130,6 +141,7 @@ fn forth(d: Drawing) -> Drawing {
         palette,
         lab,
         indices,
+        locks,
         journal,
         handle,
     }

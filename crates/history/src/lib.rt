@@ -1,7 +1,7 @@
 // The history of a sheet: push, undo, redo and mark-saved over a lent journal. Each call answers every input.
 //
-// A sheet is lent as its size, its palette count and three slices; a list of changes as one number of 64 bits a
-// change. The handle and the palette count go in and come back by value.
+// A sheet is lent as its size, its palette count and four slices, the lock marks of its entries the last; a list of
+// changes as one number of 64 bits a change. The handle and the palette count go in and come back by value.
 //
 // The crate history_model's specs/Demand3.antt states what the calls do together, for every list of them: document 01's
 // demand 3.

@@ -1,6 +1,6 @@
 -- What an accepted push writes: what the record's writer asks of it. Assumes nothing.
 use mathlib.Core.Path.{_≡_, refl}
-use mathlib.Core.Bool.{false, not}
+use mathlib.Core.Bool.{Bool, false, not}
 use mathlib.Core.List.{List}
 use Prim.Native.Nat.{ℕ, _+_, _*_, _<_}
 use native.Mathlib.Omega.{arith}
@@ -14,7 +14,7 @@ use Rattle.base.specs.Triples.{labAt}
 use Rattle.sheet.specs.Sheet.{Sheet}
 use Rattle.sheet.specs.Checks.{WellFormed}
 use Rattle.base.specs.declared.Edit.{Edit}
-use Rattle.base.specs.declared.Edit.the-variants.{Pixels, PaletteSet, PaletteAdd, PaletteRemove}
+use Rattle.base.specs.declared.Edit.the-variants.{Pixels, PaletteSet, PaletteAdd, PaletteRemove, PaletteLock}
 use Rattle.edit.specs.Change.{Change}
 use Rattle.edit.specs.Apply.{filledEdit}
 use Rattle.edit.proofs.Passed.{Passed, passed}
@@ -23,15 +23,17 @@ use Rattle.journal_record.specs.Record.{recordLength}
 use Rattle.journal_write.specs.Fit.{Numbers}
 use Rattle.journal_frame.specs.Frame.{Framed}
 use Rattle.history_ledger.specs.Journal.{State}
+use Rattle.history_model.specs.Document.{Document}
 use Rattle.history_model.specs.Calls.{Acceptable}
 
 -- ---- the edit filled in has the same length
-pub filled-length : (s : Sheet) (e : Edit) (n : ℕ) → recordLength (filledEdit s e) n ≡ recordLength e n
+pub filled-length : (s : Sheet) (locks : List Bool) (e : Edit) (n : ℕ) → recordLength (filledEdit s locks e) n ≡ recordLength e n
 unfolding recordLength filledEdit
-filled-length s (Pixels tool) n = refl
-filled-length s (PaletteSet i old new lab) n = refl
-filled-length s (PaletteAdd c) n = refl
-filled-length s (PaletteRemove i c lab) n = refl
+filled-length s locks (Pixels tool) n = refl
+filled-length s locks (PaletteSet i old new lab) n = refl
+filled-length s locks (PaletteAdd c) n = refl
+filled-length s locks (PaletteRemove i c lab) n = refl
+filled-length s locks (PaletteLock i old new) n = refl
 
 -- ---- and can be written: a well-formed sheet's LAB is numbers
 a-number : (v : Float) → unfit v ≡ false → T (not (isNan v))
@@ -40,7 +42,7 @@ a-number nan e = absurd (let z : _≡_ {A = ℕ} 0 1 = cc in omega arith)
 a-number (inf s) e = tt
 a-number (fin s m e) q = tt
 
-module _ (s : Sheet) (f : WellFormed s) where
+module _ (s : Sheet) (locks : List Bool) (f : WellFormed s) where
   held : (i : ℕ) → i < 3 * s .k → T (not (isNan (getD (s .lab) i nan)))
   held i h =
       let long : length (take (3 * s .k) (s .lab)) ≡ 3 * s .k = length-take-le (3 * s .k) (s .lab) (omega (arith, f .limits .k-small, f .limits .lab-length)) in
@@ -50,15 +52,16 @@ module _ (s : Sheet) (f : WellFormed s) where
   unfolding labAt
   numbers i h = record { l-number = held (3 * i) (omega arith); a-number = held (3 * i + 1) (omega arith); b-number = held (3 * i + 2) (omega arith) }
 
-  by-kind : (e : Edit) (cs : List Change) → Passed s e cs → Framed (filledEdit s e)
+  by-kind : (e : Edit) (cs : List Change) → Passed s e cs → Framed (filledEdit s locks e)
   unfolding Framed filledEdit
   by-kind (Pixels tool) cs p = tt
   by-kind (PaletteSet i old new lab) cs p = (omega (arith, f .limits .k-small, p), numbers i p)
   by-kind (PaletteAdd c) cs p = tt
+  by-kind (PaletteLock i old new) cs p = omega (arith, f .limits .k-small, p)
   by-kind (PaletteRemove i c lab) cs p = (omega (arith, f .limits .k-small, p .entry), numbers i (p .entry))
 
-pub framed : {st : State Sheet} {e : Edit} {cs : List Change} → WellFormed (st .sheet) → Acceptable st e cs → Framed (filledEdit (st .sheet) e)
-framed {st} {e} {cs} f a = by-kind (st .sheet) f e cs (passed false (st .sheet) (a .permitted) e cs (a .passes))
+pub framed : {st : State Document} {e : Edit} {cs : List Change} → WellFormed (st .sheet .sheet) → Acceptable st e cs → Framed (filledEdit (st .sheet .sheet) (st .sheet .locks) e)
+framed {st} {e} {cs} f a = by-kind (st .sheet .sheet) (st .sheet .locks) f e cs (passed false (st .sheet .sheet) (st .sheet .locks) (a .permitted) e cs (a .passes))
 
-pub not-refused : {st : State Sheet} {e : Edit} {cs : List Change} → Acceptable st e cs → Unrefused (st .sheet) e cs
-not-refused a = record { replay = false; permitted = a .permitted; passes = a .passes }
+pub not-refused : {st : State Document} {e : Edit} {cs : List Change} → Acceptable st e cs → Unrefused (st .sheet .sheet) e cs
+not-refused {st} a = record { replay = false; locks = st .sheet .locks; permitted = a .permitted; passes = a .passes }

@@ -13,12 +13,12 @@ use Rattle.base.specs.Limits.{maxPermitted, maxJournal}
 use Rattle.base.specs.Checks.{Check, orElse, firstOf}
 use Rattle.base.specs.Answer.{answerTold}
 use Rattle.base.specs.declared.Answer.the-variants.{Still, Refused}
-use Rattle.sheet.specs.Sheet.{Sheet, sheetOf}
-use Rattle.sheet.specs.Checks.{permittedChecks, Judged}
+use Rattle.sheet.specs.Checks.{permittedChecks, MarkedJudged}
 use Rattle.base.specs.declared.Handle.{Handle}
 use Rattle.history_ledger.specs.Calls.{refused, still, group}
 use Rattle.history_ledger.specs.Handle.{sound}
 use Rattle.history_ledger.specs.Journal.{State, unsound}
+use Rattle.history_model.specs.Document.{Document, documentOf}
 use Rattle.history_model.specs.Editing.{Given, editing}
 use Rattle.base.specs.declared.Moved.{Moved}
 use Rattle.history_model.specs.Calls.{stateOf, leaves, Moves, Enters}
@@ -34,12 +34,12 @@ unfolding firstOf
 here zero cs h = absurd (h refl)
 here (suc n) cs h = refl
 
-module _ (st : State Sheet) where
+module _ (st : State Document) where
   pub moves-long : maxJournal < length (st .journal) → Moves st 1
   unfolding firstOf
   moves-long h = record { value = rw (lt-ltb maxJournal (length (st .journal)) h); fine = λ e. absurd (one-no e) }
 
-  module _ (short : length (st .journal) ≤ maxJournal) (n : ℕ) (j : Judged (st .sheet) n) where
+  module _ (short : length (st .journal) ≤ maxJournal) (n : ℕ) (j : MarkedJudged (st .sheet .sheet) (st .sheet .locks) n) where
     pub moves-sheet : (n ≡ 0 → ⊥) → Moves st n
     unfolding firstOf
     moves-sheet h = record { value = rw (le-ltb maxJournal (length (st .journal)) short, ← j .value) (here n (unsound (length (st .journal)) (st .handle) ∷ []) h); fine = λ e. absurd (h e) }
@@ -53,7 +53,7 @@ module _ (st : State Sheet) where
     moves-fine e s =
         record {
           value = rw (le-ltb maxJournal (length (st .journal)) short, ← j .value, e, s);
-          fine = λ _. record { fits = j .fine e; permitted = short; is-sound = s };
+          fine = λ _. record { fits = j .fine e .formed; marks = j .fine e .marks; permitted = short; is-sound = s };
         }
 
   -- ---- push: the permitted colours' number is 1, as that of a journal that is too long
@@ -78,11 +78,11 @@ module _ (st : State Sheet) where
     enters-moves e n m = record { value = m .value ∙ rw e; fine = m .fine }
 
 -- ---- an answer that leaves everything as it was
-module _ (m : Moved) (w h k : ℕ) (palette : List ℕ) (lab : List Float) (indices : List ℤ) (journal : List ℕ) (handle : Handle) where
+module _ (m : Moved) (w h k : ℕ) (palette : List ℕ) (lab : List Float) (indices : List ℤ) (locks : List Bool) (journal : List ℕ) (handle : Handle) where
   pub leaves-refused : (n : ℕ) → (m .answer ≡ Refused n) × (m .k ≡ k) × (m .handle ≡ handle)
-      → leaves m w h palette lab indices journal ≡ refused (stateOf (sheetOf w h k palette lab indices) journal handle) n
-  leaves-refused n e i = record { answer = answerTold (e .0 i); leaves = stateOf (sheetOf w h (e .1 i) palette lab indices) journal (e .2 i) }
+      → leaves m w h palette lab indices locks journal ≡ refused (stateOf (documentOf w h k palette lab indices locks) journal handle) n
+  leaves-refused n e i = record { answer = answerTold (e .0 i); leaves = stateOf (documentOf w h (e .1 i) palette lab indices locks) journal (e .2 i) }
 
   pub leaves-still : (m .answer ≡ Still) × (m .k ≡ k) × (m .handle ≡ handle)
-      → leaves m w h palette lab indices journal ≡ still (stateOf (sheetOf w h k palette lab indices) journal handle)
-  leaves-still e i = record { answer = answerTold (e .0 i); leaves = stateOf (sheetOf w h (e .1 i) palette lab indices) journal (e .2 i) }
+      → leaves m w h palette lab indices locks journal ≡ still (stateOf (documentOf w h k palette lab indices locks) journal handle)
+  leaves-still e i = record { answer = answerTold (e .0 i); leaves = stateOf (documentOf w h (e .1 i) palette lab indices locks) journal (e .2 i) }

@@ -19,16 +19,16 @@ use Rattle.edit.specs.Storage.{numbersOf}
 use Rattle.edit.specs.Accepted.{Bytes, NewBytes}
 use Rattle.journal_write.specs.Fit.{FitChange, FitChanges}
 use Rattle.sheet.specs.Sheet.{view}
-use Rattle.sheet.specs.Checks.{sheetChecks}
 use Rattle.history_ledger.proofs.Whole.{whole-history}
 use Rattle.history_ledger.proofs.Full.{full-exactly}
 use Rattle.history_ledger.specs.Calls.{Call}
 use Rattle.history_ledger.specs.Calls.Call.{push, undo, redo, mark}
 use Rattle.history_ledger.specs.Algebra.{WellFormedIn}
 use Rattle.history_ledger.specs.Demand.{TypedCall, TypedCalls}
+use Rattle.history_model.specs.Document.{documentChecks}
 use Rattle.history_model.specs.Editing.{editing}
 use Rattle.history_model.specs.Handed.{Byte, Double, Colour, rgbOf, HandedEdit, HandedSheet, HandedPush, sheetBy, editBy, callBy}
-use Rattle.history_model.specs.Handed.HandedEdit.{pixels, set, add, remove}
+use Rattle.history_model.specs.Handed.HandedEdit.{pixels, set, add, remove, lock}
 use Rattle.history_model.specs.Demand3.{Demand3}
 use Rattle.history_model.proofs.Keeps.{Curve, keeps}
 
@@ -71,6 +71,7 @@ new-bytes (pixels tool) = tt
 new-bytes (set i old c lab) = colour-bytes c
 new-bytes (add c) = colour-bytes c
 new-bytes (remove i c lab) = tt
+new-bytes (lock i old new) = tt
 
 pub call-typed : (c : Call HandedPush) → TypedCall editing (callBy c)
 call-typed (push p) = record { new-bytes = new-bytes (p .edit); changes-fit = all-fit (p .list) }
@@ -93,7 +94,7 @@ doubles-typed [] = refl
 doubles-typed (d ∷ l) = rw (double _ (d .in-64-bits), doubles-typed l)
 
 -- a handed sheet that none of 1 to 3 refuses
-pub handed-fits : (lent : HandedSheet) → firstOf (sheetChecks [] (sheetBy lent)) ≡ 0 → WellFormedIn editing (sheetBy lent)
+pub handed-fits : (lent : HandedSheet) → firstOf (documentChecks (sheetBy lent)) ≡ 0 → WellFormedIn editing (sheetBy lent)
 handed-fits lent passes = record { typed = record { palette = bytes-typed (lent .palette); lab = doubles-typed (lent .lab) }; passes = passes }
 
 pub demand-3 : Demand3

@@ -7,7 +7,6 @@ use Prim.Native.Nat.{ℕ}
 use lib.ListN.{length}
 use Rattle.base.specs.declared.Edit.{Edit}
 use Rattle.base.specs.declared.Handle.{Handle}
-use Rattle.sheet.specs.Sheet.{Sheet}
 use Rattle.edit.specs.Change.{Change}
 use Rattle.journal_record.specs.declared.Found.{Found}
 use Rattle.journal_record.specs.declared.Found.the-variants.{Record, Unsound}
@@ -18,26 +17,27 @@ use Rattle.history_ledger.specs.Handle.{sound}
 use Rattle.history_ledger.specs.Algebra.{Taken}
 use Rattle.history_ledger.specs.Calls.{Outcome, refused, done}
 use Rattle.history_ledger.specs.Journal.{State, stepOver}
+use Rattle.history_model.specs.Document.{Document}
 use Rattle.history_model.specs.Editing.{taken, editing}
 use Rattle.history_model.specs.Calls.{stateOf}
 use Rattle.history_model.proofs.Steps.{over-none, over-not, over-unsound, over-done}
 
 -- a direction: what its search of the journal reads and answers, which records it takes, what it makes of the sheet and of the handle
-pub record Direction (st : State Sheet) : Type 0 where
+pub record Direction (st : State Document) : Type 0 where
   pub reading : Reading
   pub found : Found
   pub inside : ℕ → Bool
   pub stepped : ℕ → Handle → Handle
   pub takes : Edit → List Change → Bool
-  pub makes : Edit → List Change → Sheet
-  pub by : Reading → Option (Taken Sheet)
+  pub makes : Edit → List Change → Document
+  pub by : Reading → Option (Taken Document)
   pub by-none : by none ≡ none
   pub by-some : (r : ℕ × Edit × List Change) → by (some r) ≡ taken (takes (r .1) (r .2)) (r .0) (makes (r .1) (r .2))
   pub nothing : found ≡ Unsound → reading ≡ none
   pub searched : (kind start n count : ℕ) → found ≡ Record kind start n count → Searched (st .journal) reading kind start n count × (inside n ≡ true)
 
-module _ {st : State Sheet} (d : Direction st) where
-  abbrev step : Outcome (State Sheet)
+module _ {st : State Document} (d : Direction st) where
+  abbrev step : Outcome (State Document)
   step = stepOver editing st (d .by (d .reading)) (d .inside) (d .stepped)
 
   pub step-none : d .found ≡ Unsound → refused st 4 ≡ step
@@ -63,6 +63,6 @@ module _ {st : State Sheet} (d : Direction st) where
     step-not = over-not st (d .inside) (d .stepped) n (d .takes edit changes) _ _ read
 
     pub step-done : (next : Handle) → next ≡ d .stepped n (st .handle) → sound (length (st .journal)) next ≡ true → d .takes edit changes ≡ true
-        → {t : Sheet} → t ≡ d .makes edit changes → done (stateOf t (st .journal) next) ≡ step
+        → {t : Document} → t ≡ d .makes edit changes → done (stateOf t (st .journal) next) ≡ step
     step-done next q e ok p =
         over-done st (d .inside) (d .stepped) n (d .takes edit changes) _ _ read next q e ok (d .searched kind start n count found .1) p

@@ -16,7 +16,7 @@ use Rattle.base.specs.Triples.{labAt}
 use Rattle.sheet.specs.Sheet.{Sheet}
 use Rattle.sheet.specs.Checks.{WellFormed}
 use Rattle.base.specs.declared.Edit.{Edit}
-use Rattle.base.specs.declared.Edit.the-variants.{Pixels, PaletteSet, PaletteAdd, PaletteRemove}
+use Rattle.base.specs.declared.Edit.the-variants.{Pixels, PaletteSet, PaletteAdd, PaletteRemove, PaletteLock}
 use Rattle.edit.specs.Change.{Change, place, filledIn}
 use Rattle.edit.specs.declared.ListKind.{ListKind}
 use Rattle.edit.specs.declared.ListKind.the-variants.{NoList, PixelList, RemapList}
@@ -53,7 +53,7 @@ entry-fits : (s : Sheet) → TypedSheet s → (i : ℕ) → FitLab (labAt (s .la
 unfolding labAt
 entry-fits s t i = record { l-fits = double-fits (s .lab) _ (t .lab); a-fits = double-fits (s .lab) _ (t .lab); b-fits = double-fits (s .lab) _ (t .lab) }
 
-module _ (s : Sheet) (f : WellFormed s) (t : TypedSheet s) where
+module _ (s : Sheet) (locks : List Bool) (f : WellFormed s) (t : TypedSheet s) where
   -- ---- so do the olds that are filled in
   olds-fit : (cs : List Change) → FitChanges cs → FitChanges (map (filledIn (s .w) (s .indices)) cs)
   unfolding FitChanges filledIn
@@ -61,12 +61,13 @@ module _ (s : Sheet) (f : WellFormed s) (t : TypedSheet s) where
   olds-fit (c ∷ cs) h =
       (record { x-fits = h .0 .x-fits; y-fits = h .0 .y-fits; old-fits = pixel-fits (s .k) (s .indices) (place (s .w) c) (f .limits .k-small) (f .in-range); new-fits = h .0 .new-fits }, olds-fit cs (h .1))
 
-  edit-fits : (e : Edit) (cs : List Change) → emptyPixels (listOf e) (length cs) ≡ false → FitEdit (filledEdit s e) (filledChanges s e (ownList (listOf e) cs))
+  edit-fits : (e : Edit) (cs : List Change) → emptyPixels (listOf e) (length cs) ≡ false → FitEdit (filledEdit s locks e) (filledChanges s e (ownList (listOf e) cs))
   unfolding FitEdit filledEdit filledChanges filledList emptyPixels
   edit-fits (Pixels tool) [] h = absurd (let z : _≡_ {A = ℕ} 0 1 = cc in omega arith)
   edit-fits (Pixels tool) (c ∷ cs) h = omega arith
   edit-fits (PaletteSet i old new lab) cs h = (entry-fits s t i, refl)
   edit-fits (PaletteAdd c) cs h = refl
+  edit-fits (PaletteLock i old new) cs h = refl
   edit-fits (PaletteRemove i c lab) cs h = entry-fits s t i
 
   changes-fit : (e : Edit) (cs : List Change) → FitChanges cs → FitChanges (filledChanges s e (ownList (listOf e) cs))
@@ -74,14 +75,16 @@ module _ (s : Sheet) (f : WellFormed s) (t : TypedSheet s) where
   changes-fit (Pixels tool) cs h = olds-fit cs h
   changes-fit (PaletteSet i old new lab) cs h = tt
   changes-fit (PaletteAdd c) cs h = tt
+  changes-fit (PaletteLock i old new) cs h = tt
   changes-fit (PaletteRemove i c lab) cs h = h
 
   -- ---- the length that 14 is tested with
-  pub own-length : (e : Edit) (cs : List Change) → recordLength (filledEdit s e) (length (filledChanges s e (ownList (listOf e) cs))) ≡ recordLength e (length cs)
+  pub own-length : (e : Edit) (cs : List Change) → recordLength (filledEdit s locks e) (length (filledChanges s e (ownList (listOf e) cs))) ≡ recordLength e (length cs)
   unfolding recordLength filledEdit filledChanges filledList
   own-length (Pixels tool) cs = rw length-map
   own-length (PaletteSet i old new lab) cs = refl
   own-length (PaletteAdd c) cs = refl
+  own-length (PaletteLock i old new) cs = refl
   own-length (PaletteRemove i c lab) cs = refl
 
   short : (e : Edit) (n : ℕ) → n ≤ maxChanges → recordLength e n < 2 ^ 32
@@ -89,9 +92,10 @@ module _ (s : Sheet) (f : WellFormed s) (t : TypedSheet s) where
   short (Pixels tool) n h = omega arith
   short (PaletteSet i old new lab) n h = omega arith
   short (PaletteAdd c) n h = omega arith
+  short (PaletteLock i old new) n h = omega arith
   short (PaletteRemove i c lab) n h = omega arith
 
-  pub recordable : (e : Edit) (cs : List Change) → emptyPixels (listOf e) (length cs) ≡ false → tooLong cs ≡ false → FitChanges cs → Fit (filledEdit s e) (filledChanges s e (ownList (listOf e) cs))
+  pub recordable : (e : Edit) (cs : List Change) → emptyPixels (listOf e) (length cs) ≡ false → tooLong cs ≡ false → FitChanges cs → Fit (filledEdit s locks e) (filledChanges s e (ownList (listOf e) cs))
   unfolding tooLong
   recordable e cs some short-list fit =
       record {
@@ -101,9 +105,10 @@ module _ (s : Sheet) (f : WellFormed s) (t : TypedSheet s) where
       }
 
 -- ---- the record does not tell a list that the edit has not
-pub own-record : (s : Sheet) (e : Edit) (cs : List Change) → recordOf (filledEdit s e) (filledChanges s e cs) ≡ recordOf (filledEdit s e) (filledChanges s e (ownList (listOf e) cs))
+pub own-record : (s : Sheet) (locks : List Bool) (e : Edit) (cs : List Change) → recordOf (filledEdit s locks e) (filledChanges s e cs) ≡ recordOf (filledEdit s locks e) (filledChanges s e (ownList (listOf e) cs))
 unfolding recordOf bodyOf recordLength filledEdit filledChanges filledList
-own-record s (Pixels tool) cs = refl
-own-record s (PaletteSet i old new lab) cs = refl
-own-record s (PaletteAdd c) cs = refl
-own-record s (PaletteRemove i c lab) cs = refl
+own-record s locks (Pixels tool) cs = refl
+own-record s locks (PaletteSet i old new lab) cs = refl
+own-record s locks (PaletteAdd c) cs = refl
+own-record s locks (PaletteRemove i c lab) cs = refl
+own-record s locks (PaletteLock i old new) cs = refl

@@ -6,25 +6,25 @@ use mathlib.Core.Option.{Option, none}
 use Prim.Native.Nat.{ℕ}
 use lib.ListN.{length}
 use Rattle.base.specs.Checks.{firstOf, refusedOr}
-use Rattle.sheet.specs.Sheet.{Sheet}
 use Rattle.base.specs.declared.Handle.{Handle}
 use Rattle.history_ledger.specs.Handle.{sound}
 use Rattle.history_ledger.specs.Algebra.{Taken}
 use Rattle.history_ledger.specs.Calls.{Outcome, refused, done}
 use Rattle.history_ledger.specs.Journal.{State, stepOver}
+use Rattle.history_model.specs.Document.{Document}
 use Rattle.history_model.specs.Editing.{taken, editing}
 use Rattle.history_model.specs.Calls.{stateOf}
 
-module _ (st : State Sheet) (inside : ℕ → Bool) (stepped : ℕ → Handle → Handle) where
-  abbrev moved : Option (Taken Sheet) → Outcome (State Sheet)
+module _ (st : State Document) (inside : ℕ → Bool) (stepped : ℕ → Handle → Handle) where
+  abbrev moved : Option (Taken Document) → Outcome (State Document)
   moved reading = stepOver editing st reading inside stepped
 
-  pub over-none : (reading : Option (Taken Sheet)) → reading ≡ none → refused st 4 ≡ moved reading
+  pub over-none : (reading : Option (Taken Document)) → reading ≡ none → refused st 4 ≡ moved reading
   unfolding stepOver
   over-none reading e = rw e
 
   -- a record of n bytes that leads to t, where it is taken
-  module _ (n : ℕ) (ok : Bool) (t : Sheet) (reading : Option (Taken Sheet)) (read : reading ≡ taken ok n t) where
+  module _ (n : ℕ) (ok : Bool) (t : Document) (reading : Option (Taken Document)) (read : reading ≡ taken ok n t) where
     abbrev after : Handle
     after = stepped n (st .handle)
 
@@ -48,7 +48,7 @@ module _ (st : State Sheet) (inside : ℕ → Bool) (stepped : ℕ → Handle �
         by-test true b = rw no (by-inside (inside n))
 
     pub over-done : (next : Handle) → next ≡ after → sound (length (st .journal)) next ≡ true → ok ≡ true → inside n ≡ true
-        → {u : Sheet} → u ≡ t → done (stateOf u (st .journal) next) ≡ moved reading
+        → {u : Document} → u ≡ t → done (stateOf u (st .journal) next) ≡ moved reading
     unfolding stepOver firstOf refusedOr
     over-done next q e k i {u} p =
         let yes : sound (length (st .journal)) after ≡ true = ap (sound (length (st .journal))) (sym q) ∙ e in

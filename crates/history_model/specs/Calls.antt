@@ -1,6 +1,6 @@
 -- What a call is handed and what it leaves, as the states of demand 3; and what the steps of a call ask of each other. Definitions only. Assumes nothing.
 use mathlib.Core.Path.{_≡_}
-use mathlib.Core.Bool.{false, true}
+use mathlib.Core.Bool.{Bool, false, true}
 use mathlib.Core.List.{List, [], _∷_}
 use Prim.Native.Nat.{ℕ, _+_, _≤_}
 use lib.IntN.{ℤ}
@@ -10,7 +10,6 @@ use Rattle.base.specs.Limits.{maxChanges, maxJournal}
 use Rattle.base.specs.Checks.{Check, firstOf}
 use Rattle.base.specs.Answer.{answerTold}
 use Rattle.base.specs.declared.Answer.{Answer}
-use Rattle.sheet.specs.Sheet.{Sheet, sheetOf}
 use Rattle.sheet.specs.Checks.{WellFormed}
 use Rattle.base.specs.declared.Edit.{Edit}
 use Rattle.edit.specs.Change.{Change}
@@ -21,36 +20,38 @@ use Rattle.history_ledger.specs.Handle.{sound}
 use Rattle.history_ledger.specs.Calls.{Outcome}
 use Rattle.history_ledger.specs.Journal.{State, longJournal, unsound, moveChecks, entryChecks}
 use Rattle.base.specs.declared.Moved.{Moved}
+use Rattle.history_model.specs.Document.{Document, documentOf}
 use Rattle.history_model.specs.Editing.{Given, editing}
 
--- sheet, journal and handle
-abbrev pub stateOf : Sheet → List ℕ → Handle → State Sheet
-stateOf s journal handle = record { sheet = s; journal = journal; handle = handle }
+-- sheet and marks, journal and handle
+abbrev pub stateOf : Document → List ℕ → Handle → State Document
+stateOf d journal handle = record { sheet = d; journal = journal; handle = handle }
 
 -- what push, undo and redo leave: answer, handle and k come back by value, the rest in the lent buffers
-abbrev pub leaves : Moved → ℕ → ℕ → List ℕ → List Float → List ℤ → List ℕ → Outcome (State Sheet)
-leaves m w h palette lab indices journal =
-    record { answer = answerTold (m .answer); leaves = stateOf (sheetOf w h (m .k) palette lab indices) journal (m .handle) }
+abbrev pub leaves : Moved → ℕ → ℕ → List ℕ → List Float → List ℤ → List Bool → List ℕ → Outcome (State Document)
+leaves m w h palette lab indices locks journal =
+    record { answer = answerTold (m .answer); leaves = stateOf (documentOf w h (m .k) palette lab indices locks) journal (m .handle) }
 
 -- ---- a sheet, a journal and a handle that none of 1 to 4 refuses
-pub record Standing (st : State Sheet) : Type 0 where
-  pub fits : WellFormed (st .sheet)
+pub record Standing (st : State Document) : Type 0 where
+  pub fits : WellFormed (st .sheet .sheet)
+  pub marks : length (st .sheet .locks) ≡ 255
   pub permitted : length (st .journal) ≤ maxJournal
   pub is-sound : sound (length (st .journal)) (st .handle) ≡ true
 
 -- the number of the first of 1 to 4 that applies, and what 0 means: for undo and redo, and for push
-pub record Moves (st : State Sheet) (n : ℕ) : Type 0 where
+pub record Moves (st : State Document) (n : ℕ) : Type 0 where
   pub value : n ≡ firstOf (moveChecks editing st)
   pub fine : n ≡ 0 → Standing st
 
-pub record Enters (st : State Sheet) (g : Given) (n : ℕ) : Type 0 where
+pub record Enters (st : State Document) (g : Given) (n : ℕ) : Type 0 where
   pub value : n ≡ firstOf (entryChecks editing st g)
   pub fine : n ≡ 0 → Standing st
 
 -- ---- a push that no check refuses
-pub record Acceptable (st : State Sheet) (e : Edit) (cs : List Change) : Type 0 where
+pub record Acceptable (st : State Document) (e : Edit) (cs : List Change) : Type 0 where
   pub permitted : Permitted
-  pub passes : firstOf (ownChecks false (st .sheet) permitted e cs) ≡ 0
+  pub passes : firstOf (ownChecks false (st .sheet .sheet) (st .sheet .locks) permitted e cs) ≡ 0
   pub short : length cs ≤ maxChanges
   pub room : st .handle .offset + recordLength e (length cs) ≤ length (st .journal)
 

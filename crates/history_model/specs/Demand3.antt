@@ -6,19 +6,18 @@
 -- types that the code has for them (Handed.antt).
 use mathlib.Core.Path.{_≡_}
 use mathlib.Core.Logic.{_↔_}
-use mathlib.Core.List.{List, [], map}
+use mathlib.Core.List.{List, map}
 use Prim.Native.Nat.{ℕ, _*_, _≤_}
 use lib.ListN.{length}
 use Rattle.base.specs.Limits.{maxJournal}
 use Rattle.base.specs.Numbers.{journalFull}
 use Rattle.base.specs.Checks.{firstOf}
 use Rattle.base.specs.Answer.Told.{alone}
-use Rattle.sheet.specs.Sheet.{Sheet, view}
-use Rattle.sheet.specs.Checks.{sheetChecks}
 use Rattle.history_ledger.specs.Calls.{Call, play, lend}
 use Rattle.history_ledger.specs.Journal.{State, opened, step, stepLent}
 use Rattle.history_ledger.specs.Ledger.{begun, enter}
 use Rattle.history_ledger.specs.Demand.{unstruck, SameHistory, FullCall}
+use Rattle.history_model.specs.Document.{Document, shown, documentChecks}
 use Rattle.history_model.specs.Editing.{Given, editing}
 use Rattle.history_model.specs.Handed.{HandedSheet, HandedPush, sheetBy, callBy}
 
@@ -28,19 +27,20 @@ pub record Demand3 : Type 0 where
   -- places in the first run, and `scratch′ i` in the second; and every list of calls. "Both runs and the ledger start
   -- from the same sheet; the second run and the ledger get only the calls not struck. Compared are these calls'
   -- answers, numbers included, in order, and afterwards sheet, standing position and saved position with the ledger's
-  -- standing picture and positions."
+  -- standing picture and positions." Document 02, E5: any marks at the start; "A ledger picture includes the marks, which
+  -- are compared afterwards too, and lock calls join the lists of calls as pushes".
   pub whole-history : (lent : HandedSheet)
       → let s = sheetBy lent in
-      firstOf (sheetChecks [] s) ≡ 0
+      firstOf (documentChecks s) ≡ 0
       → (shorter longer : List ℕ) → length shorter ≤ length longer → length longer ≤ maxJournal
-      → (scratch scratch′ : ℕ → ℕ) → ((i : ℕ) → s .w * s .h ≤ scratch i) → ((i : ℕ) → s .w * s .h ≤ scratch′ i)
+      → (scratch scratch′ : ℕ → ℕ) → ((i : ℕ) → s .sheet .w * s .sheet .h ≤ scratch i) → ((i : ℕ) → s .sheet .w * s .sheet .h ≤ scratch′ i)
       → (handed : List (Call HandedPush))
       → let calls = map callBy handed in
       let first = play (stepLent editing) (opened editing s shorter) (lend scratch calls) in
       let left = unstruck calls (first .answers) in
       let second = play (stepLent editing) (opened editing s longer) (lend scratch′ left) in
-      let ledger = play (enter editing) (begun editing (view s)) left in
+      let ledger = play (enter editing) (begun editing (shown s)) left in
       SameHistory editing (unstruck (first .answers) (first .answers)) first second ledger
   -- a call answers "journal full" exactly where it is a push and 14 is the first check to apply, empty pixel lists apart: in every state, reached or not
-  pub journal-full : (scratch : ℕ) (st : State Sheet) (c : Call Given)
+  pub journal-full : (scratch : ℕ) (st : State Document) (c : Call Given)
       → (step editing scratch st c .answer ≡ alone journalFull) ↔ FullCall editing scratch st c

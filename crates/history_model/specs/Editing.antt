@@ -1,4 +1,4 @@
--- Document 01's sheet, edits and records as the algebra that `history_ledger` speaks of: its functions are those that the contracts of this crate's calls name.
+-- Document 01's sheet, edits and records, with document 02's lock marks, as the algebra that `history_ledger` speaks of: its functions are those that the contracts of this crate's calls name.
 -- Definitions only. Assumes nothing.
 use mathlib.Core.Path.{_≡_}
 use mathlib.Core.Bool.{Bool, false, not, cond}
@@ -16,19 +16,20 @@ use Rattle.base.specs.declared.Lab.{Lab}
 use Rattle.base.specs.Lists as lists
 use Rattle.color_doubles.specs.Finite.{unfit}
 use Rattle.color_lab.specs.Convert.{labOf}
-use Rattle.sheet.specs.Sheet.{Sheet, Picture, view, stray}
-use Rattle.sheet.specs.Checks.{permittedChecks, sheetChecks}
+use Rattle.sheet.specs.Sheet.{Sheet, Picture, stray}
+use Rattle.sheet.specs.Checks.{permittedChecks}
 use Rattle.base.specs.declared.Edit.{Edit}
 use Rattle.edit.specs.Change.{Change, unpacked}
 use Rattle.edit.specs.Checks.{Permitted, permittedOf, ownChecks, asSheet}
 use Rattle.edit.specs.Accepted.{NewBytes}
 use Rattle.edit.specs.List.{listOf, emptyPixels}
-use Rattle.edit.specs.Apply.{filledEdit, filledChanges, redone, nextPicture, reverted}
+use Rattle.edit.specs.Apply.{filledEdit, filledChanges}
 use Rattle.journal_write.specs.Fit.{FitChanges}
 use Rattle.journal_record.specs.Record as records
 use Rattle.journal_record.specs.Record.{recordLength, recordOf, readForth, readBack}
 use Rattle.journal_read.specs.Sound.{undoable, redoable}
 use Rattle.history_ledger.specs.Algebra.{Algebra, Taken}
+use Rattle.history_model.specs.Document.{Document, Shown, shown, documentChecks, documentDone, documentBack, nextShown}
 
 -- ---- what a push is given: "edit, permitted colours", the edit beside its list
 pub record Given : Type 0 where
@@ -61,49 +62,53 @@ pictureChecks p =
     ∷ unfitLab when lists.some unfit (p .labs)
     ∷ []
 
+-- with a mark for each of its entries
+unfoldable pub shownChecks : Shown → List Check
+shownChecks p = badSheet when not (eqb (length (p .locks)) (p .picture .k)) ∷ pictureChecks (p .picture)
+
 -- 21: "list too long: over the limit"
 unfoldable pub tooLong : List Change → Bool
 tooLong cs = ltb maxChanges (length cs)
 
--- ---- a record that was read, where undo or redo takes it: its length, and the sheet on its other side
-abbrev pub taken : Bool → ℕ → Sheet → Option (Taken Sheet)
-taken ok n s = cond ok (some (record { length = n; sheet = s })) none
+-- ---- a record that was read, where undo or redo takes it: its length, and sheet and marks on its other side
+abbrev pub taken : Bool → ℕ → Document → Option (Taken Document)
+taken ok n d = cond ok (some (record { length = n; sheet = d })) none
 
-unfoldable pub undoneBy : Sheet → records.Reading → Option (Taken Sheet)
-undoneBy s none = none
-undoneBy s (some r) = taken (undoable s (r .1) (r .2)) (r .0) (reverted s (r .1) (r .2))
+unfoldable pub undoneBy : Document → records.Reading → Option (Taken Document)
+undoneBy d none = none
+undoneBy d (some r) = taken (undoable (d .sheet) (d .locks) (r .1) (r .2)) (r .0) (documentBack d (r .1) (r .2))
 
 module _ (curve : Rgb → Lab) where
-  unfoldable pub redoneBy : Sheet → records.Reading → Option (Taken Sheet)
-  redoneBy s none = none
-  redoneBy s (some r) = taken (redoable s (r .1) (r .2)) (r .0) (redone curve s (r .1) (r .2))
+  unfoldable pub redoneBy : Document → records.Reading → Option (Taken Document)
+  redoneBy d none = none
+  redoneBy d (some r) = taken (redoable (d .sheet) (d .locks) (r .1) (r .2)) (r .0) (documentDone curve d (r .1) (r .2))
 
   -- with `curve` for the LAB of a colour
   abbrev pub editingBy : Algebra
   editingBy =
       record {
-        Sheet = Sheet;
-        Picture = Picture;
+        Sheet = Document;
+        Picture = Shown;
         Edit = Given;
-        SheetTyped = TypedSheet;
+        SheetTyped = λ d. TypedSheet (d .sheet);
         EditTyped = TypedGiven;
-        view = view;
-        places = λ p. p .w * p .h;
+        view = shown;
+        places = λ p. p .picture .w * p .picture .h;
         -- no call has 28 or 25 yet
         firstCheck = λ g. 0;
         curveCheck = 0;
-        sheetCheck = λ s. firstOf (sheetChecks [] s);
-        pictureCheck = λ p. firstOf (pictureChecks p);
+        sheetCheck = λ d. firstOf (documentChecks d);
+        pictureCheck = λ p. firstOf (shownChecks p);
         givenCheck = λ g. firstOf (permittedChecks (g .permitted .limited) (g .permitted .colours));
-        ownCheck = λ p g. firstOf (ownChecks false (asSheet p) (g .permitted) (g .edit) (g .changes));
+        ownCheck = λ p g. firstOf (ownChecks false (asSheet (p .picture)) (p .locks) (g .permitted) (g .edit) (g .changes));
         isEmpty = λ g. emptyPixels (listOf (g .edit)) (length (g .changes));
         isLong = λ g. tooLong (g .changes);
-        make = λ s g. redone curve s (g .edit) (g .changes);
-        encode = λ s g. recordOf (filledEdit s (g .edit)) (filledChanges s (g .edit) (g .changes));
+        make = λ d g. documentDone curve d (g .edit) (g .changes);
+        encode = λ d g. recordOf (filledEdit (d .sheet) (d .locks) (g .edit)) (filledChanges (d .sheet) (g .edit) (g .changes));
         size = λ g. recordLength (g .edit) (length (g .changes));
-        back = λ bytes s. undoneBy s (readBack bytes);
-        forth = λ bytes s. redoneBy s (readForth bytes);
-        paint = λ p g. nextPicture curve p (g .edit) (g .changes);
+        back = λ bytes d. undoneBy d (readBack bytes);
+        forth = λ bytes d. redoneBy d (readForth bytes);
+        paint = λ p g. nextShown curve p (g .edit) (g .changes);
       }
 
 -- with document 01's

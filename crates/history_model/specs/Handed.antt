@@ -12,11 +12,11 @@ use mir.Syntax.{w8}
 use mir.Val.{Fits}
 use Rattle.base.specs.declared.Rgb.{Rgb}
 use Rattle.base.specs.declared.Lab.{Lab}
-use Rattle.sheet.specs.Sheet.{Sheet, sheetOf}
 use Rattle.base.specs.declared.Edit.{Edit}
-use Rattle.base.specs.declared.Edit.the-variants.{Pixels, PaletteSet, PaletteAdd, PaletteRemove}
+use Rattle.base.specs.declared.Edit.the-variants.{Pixels, PaletteSet, PaletteAdd, PaletteRemove, PaletteLock}
 use Rattle.history_ledger.specs.Calls.{Call}
 use Rattle.history_ledger.specs.Calls.Call.{push, undo, redo, mark}
+use Rattle.history_model.specs.Document.{Document, documentOf}
 use Rattle.history_model.specs.Editing.{Given, givenOf}
 
 -- a `u8`, an `f64` and an `Rgb`
@@ -36,7 +36,7 @@ pub record Colour : Type 0 where
 abbrev pub rgbOf : Colour → Rgb
 rgbOf c = record { r = c .r .value; g = c .g .value; b = c .b .value }
 
--- the lent sheet
+-- the lent sheet, and its marks
 pub record HandedSheet : Type 0 where
   pub w : ℕ
   pub h : ℕ
@@ -44,9 +44,11 @@ pub record HandedSheet : Type 0 where
   pub palette : List Byte
   pub lab : List Double
   pub indices : List ℤ
+  pub locks : List Bool
 
-abbrev pub sheetBy : HandedSheet → Sheet
-sheetBy s = sheetOf (s .w) (s .h) (s .k) (map (λ (b : Byte). b .value) (s .palette)) (map (λ (d : Double). d .value) (s .lab)) (s .indices)
+abbrev pub sheetBy : HandedSheet → Document
+sheetBy s =
+    documentOf (s .w) (s .h) (s .k) (map (λ (b : Byte). b .value) (s .palette)) (map (λ (d : Double). d .value) (s .lab)) (s .indices) (s .locks)
 
 -- an edit, with the colour that it brings
 pub data HandedEdit : Type 0 where
@@ -54,12 +56,14 @@ pub data HandedEdit : Type 0 where
   set : ℕ → Rgb → Colour → Lab → HandedEdit
   add : Colour → HandedEdit
   remove : ℕ → Rgb → Lab → HandedEdit
+  lock : ℕ → Bool → Bool → HandedEdit
 
 abbrev pub editBy : HandedEdit → Edit
 editBy (pixels tool) = Pixels tool
 editBy (set i old new lab) = PaletteSet i old (rgbOf new) lab
 editBy (add c) = PaletteAdd (rgbOf c)
 editBy (remove i c lab) = PaletteRemove i c lab
+editBy (lock i old new) = PaletteLock i old new
 
 -- the arguments of a push, and a call with them
 pub record HandedPush : Type 0 where

@@ -3,19 +3,18 @@
 -- Demand3.antt compares, and the calls are the same. `layered` (history_ledger/specs/Layers.antt) makes each call on
 -- the state of its layer and leaves the others; `callsOn` and `partOf` are one layer's calls, and its part of the run.
 use mathlib.Core.Path.{_≡_}
-use mathlib.Core.List.{List, [], map}
+use mathlib.Core.List.{List, map}
 use Prim.Native.Nat.{ℕ, _*_, _≤_}
 use lib.ListN.{length}
 use Rattle.base.specs.Limits.{maxJournal}
 use Rattle.base.specs.Checks.{firstOf}
 use Rattle.base.specs.Lists.{All}
-use Rattle.sheet.specs.Sheet.{Sheet, view}
-use Rattle.sheet.specs.Checks.{sheetChecks}
 use Rattle.history_ledger.specs.Calls.{Call, Lent, play, lend}
 use Rattle.history_ledger.specs.Journal.{State, opened, stepLent}
 use Rattle.history_ledger.specs.Ledger.{begun, enter}
 use Rattle.history_ledger.specs.Demand.{unstruck, SameHistory}
 use Rattle.history_ledger.specs.Layers.{OnLayer, callsOn, layered, partOf, callsIn}
+use Rattle.history_model.specs.Document.{Document, shown, documentChecks}
 use Rattle.history_model.specs.Editing.{Given, editing}
 use Rattle.history_model.specs.Handed.{HandedSheet, HandedPush, sheetBy, callBy}
 
@@ -35,16 +34,16 @@ abbrev pub Demand3OfLayers : Type 0
 Demand3OfLayers =
     (lent : ℕ → HandedSheet) (i : ℕ)
     → let s = sheetBy (lent i) in
-    firstOf (sheetChecks [] s) ≡ 0
+    firstOf (documentChecks s) ≡ 0
     → (journals : ℕ → List ℕ) (longer : List ℕ) → length (journals i) ≤ length longer → length longer ≤ maxJournal
     → (handed : List HandedCall)
     → let calls = map callOn handed in
     let own = callsOn i calls in
-    All (λ c. s .w * s .h ≤ c .room) own
-    → (scratch′ : ℕ → ℕ) → ((n : ℕ) → s .w * s .h ≤ scratch′ n)
-    → let opening : ℕ → State Sheet = λ j. opened editing (sheetBy (lent j)) (journals j) in
+    All (λ c. s .sheet .w * s .sheet .h ≤ c .room) own
+    → (scratch′ : ℕ → ℕ) → ((n : ℕ) → s .sheet .w * s .sheet .h ≤ scratch′ n)
+    → let opening : ℕ → State Document = λ j. opened editing (sheetBy (lent j)) (journals j) in
     let first = partOf i calls (play (layered (stepLent editing)) opening calls) in
     let left = unstruck (callsIn own) (first .answers) in
     let second = play (stepLent editing) (opened editing s longer) (lend scratch′ left) in
-    let ledger = play (enter editing) (begun editing (view s)) left in
+    let ledger = play (enter editing) (begun editing (shown s)) left in
     SameHistory editing (unstruck (first .answers) (first .answers)) first second ledger

@@ -1,3 +1,4 @@
+pub mod Document
 pub mod Editing
 pub mod Handed
 pub mod Demand3

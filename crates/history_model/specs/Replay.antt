@@ -1,5 +1,5 @@
 -- `replay`: "checks 11 and takes LAB from the sheet". Definitions only. Assumes nothing.
-use mathlib.Core.List.{List, [], _∷_, _++_}
+use mathlib.Core.List.{List, _∷_, _++_}
 use Prim.Native.Nat.{ℕ, _*_}
 use lib.Dec.{ltb}
 use lib.ListN.{length}
@@ -10,28 +10,27 @@ use Rattle.base.specs.Checks.{Check, _when_}
 use Rattle.base.specs.Answer.{answerTold}
 use Rattle.base.specs.declared.Answer.{Answer}
 use Rattle.color_lab.specs.Convert.{labOf}
-use Rattle.sheet.specs.Sheet.{Sheet}
-use Rattle.sheet.specs.Checks.{permittedChecks, sheetChecks}
+use Rattle.sheet.specs.Checks.{permittedChecks}
 use Rattle.base.specs.declared.Edit.{Edit}
 use Rattle.edit.specs.Change.{Change}
 use Rattle.edit.specs.Checks.{Permitted, ownChecks}
-use Rattle.edit.specs.Apply.{redone}
 use Rattle.history_ledger.specs.Calls.{Outcome, done, guarded}
+use Rattle.history_model.specs.Document.{Document, documentChecks, documentDone}
 
--- 21: "list too long"; 16: "scratch under w × h places", this one of `room`; then "Pixels: per change 5, 6, 11. Set: 7, 11, 10. .."
-unfoldable pub replayOwn : ℕ → Sheet → Permitted → Edit → List Change → List Check
-replayOwn room s p e cs =
+-- 21: "list too long"; 16: "scratch under w × h places", this one of `room`; then "Pixels: per change 5, 6, 11. Set: 7, 11, 10. ..", 24 after 7
+unfoldable pub replayOwn : ℕ → Document → Permitted → Edit → List Change → List Check
+replayOwn room d p e cs =
     listTooLong when ltb maxChanges (length cs)
-    ∷ noSpace when ltb room (s .w * s .h)
-    ∷ ownChecks true s p e cs
+    ∷ noSpace when ltb room (d .sheet .w * d .sheet .h)
+    ∷ ownChecks true (d .sheet) (d .locks) p e cs
 
 -- 1 of the permitted colours; 1, 2, 3; and these
-unfoldable pub replayChecks : ℕ → Sheet → Permitted → Edit → List Change → List Check
-replayChecks room s p e cs = permittedChecks (p .limited) (p .colours) ++ (sheetChecks [] s ++ replayOwn room s p e cs)
+unfoldable pub replayChecks : ℕ → Document → Permitted → Edit → List Change → List Check
+replayChecks room d p e cs = permittedChecks (p .limited) (p .colours) ++ (documentChecks d ++ replayOwn room d p e cs)
 
-abbrev pub replayed : Answer → Sheet → Outcome Sheet
-replayed answer s = record { answer = answerTold answer; leaves = s }
+abbrev pub replayed : Answer → Document → Outcome Document
+replayed answer d = record { answer = answerTold answer; leaves = d }
 
 -- the edit done as `redo` does it; an empty list of pixels is done too
-unfoldable pub replayOf : ℕ → Sheet → Permitted → Edit → List Change → Outcome Sheet
-replayOf room s p e cs = guarded s (replayChecks room s p e cs) (done (redone labOf s e cs))
+unfoldable pub replayOf : ℕ → Document → Permitted → Edit → List Change → Outcome Document
+replayOf room d p e cs = guarded d (replayChecks room d p e cs) (done (documentDone labOf d e cs))

@@ -4,14 +4,14 @@ use base::Handle;
 use base::JOURNAL_DAMAGED;
 use base::MAX_JOURNAL;
 use history_ledger::sound;
-use sheet::check;
+use sheet::check_marked;
 use sheet::permitted_no;
 ghost use mathlib.Core.Path.{_≡_};
 ghost use mathlib.Core.List.{List};
 ghost use Prim.Native.Nat.{ℕ};
 ghost use Rattle.base.specs.Checks.{firstOf};
 ghost use Rattle.base.specs.declared.Edit.{Edit};
-ghost use Rattle.sheet.specs.Sheet.{sheetOf};
+ghost use Rattle.history_model.specs.Document.{documentOf};
 ghost use Rattle.history_model.specs.Editing.{givenOf};
 ghost use Rattle.history_model.specs.Calls.{stateOf, handleChecks, Moves, Enters};
 
@@ -28,7 +28,7 @@ pub fn handle_no(size: usize, handle: Handle) -> u8
     0
 }
 
-// The number of the first of 1 to 4 that applies to a sheet, a journal and a handle, or 0.
+// The number of the first of 1 to 4 that applies to a sheet with its marks, a journal and a handle, or 0.
 pub fn move_no(
     w: usize,
     h: usize,
@@ -36,18 +36,19 @@ pub fn move_no(
     palette: &[u8],
     lab: &[f64],
     indices: &[i16],
+    locks: &[bool],
     journal: &[u8],
     handle: Handle,
 ) -> u8
     ensures { λ r. ⌜ (
-        let sheet = sheetOf w h k (now (palette .entry)) (now (lab .entry)) (now (indices .entry)) in
-        Moves (stateOf sheet (now (journal .entry)) handle) r
+        let document = documentOf w h k (now (palette .entry)) (now (lab .entry)) (now (indices .entry)) (now (locks .entry)) in
+        Moves (stateOf document (now (journal .entry)) handle) r
         ) ⌝ }
 {
     if MAX_JOURNAL < journal.len() {
         return BAD_SHEET;
     }
-    let no = check(w, h, k, palette, lab, indices);
+    let no = check_marked(w, h, k, palette, lab, indices, locks);
     if no != 0 {
         return no;
     }
@@ -65,6 +66,7 @@ pub fn entry_no(
     palette: &[u8],
     lab: &[f64],
     indices: &[i16],
+    locks: &[bool],
     limited: bool,
     permitted: &[u8],
     journal: &[u8],
@@ -72,7 +74,7 @@ pub fn entry_no(
 ) -> u8
     ensures { λ r. ⌜
         ((e : Edit) (l : List ℕ) → Enters
-        (stateOf (sheetOf w h k (now (palette .entry)) (now (lab .entry)) (now (indices .entry))) (now (journal .entry))
+        (stateOf (documentOf w h k (now (palette .entry)) (now (lab .entry)) (now (indices .entry)) (now (locks .entry))) (now (journal .entry))
         handle) (givenOf limited (now (permitted .entry)) e l) r)
         ⌝ }
 {
@@ -80,5 +82,5 @@ pub fn entry_no(
     if no != 0 {
         return no;
     }
-    move_no(w, h, k, palette, lab, indices, journal, handle)
+    move_no(w, h, k, palette, lab, indices, locks, journal, handle)
 }

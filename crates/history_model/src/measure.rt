@@ -24,5 +24,10 @@ pub fn record_length(edit: Edit, n: usize) -> usize
             rgb: _,
             lab: _,
         } => 37 + 8 * n,
+        Edit::PaletteLock {
+            index: _,
+            old: _,
+            new: _,
+        } => 8,
     }
 }

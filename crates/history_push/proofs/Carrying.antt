@@ -15,15 +15,16 @@ use Rattle.base.proofs.Back.{never}
 use Rattle.color_lab.specs.Convert.{labOf}
 use Rattle.sheet.specs.Sheet.{Sheet, sheetOf}
 use Rattle.base.specs.declared.Edit.{Edit}
-use Rattle.base.specs.declared.Edit.the-variants.{Pixels, PaletteSet, PaletteAdd, PaletteRemove}
+use Rattle.base.specs.declared.Edit.the-variants.{Pixels, PaletteSet, PaletteAdd, PaletteRemove, PaletteLock}
 use Rattle.edit.specs.declared.ListKind.{ListKind}
 use Rattle.edit.specs.declared.ListKind.the-variants.{NoList, PixelList, RemapList}
 use Rattle.edit.specs.Change.{Change, unpacked, painted}
 use Rattle.edit.specs.List.{listOf, emptyPixels, filledList, paintedList}
+use Rattle.edit.specs.Locks.{locksDone}
 use Rattle.edit.specs.Apply.{filledEdit, filledChanges, restDone, redone}
 use Rattle.edit_list.specs.Paintable.{Paintable}
 use Rattle.edit_apply.specs.Redoable.{Redoable}
-use Rattle.edit_apply.proofs.Redoing.{redoable-paints, redoable-finishes, entry-in}
+use Rattle.edit_apply.proofs.Redoing.{redoable-paints, redoable-finishes, entry-in, mark-in, marks-redo}
 use Rattle.journal_record.specs.Record.{recordLength, recordOf}
 use Rattle.journal_record.proofs.Splice.{splice-none}
 use Rattle.journal_write.specs.List.{within, Puttable}
@@ -34,6 +35,7 @@ use Rattle.history_ledger.specs.Handle.{afterPush}
 use Rattle.history_ledger.specs.Calls.{done}
 use Rattle.history_ledger.specs.Journal.{State, written, pushed}
 use Rattle.history_ledger.proofs.Soundness.{sound-facts}
+use Rattle.history_model.specs.Document.{Document, documentOf}
 use Rattle.history_model.specs.Editing.{Given, givenOf, editing}
 use Rattle.history_model.specs.Calls.{stateOf, Standing, Acceptable}
 use Rattle.history_model.proofs.Accepting.{filled-length, framed, not-refused}
@@ -74,19 +76,21 @@ none-within PixelList w indices [] part q = sym (splice-none part 6)
 none-within (RemapList i) w indices [] part q = sym (splice-none part 33)
 
 -- ---- the edit filled in: it looks at the storage alone, and has the same list
-stored-fill : (s : Sheet) (e : Edit) → filledEdit (sheetOf 0 0 (s .k) (s .palette) (s .lab) []) e ≡ filledEdit s e
+stored-fill : (s : Sheet) (locks : List Bool) (e : Edit) → filledEdit (sheetOf 0 0 (s .k) (s .palette) (s .lab) []) locks e ≡ filledEdit s locks e
 unfolding filledEdit
-stored-fill s (Pixels tool) = refl
-stored-fill s (PaletteSet i old new lab) = refl
-stored-fill s (PaletteAdd c) = refl
-stored-fill s (PaletteRemove i c lab) = refl
+stored-fill s locks (Pixels tool) = refl
+stored-fill s locks (PaletteSet i old new lab) = refl
+stored-fill s locks (PaletteAdd c) = refl
+stored-fill s locks (PaletteRemove i c lab) = refl
+stored-fill s locks (PaletteLock i old new) = refl
 
-list-filled : (s : Sheet) (e : Edit) → listOf (filledEdit s e) ≡ listOf e
+list-filled : (s : Sheet) (locks : List Bool) (e : Edit) → listOf (filledEdit s locks e) ≡ listOf e
 unfolding filledEdit
-list-filled s (Pixels tool) = refl
-list-filled s (PaletteSet i old new lab) = refl
-list-filled s (PaletteAdd c) = refl
-list-filled s (PaletteRemove i c lab) = refl
+list-filled s locks (Pixels tool) = refl
+list-filled s locks (PaletteSet i old new lab) = refl
+list-filled s locks (PaletteAdd c) = refl
+list-filled s locks (PaletteRemove i c lab) = refl
+list-filled s locks (PaletteLock i old new) = refl
 
 length-filled : (l : ListKind) (w : ℕ) (indices : List ℤ) (cs : List Change) → length (filledList l w indices cs) ≡ length cs
 unfolding filledList
@@ -95,12 +99,12 @@ length-filled PixelList w indices cs = length-map cs _
 length-filled (RemapList i) w indices cs = refl
 
 -- ---- the list packed one number a change, of which there are n
-module _ (w h k : ℕ) (palette : List ℕ) (lab : List Float) (indices : List ℤ) (journal : List ℕ) (handle : Handle) (e : Edit) (list : List ℕ) (n : ℕ) (long : length list ≡ n) where
+module _ (w h k : ℕ) (palette : List ℕ) (lab : List Float) (indices : List ℤ) (locks : List Bool) (journal : List ℕ) (handle : Handle) (e : Edit) (list : List ℕ) (n : ℕ) (long : length list ≡ n) where
   abbrev s : Sheet
   s = sheetOf w h k palette lab indices
 
-  abbrev st : State Sheet
-  st = stateOf s journal handle
+  abbrev st : State Document
+  st = stateOf (documentOf w h k palette lab indices locks) journal handle
 
   abbrev cs : List Change
   cs = map unpacked list
@@ -117,6 +121,7 @@ module _ (w h k : ℕ) (palette : List ℕ) (lab : List Float) (indices : List �
     accepted-puts (Pixels tool) q a = let room = rw q at (a .room) in let paints = rw q at (redoable-paints e (redo a)) in rw q (λ _. omega (arith, room), paints)
     accepted-puts (PaletteSet i old new x) q a = rw q tt
     accepted-puts (PaletteAdd c) q a = rw q tt
+    accepted-puts (PaletteLock i old new) q a = rw q tt
     accepted-puts (PaletteRemove i c x) q a = let room = rw q at (a .room) in rw q (omega (arith, room))
 
     -- what writing the list asks, in the part of the journal from the offset on
@@ -136,7 +141,7 @@ module _ (w h k : ℕ) (palette : List ℕ) (lab : List Float) (indices : List �
         by false t = redoable-paints e (redo (fine t))
 
     -- and what is asked of a journal in which the list stands
-    pub carry-finishes : (after : List ℕ) → length after ≡ length journal → emptyPixels (listOf e) n ≡ false → Finishes k palette lab after handle e n
+    pub carry-finishes : (after : List ℕ) → length after ≡ length journal → emptyPixels (listOf e) n ≡ false → Finishes k palette lab locks after handle e n
     carry-finishes after q t =
         let a = fine (rw counted t) in
         let l = stands .fits .limits in
@@ -144,7 +149,9 @@ module _ (w h k : ℕ) (palette : List ℕ) (lab : List Float) (indices : List �
           storage = redoable-finishes e (redo a);
           entry-bytes = entry-in s e cs l (not-refused a) (length palette) (l .palette-length);
           entry-numbers = entry-in s e cs l (not-refused a) (length lab) (l .lab-length);
-          framed = rw (stored-fill s e) (framed (stands .fits) a);
+          entry-mark = mark-in s cs l (length locks) (stands .marks) e (not-refused a);
+          marks = marks-redo s cs l (length locks) (stands .marks) e (not-refused a);
+          framed = rw (stored-fill s locks e) (framed (stands .fits) a);
           short = omega (arith, a .short, counted);
           room = rw (q, ← counted) (a .room);
           permitted = rw q (stands .permitted);
@@ -161,8 +168,8 @@ module _ (w h k : ℕ) (palette : List ℕ) (lab : List Float) (indices : List �
 
     module _ (l : List ℤ) (j : List ℕ) (p : l ≡ paintedList (listOf e) w cs indices)
         (q : j ≡ take (handle .offset) journal ++ within (listOf e) (filledList (listOf e) w indices cs) (drop (handle .offset) journal)) where
-      abbrev left : State Sheet
-      left = stateOf (sheetOf w h k palette lab l) j handle
+      abbrev left : State Document
+      left = stateOf (documentOf w h k palette lab l locks) j handle
 
       finished-pushed : handle .offset + recordLength e n ≤ length journal → finished left e n ≡ pushed editing st g
       unfolding finished pushed written over filledEdit filledChanges redone
@@ -170,12 +177,12 @@ module _ (w h k : ℕ) (palette : List ℕ) (lab : List Float) (indices : List �
           let o : ℕ = handle .offset in
           let filled : List Change = filledList (listOf e) w indices cs in
           let sheet : restDone labOf (sheetOf w h k palette lab l) e ≡ redone labOf s e cs = ap (λ (x : List ℤ). restDone labOf (sheetOf w h k palette lab x) e) p in
-          let same : filledEdit (sheetOf w h k palette lab l) e ≡ filledEdit s e = sym (stored-fill (sheetOf w h k palette lab l) e) ∙ stored-fill s e in
-          let stood : j ≡ take o journal ++ within (listOf (filledEdit s e)) filled (drop o journal) = q ∙ rw (list-filled s e) in
-          let bytes : take o j ++ around (filledEdit (sheetOf w h k palette lab l) e) n (drop o j) ≡ written journal o (recordOf (filledEdit s e) filled) =
-          rw same (whole-record (filledEdit s e) filled n o journal j (length-filled (listOf e) w indices cs ∙ counted) (rw (filled-length s e n) room) stood ∙ rw drop-drop) in
+          let same : filledEdit (sheetOf w h k palette lab l) locks e ≡ filledEdit s locks e = sym (stored-fill (sheetOf w h k palette lab l) locks e) ∙ stored-fill s locks e in
+          let stood : j ≡ take o journal ++ within (listOf (filledEdit s locks e)) filled (drop o journal) = q ∙ rw (list-filled s locks e) in
+          let bytes : take o j ++ around (filledEdit (sheetOf w h k palette lab l) locks e) n (drop o j) ≡ written journal o (recordOf (filledEdit s locks e) filled) =
+          rw same (whole-record (filledEdit s locks e) filled n o journal j (length-filled (listOf e) w indices cs ∙ counted) (rw (filled-length s locks e n) room) stood ∙ rw drop-drop) in
           let moved : afterPush (recordLength e n) handle ≡ afterPush (recordLength e (length cs)) handle = rw counted in
-          λ i. record { sheet = sheet i; journal = bytes i; handle = moved i }
+          λ i. record { sheet = record { sheet = sheet i; locks = locksDone k locks e }; journal = bytes i; handle = moved i }
 
       -- with number 0: still, or done
       pub carried : (emptyPixels (listOf e) (length cs) ≡ false → Acceptable st e cs) → pushedOr 0 (emptyPixels (listOf e) n) left (finished left e n) ≡ pushedOr 0 (isStill g) st (pushed editing st g)

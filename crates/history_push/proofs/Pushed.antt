@@ -3,14 +3,14 @@ use mathlib.Core.Path.{_≡_, refl}
 use mathlib.Core.Bool.{Bool, true, false, cond}
 use Prim.Native.Nat.{ℕ, zero, suc}
 use Rattle.base.specs.Checks.{orElse, firstOf, refusedOr}
-use Rattle.sheet.specs.Sheet.{Sheet}
 use Rattle.history_ledger.specs.Calls.{refused, still, done}
 use Rattle.history_ledger.specs.Journal.{State, entryChecks, pushChecks, pushOf, pushed}
+use Rattle.history_model.specs.Document.{Document}
 use Rattle.history_model.specs.Editing.{Given, editing}
 use Rattle.history_push_checks.specs.Steps.{isStill, pushNumber, pushedOr}
 
 -- ---- `push`: what the number decides
-pub push-is : (room : ℕ) (st : State Sheet) (g : Given) (n : ℕ) → n ≡ pushNumber room st g → pushedOr n (isStill g) st (pushed editing st g) ≡ pushOf editing room st g
+pub push-is : (room : ℕ) (st : State Document) (g : Given) (n : ℕ) → n ≡ pushNumber room st g → pushedOr n (isStill g) st (pushed editing st g) ≡ pushOf editing room st g
 unfolding pushedOr pushNumber pushOf refusedOr
 push-is room st g n q = rw q (by (firstOf (entryChecks editing st g)) (isStill g))
   where
@@ -22,7 +22,7 @@ push-is room st g n q = rw q (by (firstOf (entryChecks editing st g)) (isStill g
     by (suc a) t = refl
 
 -- ---- a push after its number
-module _ (n : ℕ) (empty : Bool) (st after : State Sheet) where
+module _ (n : ℕ) (empty : Bool) (st after : State Document) where
   pub refused-push : (n ≡ 0 → ⊥) → refused st n ≡ pushedOr n empty st after
   unfolding pushedOr refusedOr
   refused-push h = by n h
@@ -35,6 +35,6 @@ module _ (n : ℕ) (empty : Bool) (st after : State Sheet) where
   unfolding pushedOr refusedOr
   still-push z t = rw (z, t)
 
-  pub done-push : (x : State Sheet) → n ≡ 0 → empty ≡ false → x ≡ after → done x ≡ pushedOr n empty st after
+  pub done-push : (x : State Document) → n ≡ 0 → empty ≡ false → x ≡ after → done x ≡ pushedOr n empty st after
   unfolding pushedOr refusedOr
   done-push x z t q = rw (z, t, q)

@@ -9,6 +9,7 @@ use edit::list_of;
 use edit_apply::fill_edit;
 use edit_apply::finish_edit;
 use edit_list::paint_list;
+use edit_locks::redo_locks;
 use history_ledger::after_push;
 use history_model::record_length;
 use history_model::refused;
@@ -21,23 +22,25 @@ ghost use mathlib.Core.Bool.{Bool, false};
 ghost use mathlib.Core.List.{List, map};
 ghost use Prim.Native.Nat.{ℕ};
 ghost use lib.ListN.{length};
-ghost use Rattle.sheet.specs.Sheet.{sheetOf};
 ghost use Rattle.edit.specs.Change.{unpacked};
 ghost use Rattle.edit.specs.List.{listOf, emptyPixels};
 ghost use Rattle.history_ledger.specs.Journal.{pushOf, pushed};
+ghost use Rattle.history_model.specs.Document.{documentOf};
 ghost use Rattle.history_model.specs.Editing.{editing, givenOf};
 ghost use Rattle.history_model.specs.Calls.{stateOf, leaves, Standing, Acceptable};
 ghost use Rattle.history_push_checks.specs.Steps.{isStill, pushedOr};
 ghost use Rattle.history_push.specs.Finish.{finished, Finishes};
 
 // What a push does beside its list, where it was not refused: the record is written around the changes into the
-// part of the journal that starts at the standing offset, the edit is done, and the handle moved.
+// part of the journal that starts at the standing offset, the marks are moved with their entries, the edit is done, and
+// the handle moved.
 pub fn finish(
     no: u8,
     k: usize,
     palette: &mut [u8],
     lab: &mut [f64],
     indices: &mut [i16],
+    locks: &mut [bool],
     edit: Edit,
     n: usize,
     journal: &mut [u8],
@@ -45,15 +48,15 @@ pub fn finish(
 ) -> Moved
     requires { ⌜
         (no ≡ 0 → emptyPixels (listOf edit) n ≡ false
-        → Finishes k (now palette) (now lab) (now journal) handle edit n)
+        → Finishes k (now palette) (now lab) (now locks) (now journal) handle edit n)
         ⌝ }
     ensures { λ r. ⌜
-        ((w h : ℕ) → leaves r w h (now (palette .exit)) (now (lab .exit)) (now (indices .exit)) (now (journal .exit))
+        ((w h : ℕ) → leaves r w h (now (palette .exit)) (now (lab .exit)) (now (indices .exit)) (now (locks .exit)) (now (journal .exit))
         ≡ pushedOr no (emptyPixels (listOf edit) n)
-        (stateOf (sheetOf w h k (now (palette .entry)) (now (lab .entry)) (now (indices .entry))) (now (journal .entry))
-        handle) (finished
-        (stateOf (sheetOf w h k (now (palette .entry)) (now (lab .entry)) (now (indices .entry))) (now (journal .entry))
-        handle) edit n))
+        (stateOf (documentOf w h k (now (palette .entry)) (now (lab .entry)) (now (indices .entry)) (now (locks .entry)))
+        (now (journal .entry)) handle) (finished
+        (stateOf (documentOf w h k (now (palette .entry)) (now (lab .entry)) (now (indices .entry)) (now (locks .entry)))
+        (now (journal .entry)) handle) edit n))
         ⌝ }
 {
     if no != 0 {
@@ -63,8 +66,9 @@ pub fn finish(
         return still(k, handle);
     }
     let offset = handle.offset;
-    let filled = fill_edit(palette, lab, edit);
+    let filled = fill_edit(palette, lab, locks, edit);
     write_around(&mut journal[offset..], filled, n);
+    redo_locks(k, locks, edit);
     let after = finish_edit(k, palette, lab, indices, edit);
     Moved {
         answer: Answer::Done,
@@ -82,25 +86,26 @@ fn carry_out(
     palette: &mut [u8],
     lab: &mut [f64],
     indices: &mut [i16],
+    locks: &mut [bool],
     edit: Edit,
     list: &[u64],
     journal: &mut [u8],
     handle: Handle,
 ) -> Moved
-    requires { ⌜ Standing (stateOf (sheetOf w h k (now palette) (now lab) (now indices)) (now journal) handle) ⌝ }
+    requires { ⌜ Standing (stateOf (documentOf w h k (now palette) (now lab) (now indices) (now locks)) (now journal) handle) ⌝ }
     requires { ⌜
         (emptyPixels (listOf edit) (length (map unpacked (now list))) ≡ false
-        → Acceptable (stateOf (sheetOf w h k (now palette) (now lab) (now indices)) (now journal) handle) edit
+        → Acceptable (stateOf (documentOf w h k (now palette) (now lab) (now indices) (now locks)) (now journal) handle) edit
         (map unpacked (now list)))
         ⌝ }
     ensures { λ r. ⌜
         ((limited : Bool) (permitted : List ℕ)
-        → leaves r w h (now (palette .exit)) (now (lab .exit)) (now (indices .exit)) (now (journal .exit))
+        → leaves r w h (now (palette .exit)) (now (lab .exit)) (now (indices .exit)) (now (locks .exit)) (now (journal .exit))
         ≡ pushedOr 0 (isStill (givenOf limited permitted edit (now (list .entry))))
-        (stateOf (sheetOf w h k (now (palette .entry)) (now (lab .entry)) (now (indices .entry))) (now (journal .entry))
-        handle) (pushed editing
-        (stateOf (sheetOf w h k (now (palette .entry)) (now (lab .entry)) (now (indices .entry))) (now (journal .entry))
-        handle) (givenOf limited permitted edit (now (list .entry)))))
+        (stateOf (documentOf w h k (now (palette .entry)) (now (lab .entry)) (now (indices .entry)) (now (locks .entry)))
+        (now (journal .entry)) handle) (pushed editing
+        (stateOf (documentOf w h k (now (palette .entry)) (now (lab .entry)) (now (indices .entry)) (now (locks .entry)))
+        (now (journal .entry)) handle) (givenOf limited permitted edit (now (list .entry)))))
         ⌝ }
 {
     let kind = list_of(edit);
@@ -113,6 +118,7 @@ fn carry_out(
         palette,
         lab,
         indices,
+        locks,
         edit,
         list.len(),
         journal,
@@ -121,8 +127,8 @@ fn carry_out(
 }
 
 // Checks an edit, records it and does it. A removal repaints its list, lowers the indices above the entry and
-// closes the gap; the olds, and LAB, go from the sheet into the record. The list is only read. What the scratch
-// holds after the call is free.
+// closes the gap, in the marks too; the olds, LAB and the old mark go from the sheet into the record. The list is only
+// read. What the scratch holds after the call is free.
 pub fn push(
     w: usize,
     h: usize,
@@ -130,6 +136,7 @@ pub fn push(
     palette: &mut [u8],
     lab: &mut [f64],
     indices: &mut [i16],
+    locks: &mut [bool],
     limited: bool,
     permitted: &[u8],
     edit: Edit,
@@ -139,9 +146,9 @@ pub fn push(
     scratch: &mut [u8],
 ) -> Moved
     ensures { λ r. ⌜ (
-        let sheet = sheetOf w h k (now (palette .entry)) (now (lab .entry)) (now (indices .entry)) in
-        leaves r w h (now (palette .exit)) (now (lab .exit)) (now (indices .exit)) (now (journal .exit))
-        ≡ pushOf editing (length (now (scratch .entry))) (stateOf sheet (now (journal .entry)) handle)
+        let document = documentOf w h k (now (palette .entry)) (now (lab .entry)) (now (indices .entry)) (now (locks .entry)) in
+        leaves r w h (now (palette .exit)) (now (lab .exit)) (now (indices .exit)) (now (locks .exit)) (now (journal .exit))
+        ≡ pushOf editing (length (now (scratch .entry))) (stateOf document (now (journal .entry)) handle)
         (givenOf limited (now (permitted .entry)) edit (now (list .entry)))
         ) ⌝ }
     ensures { λ _. ⌜ length (now (scratch .exit)) ≡ length (now (scratch .entry)) ⌝ }
@@ -153,6 +160,7 @@ pub fn push(
         palette,
         lab,
         indices,
+        locks,
         limited,
         permitted,
         edit,
@@ -164,5 +172,17 @@ pub fn push(
     if no != 0 {
         return refused(no, k, handle);
     }
-    carry_out(w, h, k, palette, lab, indices, edit, list, journal, handle)
+    carry_out(
+        w,
+        h,
+        k,
+        palette,
+        lab,
+        indices,
+        locks,
+        edit,
+        list,
+        journal,
+        handle,
+    )
 }

@@ -6,7 +6,7 @@ use Prim.Native.Nat.{ℕ, _+_, _*_, _≤_, _<_}
 use native.Mathlib.Omega.{arith}
 use borrow.Author.Tests.{lt-ltb, le-ltb}
 use lib.Dec.{ltb}
-use lib.ListN.{length}
+use lib.ListN.{length, take}
 use Rattle.base.specs.Limits.{maxChanges}
 use Rattle.base.specs.Numbers.{journalFull}
 use Rattle.base.specs.Checks.{_when_, firstOf}
@@ -15,39 +15,40 @@ use Rattle.edit.specs.Checks.{ownChecks, asSheet}
 use Rattle.edit.proofs.Shown.{checks-shown}
 use Rattle.journal_record.specs.Record.{recordLength}
 use Rattle.history_ledger.specs.Journal.{State, pushChecks}
+use Rattle.history_model.specs.Document.{Document}
 use Rattle.history_model.specs.Editing.{Given, tooLong, editing}
 use Rattle.history_model.specs.Calls.{Standing, Acceptable}
 use Rattle.history_model.proofs.Answers.{here}
 
 -- the number of the first check after "still" that applies, and what 0 means
-pub record Pushes (room : ℕ) (st : State Sheet) (g : Given) (n : ℕ) : Type 0 where
+pub record Pushes (room : ℕ) (st : State Document) (g : Given) (n : ℕ) : Type 0 where
   pub value : n ≡ firstOf (pushChecks editing room st g)
   pub fine : n ≡ 0 → Acceptable st (g .edit) (g .changes)
 
 no-0 : (n : ℕ) → 0 < n → n ≡ 0 → ⊥
 no-0 n h e = omega arith
 
-module _ (room : ℕ) (st : State Sheet) (g : Given) where
+module _ (room : ℕ) (st : State Document) (g : Given) where
   pub pushes-long : maxChanges < length (g .changes) → Pushes room st g 21
   unfolding firstOf tooLong
   pushes-long h = record { value = rw (lt-ltb maxChanges (length (g .changes)) h); fine = λ e. absurd (no-0 21 (omega arith) e) }
 
   module _ (short : length (g .changes) ≤ maxChanges) (stands : Standing st) where
-    pub pushes-scratch : room < length (st .sheet .indices) → Pushes room st g 16
+    pub pushes-scratch : room < length (st .sheet .sheet .indices) → Pushes room st g 16
     unfolding firstOf tooLong view
     pushes-scratch h =
-        let s = st .sheet in
+        let s = st .sheet .sheet in
         record {
           value = rw (le-ltb maxChanges (length (g .changes)) short, lt-ltb room (s .w * s .h) (rw (stands .fits .limits .indices-length) at h));
           fine = λ e. absurd (no-0 16 (omega arith) e);
         }
 
-    module _ (enough : length (st .sheet .indices) ≤ room) (n : ℕ) (own : n ≡ firstOf (ownChecks false (st .sheet) (g .permitted) (g .edit) (g .changes))) where
-      roomy : ltb room (st .sheet .w * st .sheet .h) ≡ false
-      roomy = le-ltb room (st .sheet .w * st .sheet .h) (rw (stands .fits .limits .indices-length) at enough)
+    module _ (enough : length (st .sheet .sheet .indices) ≤ room) (n : ℕ) (own : n ≡ firstOf (ownChecks false (st .sheet .sheet) (st .sheet .locks) (g .permitted) (g .edit) (g .changes))) where
+      roomy : ltb room (st .sheet .sheet .w * st .sheet .sheet .h) ≡ false
+      roomy = le-ltb room (st .sheet .sheet .w * st .sheet .sheet .h) (rw (stands .fits .limits .indices-length) at enough)
 
-      shown : n ≡ firstOf (ownChecks false (asSheet (view (st .sheet))) (g .permitted) (g .edit) (g .changes))
-      shown = own ∙ checks-shown false (g .permitted) (st .sheet) (g .edit) (g .changes)
+      shown : n ≡ firstOf (ownChecks false (asSheet (view (st .sheet .sheet))) (take (st .sheet .sheet .k) (st .sheet .locks)) (g .permitted) (g .edit) (g .changes))
+      shown = own ∙ checks-shown false (g .permitted) (st .sheet .sheet) (st .sheet .locks) (g .edit) (g .changes)
 
       pub pushes-own : (n ≡ 0 → ⊥) → Pushes room st g n
       unfolding firstOf tooLong view

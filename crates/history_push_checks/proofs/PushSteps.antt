@@ -15,7 +15,7 @@ use Rattle.base.proofs.First.{or-else-assoc, first-passes}
 use Rattle.base.proofs.Back.{never}
 use Rattle.sheet.specs.Sheet.{Sheet, sheetOf}
 use Rattle.base.specs.declared.Edit.{Edit}
-use Rattle.base.specs.declared.Edit.the-variants.{Pixels, PaletteSet, PaletteAdd, PaletteRemove}
+use Rattle.base.specs.declared.Edit.the-variants.{Pixels, PaletteSet, PaletteAdd, PaletteRemove, PaletteLock}
 use Rattle.edit.specs.declared.ListKind.{ListKind}
 use Rattle.edit.specs.declared.ListKind.the-variants.{NoList, PixelList, RemapList}
 use Rattle.edit.specs.Change.{Change, unpacked}
@@ -28,6 +28,7 @@ use Rattle.journal_record.specs.Record.{recordLength}
 use Rattle.base.specs.declared.Handle.{Handle}
 use Rattle.history_ledger.specs.Journal.{State, entryChecks, pushChecks}
 use Rattle.history_ledger.proofs.Soundness.{sound-facts}
+use Rattle.history_model.specs.Document.{Document, documentOf}
 use Rattle.history_model.specs.Editing.{Given, givenOf, editing}
 use Rattle.history_model.specs.Calls.{stateOf, Standing}
 use Rattle.history_push_checks.proofs.PushChecks.{pushes-own, pushes-full, pushes-fine}
@@ -52,7 +53,7 @@ still-left s PixelList cs n q = refl
 still-left s (RemapList i) cs n q = never q
 
 -- ---- the number, by the checks that decide
-module _ (room : ℕ) (st : State Sheet) (g : Given) where
+module _ (room : ℕ) (st : State Document) (g : Given) where
   pub number-entry : (n : ℕ) → n ≡ firstOf (entryChecks editing st g) → (n ≡ 0 → ⊥) → n ≡ pushNumber room st g
   unfolding pushNumber
   number-entry n q h = sym (rw (← q) (first-kept n _ h))
@@ -82,12 +83,12 @@ module _ (room : ℕ) (st : State Sheet) (g : Given) where
   refused-number n b h = record { value = b .refuses h; stands = λ z. absurd (h z); fine = λ z _. absurd (h z) }
 
 -- ---- the list, packed one number a change, and what follows it
-module _ (room w h k : ℕ) (palette : List ℕ) (lab : List Float) (indices : List ℤ) (journal : List ℕ) (handle : Handle) (limited : Bool) (permitted : List ℕ) (e : Edit) (list : List ℕ) (count : ℕ) (long : length list ≡ count) where
+module _ (room w h k : ℕ) (palette : List ℕ) (lab : List Float) (indices : List ℤ) (locks : List Bool) (journal : List ℕ) (handle : Handle) (limited : Bool) (permitted : List ℕ) (e : Edit) (list : List ℕ) (count : ℕ) (long : length list ≡ count) where
   abbrev s : Sheet
   s = sheetOf w h k palette lab indices
 
-  abbrev state : State Sheet
-  state = stateOf s journal handle
+  abbrev state : State Document
+  state = stateOf (documentOf w h k palette lab indices locks) journal handle
 
   abbrev given : Given
   given = givenOf limited permitted e list
@@ -120,7 +121,7 @@ module _ (room w h k : ℕ) (palette : List ℕ) (lab : List Float) (indices : L
         by-list (RemapList i) t =
             let r = b .readied z (rw t) in
             let l = b .stands z .fits .limits in
-            head-markable false s (permittedOf limited permitted) e m l (omega (arith, r .enough, l .indices-length, q)) (r .head)
+            head-markable false s locks (permittedOf limited permitted) e m l (omega (arith, r .enough, l .indices-length, q)) (r .head)
 
     pub begun-checkable : (m : ℕ) → m ≡ room → n ≡ 0 → Checkable kind w h (length indices) m
     begun-checkable m q z = record { pixels = b .stands z .fits .limits .indices-length; markable = room-for m q z }
@@ -173,8 +174,8 @@ module _ (room w h k : ℕ) (palette : List ℕ) (lab : List Float) (indices : L
           not-still : (f : isStill given ≡ false) → Readied room state given marks → (m : ℕ) → orElse all rest ≡ m → PushNumbered room state given l
           not-still f r zero p = by-journal (ltb (length journal) (handle .offset + recordLength e count)) refl
             where
-              own : 0 ≡ firstOf (ownChecks false s (permittedOf limited permitted) e cs)
-              own = sym (list-decides false s (permittedOf limited permitted) e cs (r .head) ∙ p)
+              own : 0 ≡ firstOf (ownChecks false s locks (permittedOf limited permitted) e cs)
+              own = sym (list-decides false s locks (permittedOf limited permitted) e cs (r .head) ∙ p)
 
               last : l ≡ full
               last = rw p at after
@@ -194,7 +195,7 @@ module _ (room w h k : ℕ) (palette : List ℕ) (lab : List Float) (indices : L
                   record { value = is ∙ number-push room state given 0 (b .entered z) f (p .value); stands = λ _. b .stands z; fine = λ y _. p .fine refl }
           not-still f r (suc m) p =
               let is : l ≡ suc m = rw p at after in
-              let own : suc m ≡ firstOf (ownChecks false s (permittedOf limited permitted) e cs) = sym (list-decides false s (permittedOf limited permitted) e cs (r .head) ∙ p) in
+              let own : suc m ≡ firstOf (ownChecks false s locks (permittedOf limited permitted) e cs) = sym (list-decides false s locks (permittedOf limited permitted) e cs (r .head) ∙ p) in
               let o = pushes-own room state given (r .short) (b .stands z) (r .enough) (suc m) own (λ y. omega (arith, y)) in
               record {
                 value = is ∙ number-push room state given (suc m) (b .entered z) f (o .value);
@@ -230,6 +231,7 @@ end-small (Pixels tool) offset n r a b q = omega (arith, a, b, q)
 end-small (PaletteSet i old new lab) offset n r a b q = omega (arith, a, b, q)
 end-small (PaletteAdd c) offset n r a b q = omega (arith, a, b, q)
 end-small (PaletteRemove i c lab) offset n r a b q = omega (arith, a, b, q)
+end-small (PaletteLock i old new) offset n r a b q = omega (arith, a, b, q)
 
 -- ---- 14, by the journal's bytes
 module _ (e : Edit) (offset n size r : ℕ) (f : emptyPixels (listOf e) n ≡ false) (q : r ≡ recordLength e n) where

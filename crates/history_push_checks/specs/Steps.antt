@@ -14,9 +14,9 @@ use Rattle.edit.specs.List.{listOf, emptyPixels}
 use Rattle.edit.specs.Checks.{headChecks}
 use Rattle.edit_checks.specs.Marks.{ClearFor}
 use Rattle.journal_record.specs.Record.{recordLength}
-use Rattle.sheet.specs.Sheet.{Sheet}
 use Rattle.history_ledger.specs.Calls.{Outcome, done, still, refused}
 use Rattle.history_ledger.specs.Journal.{State, entryChecks, pushChecks}
+use Rattle.history_model.specs.Document.{Document}
 use Rattle.history_model.specs.Editing.{Given, editing}
 use Rattle.history_model.specs.Calls.{Standing, Acceptable}
 
@@ -25,21 +25,21 @@ abbrev pub isStill : Given → Bool
 isStill g = emptyPixels (listOf (g .edit)) (length (g .changes))
 
 -- "1, 2, 3, 4; "still" for an empty pixel list; 21, 16, its own, 14", in one number
-unfoldable pub pushNumber : ℕ → State Sheet → Given → ℕ
+unfoldable pub pushNumber : ℕ → State Document → Given → ℕ
 pushNumber room st g = orElse (firstOf (entryChecks editing st g)) (cond (isStill g) 0 (firstOf (pushChecks editing room st g)))
 
 -- a push after that number
-unfoldable pub pushedOr : ℕ → Bool → State Sheet → State Sheet → Outcome (State Sheet)
+unfoldable pub pushedOr : ℕ → Bool → State Document → State Document → Outcome (State Document)
 pushedOr n empty st after = refusedOr n (refused st) (cond empty (still st) (done after))
 
 -- before its list: a number other than 0 is the call's; with 0 nothing of 1 to 4 applies and, where the push is not still, none of the checks before the list
-pub record Readied (room : ℕ) (st : State Sheet) (g : Given) (marks : List ℕ) : Type 0 where
+pub record Readied (room : ℕ) (st : State Document) (g : Given) (marks : List ℕ) : Type 0 where
   pub short : length (g .changes) ≤ maxChanges
-  pub enough : length (st .sheet .indices) ≤ room
-  pub head : firstOf (headChecks false (st .sheet) (g .permitted) (g .edit)) ≡ 0
-  pub clear : ClearFor (listOf (g .edit)) (st .sheet .w * st .sheet .h) marks
+  pub enough : length (st .sheet .sheet .indices) ≤ room
+  pub head : firstOf (headChecks false (st .sheet .sheet) (st .sheet .locks) (g .permitted) (g .edit)) ≡ 0
+  pub clear : ClearFor (listOf (g .edit)) (st .sheet .sheet .w * st .sheet .sheet .h) marks
 
-pub record Begun (room : ℕ) (st : State Sheet) (g : Given) (n : ℕ) (marks : List ℕ) : Type 0 where
+pub record Begun (room : ℕ) (st : State Document) (g : Given) (n : ℕ) (marks : List ℕ) : Type 0 where
   pub refuses : (n ≡ 0 → ⊥) → n ≡ pushNumber room st g
   pub entered : n ≡ 0 → firstOf (entryChecks editing st g) ≡ 0
   pub stands : n ≡ 0 → Standing st
@@ -50,7 +50,7 @@ abbrev pub fullNumber : ℕ → Edit → ℕ → ℕ → ℕ
 fullNumber offset e n size = cond (emptyPixels (listOf e) n) 0 (cond (ltb size (offset + recordLength e n)) journalFull 0)
 
 -- the number, and what 0 means
-pub record PushNumbered (room : ℕ) (st : State Sheet) (g : Given) (n : ℕ) : Type 0 where
+pub record PushNumbered (room : ℕ) (st : State Document) (g : Given) (n : ℕ) : Type 0 where
   pub value : n ≡ pushNumber room st g
   pub stands : n ≡ 0 → Standing st
   pub fine : n ≡ 0 → isStill g ≡ false → Acceptable st (g .edit) (g .changes)

@@ -20,12 +20,12 @@ ghost use Prim.Native.Nat.{ℕ, _*_, _≤_};
 ghost use lib.ListN.{length};
 ghost use Rattle.base.specs.Limits.{maxChanges, maxJournal};
 ghost use Rattle.base.specs.Checks.{orElse, firstOf};
-ghost use Rattle.sheet.specs.Sheet.{sheetOf};
 ghost use Rattle.edit.specs.Change.{Change};
 ghost use Rattle.edit.specs.List.{listOf};
 ghost use Rattle.edit.specs.Checks.{leftChecks};
 ghost use Rattle.edit_pixels.specs.Inside.{bare};
 ghost use Rattle.edit_checks.specs.Marks.{MarksFor, Checkable};
+ghost use Rattle.history_model.specs.Document.{documentOf};
 ghost use Rattle.history_model.specs.Editing.{givenOf};
 ghost use Rattle.history_model.specs.Calls.{stateOf};
 ghost use Rattle.history_push_checks.specs.Steps.{Begun, PushNumbered, fullNumber};
@@ -38,6 +38,7 @@ pub fn begin(
     palette: &[u8],
     lab: &[f64],
     indices: &[i16],
+    locks: &[bool],
     limited: bool,
     permitted: &[u8],
     edit: Edit,
@@ -48,7 +49,7 @@ pub fn begin(
 ) -> u8
     ensures { λ r. ⌜
         ((list : List ℕ) → length list ≡ n → Begun (length (now (marks .entry)))
-        (stateOf (sheetOf w h k (now (palette .entry)) (now (lab .entry)) (now (indices .entry))) (now (journal .entry))
+        (stateOf (documentOf w h k (now (palette .entry)) (now (lab .entry)) (now (indices .entry)) (now (locks .entry))) (now (journal .entry))
         handle) (givenOf limited (now (permitted .entry)) edit list) r (now (marks .exit)))
         ⌝ }
 {
@@ -59,6 +60,7 @@ pub fn begin(
         palette,
         lab,
         indices,
+        locks,
         limited,
         permitted,
         journal,
@@ -78,7 +80,7 @@ pub fn begin(
     if marks.len() < size {
         return NO_SPACE;
     }
-    let head = head_no(k, palette, limited, permitted, edit, false);
+    let head = head_no(k, palette, locks, limited, permitted, edit, false);
     if head != 0 {
         return head;
     }
@@ -133,6 +135,7 @@ pub fn push_no(
     palette: &[u8],
     lab: &[f64],
     indices: &[i16],
+    locks: &[bool],
     limited: bool,
     permitted: &[u8],
     edit: Edit,
@@ -142,8 +145,8 @@ pub fn push_no(
     marks: &mut [u8],
 ) -> u8
     ensures { λ r. ⌜ (
-        let sheet = sheetOf w h k (now (palette .entry)) (now (lab .entry)) (now (indices .entry)) in
-        PushNumbered (length (now (marks .entry))) (stateOf sheet (now (journal .entry)) handle)
+        let document = documentOf w h k (now (palette .entry)) (now (lab .entry)) (now (indices .entry)) (now (locks .entry)) in
+        PushNumbered (length (now (marks .entry))) (stateOf document (now (journal .entry)) handle)
         (givenOf limited (now (permitted .entry)) edit (now (list .entry))) r
         ) ⌝ }
 {
@@ -155,6 +158,7 @@ pub fn push_no(
         palette,
         lab,
         indices,
+        locks,
         limited,
         permitted,
         edit,

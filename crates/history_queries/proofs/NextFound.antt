@@ -36,21 +36,22 @@ pub record Seen (journal : List ℕ) (r : Reading) (kind start n count : ℕ) : 
   pub room : 4 + 8 * count ≤ n
 
 module _ (journal : List ℕ) (start n count : ℕ) where
-  list-room : (kind : ℕ) → 1 ≤ kind → kind ≤ 4 → length (changesAt journal kind start count) ≡ count → 4 + 8 * count ≤ recordLength (editAt journal kind start) count
+  list-room : (kind : ℕ) → 1 ≤ kind → kind ≤ 5 → length (changesAt journal kind start count) ≡ count → 4 + 8 * count ≤ recordLength (editAt journal kind start) count
   unfolding changesAt editAt byKind recordLength
   list-room zero l m e = absurd (omega arith)
   list-room (suc zero) l m e = omega arith
   list-room (suc (suc zero)) l m e = omega arith
   list-room (suc (suc (suc zero))) l m e = omega arith
   list-room (suc (suc (suc (suc zero)))) l m e = omega arith
-  list-room (suc (suc (suc (suc (suc kind))))) l m e = absurd (omega arith)
+  list-room (suc (suc (suc (suc (suc zero))))) l m e = omega arith
+  list-room (suc (suc (suc (suc (suc (suc kind)))))) l m e = absurd (omega arith)
 
   -- no changes are read anywhere
   none-there : (at : ℕ) → 0 ≡ count → [] ≡ changesIn journal at count
   unfolding changesIn
   none-there at e = rw (← e)
 
-  list-there : (kind : ℕ) → 1 ≤ kind → kind ≤ 4 → length (changesAt journal kind start count) ≡ count → n ≡ recordLength (editAt journal kind start) count
+  list-there : (kind : ℕ) → 1 ≤ kind → kind ≤ 5 → length (changesAt journal kind start count) ≡ count → n ≡ recordLength (editAt journal kind start) count
       → changesAt journal kind start count ≡ changesIn journal (listAt start n count) count
   unfolding changesAt editAt byKind recordLength
   list-there zero l m e q = absurd (omega arith)
@@ -58,7 +59,8 @@ module _ (journal : List ℕ) (start n count : ℕ) where
   list-there (suc (suc zero)) l m e q = none-there (listAt start n count) e
   list-there (suc (suc (suc zero))) l m e q = none-there (listAt start n count) e
   list-there (suc (suc (suc (suc zero)))) l m e q = let there : start + 33 ≡ listAt start n count = omega arith in ap (λ (at : ℕ). changesIn journal at count) there
-  list-there (suc (suc (suc (suc (suc kind))))) l m e q = absurd (omega arith)
+  list-there (suc (suc (suc (suc (suc zero))))) l m e q = none-there (listAt start n count) e
+  list-there (suc (suc (suc (suc (suc (suc kind)))))) l m e q = absurd (omega arith)
 
   seen : (r : Reading) (kind : ℕ) → Searched journal r kind start n count → Seen journal r kind start n count
   seen r kind s =

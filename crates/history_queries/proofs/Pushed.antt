@@ -11,8 +11,7 @@ use lib.Dec.{eqb·suc-zero}
 use lib.ListN.{length, length-append}
 use Rattle.base.specs.Limits.{maxJournal}
 use Rattle.base.specs.Checks.{firstOf, refusedOr}
-use Rattle.sheet.specs.Sheet.{Sheet, Picture}
-use Rattle.sheet.proofs.Judging.{none-applied}
+use Rattle.sheet.specs.Checks.{WellFormed}
 use Rattle.base.specs.declared.Edit.{Edit}
 use Rattle.edit.specs.Change.{Change}
 use Rattle.edit.specs.List.{listOf}
@@ -28,8 +27,10 @@ use Rattle.history_ledger.proofs.Saved.{SavedWithin}
 use Rattle.history_ledger.specs.Tally.{total}
 use Rattle.history_ledger.proofs.Trace.{Pushed, Trace, Holds, bytes, sizes, pastBytes, futureBytes, journalOf, handleOf}
 use Rattle.history_ledger.proofs.Lengths.{sound-handle, take-past, take-future}
+use Rattle.history_model.specs.Document.{Document, Shown}
 use Rattle.history_model.specs.Editing.{editing}
 use Rattle.history_model.specs.Calls.{handleChecks}
+use Rattle.history_model.proofs.Keeps.{marked}
 use Rattle.history_model.proofs.Recordable.{ownList, own-length, recordable, own-record}
 use Rattle.history_queries.specs.Looks.{shown, stepShown, nextUndoOf, nextRedoOf, rewound, past, shownAfter, appliedOf}
 use Rattle.history_queries.proofs.NextShown.{applied-after}
@@ -37,23 +38,26 @@ use Rattle.history_queries.proofs.NextShown.{applied-after}
 abbrev Pushes : Type 0
 Pushes = List (Pushed editing)
 
--- ---- what an accepted push's record tells: the edit filled in from the sheet that it met
+-- ---- what an accepted push's record tells: the edit filled in from the sheet and the marks that it met
 abbrev pub told : Pushed editing → ℕ × Edit × List Change
 told x =
-    (recordLength (x .by .edit) (length (x .by .changes)), filledEdit (x .from) (x .by .edit), filledChanges (x .from) (x .by .edit) (ownList (listOf (x .by .edit)) (x .by .changes)))
+    (recordLength (x .by .edit) (length (x .by .changes)), filledEdit (x .from .sheet) (x .from .locks) (x .by .edit), filledChanges (x .from .sheet) (x .by .edit) (ownList (listOf (x .by .edit)) (x .by .changes)))
 
 module _ (x : Pushed editing) where
+  formed : WellFormed (x .from .sheet)
+  formed = marked (x .from .sheet) (x .from .locks) (x .ok .fits .passes) .formed
+
   fit : Fit (told x .1) (told x .2)
-  fit = recordable (x .from) (none-applied (x .from) (x .ok .fits .passes)) (x .ok .fits .typed) (x .by .edit) (x .by .changes) (x .ok .not-empty) (x .ok .not-long) (x .ok .typed .changes-fit)
+  fit = recordable (x .from .sheet) (x .from .locks) formed (x .ok .fits .typed) (x .by .edit) (x .by .changes) (x .ok .not-empty) (x .ok .not-long) (x .ok .typed .changes-fit)
 
   long : recordLength (told x .1) (length (told x .2)) ≡ told x .0
-  long = own-length (x .from) (none-applied (x .from) (x .ok .fits .passes)) (x .ok .fits .typed) (x .by .edit) (x .by .changes)
+  long = own-length (x .from .sheet) (x .from .locks) formed (x .ok .fits .typed) (x .by .edit) (x .by .changes)
 
   reads-forth : (after : List ℕ) → readForth (bytes editing x ++ after) ≡ some (told x)
-  reads-forth after = rw (own-record (x .from) (x .by .edit) (x .by .changes), read-forth (told x .1) (told x .2) after fit, long)
+  reads-forth after = rw (own-record (x .from .sheet) (x .from .locks) (x .by .edit) (x .by .changes), read-forth (told x .1) (told x .2) after fit, long)
 
   reads-back : (before : List ℕ) → readBack (before ++ bytes editing x) ≡ some (told x)
-  reads-back before = rw (own-record (x .from) (x .by .edit) (x .by .changes), read-back (told x .1) (told x .2) before fit, long)
+  reads-back before = rw (own-record (x .from .sheet) (x .from .locks) (x .by .edit) (x .by .changes), read-back (told x .1) (told x .2) before fit, long)
 
 -- ---- the pushes before the standing position, oldest first, and more behind them
 abbrev pub onto : Pushes → Pushes → Pushes
@@ -84,7 +88,7 @@ module _ (L : Laws editing) where
   passes k s b = rw (le-ltb maxJournal (length (journalOf editing k)) b, sound-handle editing L k s)
 
   -- ---- a history with p before the standing position and f after it
-  module _ (o : Picture) (s : Sheet) (rest : List ℕ) where
+  module _ (o : Shown) (s : Document) (rest : List ℕ) where
     abbrev at : Pushes → Pushes → Trace editing
     at p f = record { opening = o; sheet = s; past = p; future = f; rest = rest; saved = some 0 }
 
@@ -150,7 +154,7 @@ module _ (L : Laws editing) where
         ∙ ap (λ (m : ℕ). shown m (told x)) there
 
   -- ---- the last of them is `next_undo`'s
-  module _ (o : Picture) (s : Sheet) (rest : List ℕ) (saved : Option ℕ) (x : Pushed editing) (xs f : Pushes) where
+  module _ (o : Shown) (s : Document) (rest : List ℕ) (saved : Option ℕ) (x : Pushed editing) (xs f : Pushes) where
     abbrev above : Trace editing
     above = record { opening = o; sheet = s; past = x ∷ xs; future = f; rest = rest; saved = saved }
 

@@ -1,7 +1,7 @@
 -- `redo` over the record that was found at the standing offset. Assumes nothing.
 use mathlib.Core.Path.{_≡_, refl}
 use mathlib.Core.List.{List}
-use mathlib.Core.Bool.{true}
+use mathlib.Core.Bool.{Bool, true}
 use mathlib.Core.Option.{none, some}
 use Prim.Native.Nat.{ℕ, _+_, _-_, _≤_}
 use native.Mathlib.Omega.{arith}
@@ -13,6 +13,7 @@ use Rattle.base.specs.declared.Edit.{Edit}
 use Rattle.base.specs.declared.Handle.{Handle}
 use Rattle.edit.specs.Change.{Change}
 use Rattle.edit.specs.Apply.{redone}
+use Rattle.edit.specs.Locks.{locksDone}
 use Rattle.journal_record.specs.declared.Found.the-variants.{Record}
 use Rattle.journal_record.specs.Record.{readForth}
 use Rattle.journal_record.specs.Found.{foundAt}
@@ -22,11 +23,12 @@ use Rattle.sheet.specs.Sheet.{Sheet}
 use Rattle.history_ledger.specs.Handle.{steppedForth}
 use Rattle.history_ledger.specs.Journal.{State}
 use Rattle.history_ledger.proofs.Soundness.{sound-facts}
+use Rattle.history_model.specs.Document.{Document, documentDone}
 use Rattle.history_model.specs.Editing.{taken, redoneBy, editing}
 use Rattle.history_model.specs.Calls.{Standing}
 use Rattle.history_model.proofs.Over.{Direction}
 
-module _ {st : State Sheet} (stands : Standing st) where
+module _ {st : State Document} (stands : Standing st) where
   abbrev handle : Handle
   handle = st .handle
 
@@ -34,13 +36,17 @@ module _ {st : State Sheet} (stands : Standing st) where
   abbrev used : List ℕ
   used = take (handle .end - handle .offset) (drop (handle .offset) (st .journal))
 
-  pub forth-by : (r : ℕ × Edit × List Change) → redoneBy labOf (st .sheet) (some r) ≡ taken (redoable (st .sheet) (r .1) (r .2)) (r .0) (redone labOf (st .sheet) (r .1) (r .2))
+  pub forth-by : (r : ℕ × Edit × List Change) → redoneBy labOf (st .sheet) (some r) ≡ taken (redoable (st .sheet .sheet) (st .sheet .locks) (r .1) (r .2)) (r .0) (documentDone labOf (st .sheet) (r .1) (r .2))
   unfolding redoneBy
   forth-by r = refl
 
   pub forth-none : redoneBy labOf (st .sheet) none ≡ none
   unfolding redoneBy
   forth-none = refl
+
+  pub forth-makes : (e : Edit) (cs : List Change) {t : Sheet} → t ≡ redone labOf (st .sheet .sheet) e cs → {marks : List Bool} → marks ≡ locksDone (st .sheet .sheet .k) (st .sheet .locks) e
+      → let made : Document = record { sheet = t; locks = marks } in made ≡ documentDone labOf (st .sheet) e cs
+  forth-makes e cs p m i = record { sheet = p i; locks = m i }
 
   module _ (kind start n count : ℕ) (found : foundAt (handle .offset) (readForth used) ≡ Record kind start n count) where
     searched : SearchedForth (st .journal) (handle .offset) (handle .end) kind start n count
@@ -61,8 +67,8 @@ module _ {st : State Sheet} (stands : Standing st) where
         found = foundAt (handle .offset) (readForth used);
         inside = λ m. leb (handle .offset + m) (handle .end);
         stepped = steppedForth;
-        takes = redoable (st .sheet);
-        makes = redone labOf (st .sheet);
+        takes = redoable (st .sheet .sheet) (st .sheet .locks);
+        makes = documentDone labOf (st .sheet);
         by = redoneBy labOf (st .sheet);
         by-none = forth-none;
         by-some = forth-by;

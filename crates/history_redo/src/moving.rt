@@ -18,12 +18,12 @@ ghost use Prim.Native.Nat.{_+_, _-_, _≤_, _<_};
 ghost use lib.Dec.{leb};
 ghost use lib.ListN.{length, take, drop};
 ghost use Rattle.color_lab.specs.Convert.{labOf};
-ghost use Rattle.sheet.specs.Sheet.{sheetOf};
 ghost use Rattle.journal_record.specs.declared.Found.the-variants.{Record};
 ghost use Rattle.journal_record.specs.Record.{readForth};
 ghost use Rattle.journal_record.specs.Found.{foundAt};
 ghost use Rattle.history_ledger.specs.Handle.{steppedForth};
 ghost use Rattle.history_ledger.specs.Journal.{stepOver, redoOf};
+ghost use Rattle.history_model.specs.Document.{documentOf};
 ghost use Rattle.history_model.specs.Editing.{redoneBy, editing};
 ghost use Rattle.history_model.specs.Calls.{stateOf, leaves, Standing};
 
@@ -36,6 +36,7 @@ fn redo_at(
     palette: &mut [u8],
     lab: &mut [f64],
     indices: &mut [i16],
+    locks: &mut [bool],
     journal: &[u8],
     handle: Handle,
     kind: u8,
@@ -44,16 +45,20 @@ fn redo_at(
     count: usize,
     scratch: &mut [u8],
 ) -> Moved
-    requires { ⌜ Standing (stateOf (sheetOf w h k (now palette) (now lab) (now indices)) (now journal) handle) ⌝ }
+    requires { ⌜
+        Standing (stateOf (documentOf w h k (now palette) (now lab) (now indices) (now locks)) (now journal) handle)
+        ⌝ }
     requires { ⌜ (handle .position < handle .count) × (length (now indices) ≤ length (now scratch)) ⌝ }
     requires { ⌜
         foundAt (handle .offset) (readForth (take (handle .end - handle .offset) (drop (handle .offset) (now journal))))
         ≡ Record kind start n count
         ⌝ }
     ensures { λ r. ⌜ (
-        let sheet = sheetOf w h k (now (palette .entry)) (now (lab .entry)) (now (indices .entry)) in
-        leaves r w h (now (palette .exit)) (now (lab .exit)) (now (indices .exit)) (now (journal .entry))
-        ≡ stepOver editing (stateOf sheet (now (journal .entry)) handle) (redoneBy labOf sheet
+        let document =
+        documentOf w h k (now (palette .entry)) (now (lab .entry)) (now (indices .entry)) (now (locks .entry)) in
+        leaves r w h (now (palette .exit)) (now (lab .exit)) (now (indices .exit)) (now (locks .exit))
+        (now (journal .entry))
+        ≡ stepOver editing (stateOf document (now (journal .entry)) handle) (redoneBy labOf document
         (readForth (take (handle .end - handle .offset) (drop (handle .offset) (now (journal .entry))))))
         (λ m. leb (handle .offset + m) (handle .end)) steppedForth
         ) ⌝ }
@@ -68,6 +73,7 @@ fn redo_at(
         k,
         palette,
         indices,
+        locks,
         journal,
         kind,
         start,
@@ -76,7 +82,18 @@ fn redo_at(
     ) {
         return refused(JOURNAL_DAMAGED, k, handle);
     }
-    let k = redo_record(w, k, palette, lab, indices, journal, kind, start, count);
+    let k = redo_record(
+        w,
+        k,
+        palette,
+        lab,
+        indices,
+        locks,
+        journal,
+        kind,
+        start,
+        count,
+    );
     Moved {
         answer: Answer::Done,
         k,
@@ -92,12 +109,15 @@ fn redo_found(
     palette: &mut [u8],
     lab: &mut [f64],
     indices: &mut [i16],
+    locks: &mut [bool],
     journal: &[u8],
     handle: Handle,
     found: Found,
     scratch: &mut [u8],
 ) -> Moved
-    requires { ⌜ Standing (stateOf (sheetOf w h k (now palette) (now lab) (now indices)) (now journal) handle) ⌝ }
+    requires { ⌜
+        Standing (stateOf (documentOf w h k (now palette) (now lab) (now indices) (now locks)) (now journal) handle)
+        ⌝ }
     requires { ⌜ (handle .position < handle .count) × (length (now indices) ≤ length (now scratch)) ⌝ }
     requires { ⌜
         found
@@ -105,9 +125,11 @@ fn redo_found(
         (readForth (take (handle .end - handle .offset) (drop (handle .offset) (now journal))))
         ⌝ }
     ensures { λ r. ⌜ (
-        let sheet = sheetOf w h k (now (palette .entry)) (now (lab .entry)) (now (indices .entry)) in
-        leaves r w h (now (palette .exit)) (now (lab .exit)) (now (indices .exit)) (now (journal .entry))
-        ≡ stepOver editing (stateOf sheet (now (journal .entry)) handle) (redoneBy labOf sheet
+        let document =
+        documentOf w h k (now (palette .entry)) (now (lab .entry)) (now (indices .entry)) (now (locks .entry)) in
+        leaves r w h (now (palette .exit)) (now (lab .exit)) (now (indices .exit)) (now (locks .exit))
+        (now (journal .entry))
+        ≡ stepOver editing (stateOf document (now (journal .entry)) handle) (redoneBy labOf document
         (readForth (take (handle .end - handle .offset) (drop (handle .offset) (now (journal .entry))))))
         (λ m. leb (handle .offset + m) (handle .end)) steppedForth
         ) ⌝ }
@@ -125,6 +147,7 @@ fn redo_found(
             palette,
             lab,
             indices,
+            locks,
             journal,
             handle,
             kind,
@@ -138,7 +161,8 @@ fn redo_found(
 }
 
 // Redoes the edit that the last undo took back. At the last "still"; 16 where the scratch has fewer places than the
-// sheet; 4 where the record is not sound. What the scratch holds after the call is free.
+// sheet; 4 where the record is not sound, a set or a removal of a locked entry among these. What the scratch holds after
+// the call is free.
 pub fn redo(
     w: usize,
     h: usize,
@@ -146,18 +170,21 @@ pub fn redo(
     palette: &mut [u8],
     lab: &mut [f64],
     indices: &mut [i16],
+    locks: &mut [bool],
     journal: &[u8],
     handle: Handle,
     scratch: &mut [u8],
 ) -> Moved
     ensures { λ r. ⌜ (
-        let sheet = sheetOf w h k (now (palette .entry)) (now (lab .entry)) (now (indices .entry)) in
-        leaves r w h (now (palette .exit)) (now (lab .exit)) (now (indices .exit)) (now (journal .entry))
-        ≡ redoOf editing (length (now (scratch .entry))) (stateOf sheet (now (journal .entry)) handle)
+        let document =
+        documentOf w h k (now (palette .entry)) (now (lab .entry)) (now (indices .entry)) (now (locks .entry)) in
+        leaves r w h (now (palette .exit)) (now (lab .exit)) (now (indices .exit)) (now (locks .exit))
+        (now (journal .entry))
+        ≡ redoOf editing (length (now (scratch .entry))) (stateOf document (now (journal .entry)) handle)
         ) ⌝ }
     ensures { λ _. ⌜ length (now (scratch .exit)) ≡ length (now (scratch .entry)) ⌝ }
 {
-    let no = move_no(w, h, k, palette, lab, indices, journal, handle);
+    let no = move_no(w, h, k, palette, lab, indices, locks, journal, handle);
     if no != 0 {
         return refused(no, k, handle);
     }
@@ -175,6 +202,7 @@ pub fn redo(
         palette,
         lab,
         indices,
+        locks,
         journal,
         handle,
         found,

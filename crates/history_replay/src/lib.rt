@@ -14,24 +14,24 @@ use edit_checks::head_no;
 use edit_checks::left_no;
 use edit_list::check_list;
 use edit_list::paint_list;
-use sheet::check;
+use edit_locks::redo_locks;
+use sheet::check_marked;
 use sheet::permitted_no;
 ghost use mathlib.Core.Path.{_≡_};
 ghost use mathlib.Core.List.{List, map};
 ghost use Prim.Native.Nat.{ℕ, _*_};
 ghost use lib.ListN.{length};
 ghost use Rattle.base.specs.Checks.{orElse, firstOf};
-ghost use Rattle.color_lab.specs.Convert.{labOf};
-ghost use Rattle.sheet.specs.Sheet.{sheetOf};
 ghost use Rattle.edit.specs.Change.{Change, unpacked};
 ghost use Rattle.edit.specs.List.{listOf};
 ghost use Rattle.edit.specs.Checks.{permittedOf, leftChecks};
-ghost use Rattle.edit.specs.Apply.{restDone};
 ghost use Rattle.edit_pixels.specs.Inside.{bare};
 ghost use Rattle.edit_checks.specs.Marks.{MarksFor, Checkable};
+ghost use Rattle.edit_locks.specs.Movable.{Redoable};
 ghost use Rattle.edit_apply.specs.Redoable.{Finishable};
+ghost use Rattle.history_model.specs.Document.{documentOf};
 ghost use Rattle.history_model.specs.Replay.{replayChecks, replayed, replayOf};
-ghost use Rattle.history_replay.specs.Steps.{ReplayBegun, doneOr};
+ghost use Rattle.history_replay.specs.Steps.{ReplayBegun, restOf, doneOr};
 
 // Before the list: the number of the first check that applies, or 0. A removal's marks are cleared.
 pub fn open_replay(
@@ -41,6 +41,7 @@ pub fn open_replay(
     palette: &[u8],
     lab: &[f64],
     indices: &[i16],
+    locks: &[bool],
     limited: bool,
     permitted: &[u8],
     edit: Edit,
@@ -49,7 +50,7 @@ pub fn open_replay(
 ) -> u8
     ensures { λ r. ⌜
         ((cs : List Change) → length cs ≡ n → ReplayBegun (length (now (marks .entry)))
-        (sheetOf w h k (now (palette .entry)) (now (lab .entry)) (now (indices .entry)))
+        (documentOf w h k (now (palette .entry)) (now (lab .entry)) (now (indices .entry)) (now (locks .entry)))
         (permittedOf limited (now (permitted .entry))) edit cs r (now (marks .exit)))
         ⌝ }
 {
@@ -57,7 +58,7 @@ pub fn open_replay(
     if given != 0 {
         return given;
     }
-    let no = check(w, h, k, palette, lab, indices);
+    let no = check_marked(w, h, k, palette, lab, indices, locks);
     if no != 0 {
         return no;
     }
@@ -68,7 +69,7 @@ pub fn open_replay(
     if marks.len() < size {
         return NO_SPACE;
     }
-    let head = head_no(k, palette, limited, permitted, edit, true);
+    let head = head_no(k, palette, locks, limited, permitted, edit, true);
     if head != 0 {
         return head;
     }
@@ -90,21 +91,22 @@ pub fn left_after(no: u8, edit: Edit, w: usize, h: usize, indices: &[i16], marks
     left_no(list_of(edit), w, h, indices, marks)
 }
 
-// What an edit does beside its list, where it was not refused.
+// What an edit does beside its list, where it was not refused. The marks are moved with their entries.
 pub fn finish_replay(
     no: u8,
     k: usize,
     palette: &mut [u8],
     lab: &mut [f64],
     indices: &mut [i16],
+    locks: &mut [bool],
     edit: Edit,
 ) -> Replayed
-    requires { ⌜ (no ≡ 0 → Finishable k (length (now palette)) (length (now lab)) edit) ⌝ }
+    requires { ⌜ (no ≡ 0 → Finishable k (length (now palette)) (length (now lab)) edit × Redoable k (length (now locks)) edit) ⌝ }
     ensures { λ r. ⌜
         ((w h : ℕ)
-        → replayed (r .answer) (sheetOf w h (r .k) (now (palette .exit)) (now (lab .exit)) (now (indices .exit)))
-        ≡ doneOr no (sheetOf w h k (now (palette .entry)) (now (lab .entry)) (now (indices .entry)))
-        (restDone labOf (sheetOf w h k (now (palette .entry)) (now (lab .entry)) (now (indices .entry))) edit))
+        → replayed (r .answer) (documentOf w h (r .k) (now (palette .exit)) (now (lab .exit)) (now (indices .exit)) (now (locks .exit)))
+        ≡ doneOr no (documentOf w h k (now (palette .entry)) (now (lab .entry)) (now (indices .entry)) (now (locks .entry)))
+        (restOf (documentOf w h k (now (palette .entry)) (now (lab .entry)) (now (indices .entry)) (now (locks .entry))) edit))
         ⌝ }
 {
     if no != 0 {
@@ -113,6 +115,7 @@ pub fn finish_replay(
             k,
         };
     }
+    redo_locks(k, locks, edit);
     let after = finish_edit(k, palette, lab, indices, edit);
     Replayed {
         answer: Answer::Done,
@@ -128,6 +131,7 @@ fn replay_no(
     palette: &[u8],
     lab: &[f64],
     indices: &[i16],
+    locks: &[bool],
     limited: bool,
     permitted: &[u8],
     edit: Edit,
@@ -135,10 +139,10 @@ fn replay_no(
     scratch: &mut [u8],
 ) -> u8
     ensures { λ r. ⌜ (
-        let sheet = sheetOf w h k (now (palette .entry)) (now (lab .entry)) (now (indices .entry)) in
+        let document = documentOf w h k (now (palette .entry)) (now (lab .entry)) (now (indices .entry)) (now (locks .entry)) in
         r
         ≡ firstOf
-        (replayChecks (length (now (scratch .entry))) sheet (permittedOf limited (now (permitted .entry))) edit
+        (replayChecks (length (now (scratch .entry))) document (permittedOf limited (now (permitted .entry))) edit
         (map unpacked (now (list .entry))))
         ) ⌝ }
 {
@@ -150,6 +154,7 @@ fn replay_no(
         palette,
         lab,
         indices,
+        locks,
         limited,
         permitted,
         edit,
@@ -172,6 +177,7 @@ pub fn replay(
     palette: &mut [u8],
     lab: &mut [f64],
     indices: &mut [i16],
+    locks: &mut [bool],
     limited: bool,
     permitted: &[u8],
     edit: Edit,
@@ -179,9 +185,9 @@ pub fn replay(
     scratch: &mut [u8],
 ) -> Replayed
     ensures { λ r. ⌜ (
-        let sheet = sheetOf w h k (now (palette .entry)) (now (lab .entry)) (now (indices .entry)) in
-        replayed (r .answer) (sheetOf w h (r .k) (now (palette .exit)) (now (lab .exit)) (now (indices .exit)))
-        ≡ replayOf (length (now (scratch .entry))) sheet (permittedOf limited (now (permitted .entry))) edit
+        let document = documentOf w h k (now (palette .entry)) (now (lab .entry)) (now (indices .entry)) (now (locks .entry)) in
+        replayed (r .answer) (documentOf w h (r .k) (now (palette .exit)) (now (lab .exit)) (now (indices .exit)) (now (locks .exit)))
+        ≡ replayOf (length (now (scratch .entry))) document (permittedOf limited (now (permitted .entry))) edit
         (map unpacked (now (list .entry)))
         ) ⌝ }
     ensures { λ _. ⌜ length (now (scratch .exit)) ≡ length (now (scratch .entry)) ⌝ }
@@ -193,6 +199,7 @@ pub fn replay(
         palette,
         lab,
         indices,
+        locks,
         limited,
         permitted,
         edit,
@@ -206,5 +213,5 @@ pub fn replay(
         };
     }
     paint_list(list_of(edit), indices, w, list);
-    finish_replay(no, k, palette, lab, indices, edit)
+    finish_replay(no, k, palette, lab, indices, locks, edit)
 }

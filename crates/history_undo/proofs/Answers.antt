@@ -7,15 +7,15 @@ use lib.Dec.{leb}
 use lib.ListN.{length, take}
 use Rattle.base.proofs.First.{refused-first, result-first}
 use Rattle.journal_record.specs.Record.{readBack}
-use Rattle.sheet.specs.Sheet.{Sheet}
 use Rattle.history_ledger.specs.Handle.{steppedBack}
 use Rattle.history_ledger.specs.Calls.{refused, still}
 use Rattle.history_ledger.specs.Journal.{State, moveChecks, stepOver, undoOf}
 use Rattle.history_ledger.proofs.Soundness.{sound-facts}
+use Rattle.history_model.specs.Document.{Document}
 use Rattle.history_model.specs.Editing.{undoneBy, editing}
 use Rattle.history_model.specs.Calls.{Standing, Moves}
 
-module _ (st : State Sheet) where
+module _ (st : State Document) where
   pub undo-refused : (n : ℕ) → Moves st n → (n ≡ 0 → ⊥) → refused st n ≡ undoOf editing st
   unfolding undoOf
   undo-refused n m h = refused-first (moveChecks editing st) (refused st) _ n (m .value) h

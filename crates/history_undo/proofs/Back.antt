@@ -1,6 +1,6 @@
 -- `undo` over the record that was found before the standing offset. Assumes nothing.
 use mathlib.Core.Path.{_≡_, refl, sym, ap, subst, _∙_}
-use mathlib.Core.Bool.{true, false}
+use mathlib.Core.Bool.{Bool, true, false}
 use mathlib.Core.List.{List}
 use mathlib.Core.Option.{none, some}
 use Prim.Native.Nat.{ℕ, _-_, _≤_}
@@ -15,6 +15,7 @@ use Rattle.base.specs.declared.Edit.{Edit}
 use Rattle.base.specs.declared.Handle.{Handle}
 use Rattle.edit.specs.Change.{Change}
 use Rattle.edit.specs.Apply.{reverted}
+use Rattle.edit.specs.Locks.{locksBack}
 use Rattle.journal_record.specs.declared.Found.the-variants.{Record}
 use Rattle.journal_record.specs.Record.{readBack}
 use Rattle.journal_record.specs.Found.{foundBefore}
@@ -25,11 +26,12 @@ use Rattle.history_ledger.specs.Handle.{sound, steppedBack}
 use Rattle.history_ledger.specs.Calls.{Outcome, refused, done}
 use Rattle.history_ledger.specs.Journal.{State, stepOver}
 use Rattle.history_ledger.proofs.Soundness.{sound-facts}
+use Rattle.history_model.specs.Document.{Document, documentOf, documentBack}
 use Rattle.history_model.specs.Editing.{taken, undoneBy, editing}
 use Rattle.history_model.specs.Calls.{stateOf, Standing}
 use Rattle.history_model.proofs.Over.{Direction, step-not, step-done}
 
-module _ {st : State Sheet} (stands : Standing st) where
+module _ {st : State Document} (stands : Standing st) where
   abbrev handle : Handle
   handle = st .handle
 
@@ -37,7 +39,7 @@ module _ {st : State Sheet} (stands : Standing st) where
   abbrev used : List ℕ
   used = take (handle .offset) (st .journal)
 
-  pub back-by : (r : ℕ × Edit × List Change) → undoneBy (st .sheet) (some r) ≡ taken (undoable (st .sheet) (r .1) (r .2)) (r .0) (reverted (st .sheet) (r .1) (r .2))
+  pub back-by : (r : ℕ × Edit × List Change) → undoneBy (st .sheet) (some r) ≡ taken (undoable (st .sheet .sheet) (st .sheet .locks) (r .1) (r .2)) (r .0) (documentBack (st .sheet) (r .1) (r .2))
   unfolding undoneBy
   back-by r = refl
 
@@ -64,8 +66,8 @@ module _ {st : State Sheet} (stands : Standing st) where
         found = foundBefore (handle .offset) (readBack used);
         inside = λ m. leb m (handle .offset);
         stepped = steppedBack;
-        takes = undoable (st .sheet);
-        makes = reverted (st .sheet);
+        takes = undoable (st .sheet .sheet) (st .sheet .locks);
+        makes = documentBack (st .sheet);
         by = undoneBy (st .sheet);
         by-none = back-none;
         by-some = back-by;
@@ -73,16 +75,25 @@ module _ {st : State Sheet} (stands : Standing st) where
         searched = back-found;
       }
 
-  abbrev stepped : Outcome (State Sheet)
+  abbrev stepped : Outcome (State Document)
   stepped = stepOver editing st (undoneBy (st .sheet) (readBack used)) (λ m. leb m (handle .offset)) steppedBack
 
   -- ---- the indices as the test leaves them, which are those that it met
-  module _ (l : List ℤ) (same : l ≡ st .sheet .indices) where
-    abbrev kept : Sheet
-    kept = sheetOf (st .sheet .w) (st .sheet .h) (st .sheet .k) (st .sheet .palette) (st .sheet .lab) l
+  module _ (l : List ℤ) (same : l ≡ st .sheet .sheet .indices) where
+    abbrev s : Sheet
+    s = st .sheet .sheet
 
-    kept-is : kept ≡ st .sheet
-    kept-is i = sheetOf (st .sheet .w) (st .sheet .h) (st .sheet .k) (st .sheet .palette) (st .sheet .lab) (same i)
+    abbrev kept : Sheet
+    kept = sheetOf (s .w) (s .h) (s .k) (s .palette) (s .lab) l
+
+    kept-is : kept ≡ s
+    kept-is i = sheetOf (s .w) (s .h) (s .k) (s .palette) (s .lab) (same i)
+
+    abbrev lent : Document
+    lent = documentOf (s .w) (s .h) (s .k) (s .palette) (s .lab) l (st .sheet .locks)
+
+    lent-is : lent ≡ st .sheet
+    lent-is i = record { sheet = kept-is i; locks = st .sheet .locks }
 
     pub kept-fits : WellFormed kept
     kept-fits = subst WellFormed (sym kept-is) (stands .fits)
@@ -94,13 +105,18 @@ module _ {st : State Sheet} (stands : Standing st) where
       abbrev changes : List Change
       changes = changesAt (st .journal) kind start count
 
-      pub kept-undoable : undoable (st .sheet) edit changes ≡ true → undoable kept edit changes ≡ true
-      kept-undoable ok = ap (λ (x : Sheet). undoable x edit changes) kept-is ∙ ok
+      abbrev takes : Sheet → Bool
+      takes x = undoable x (st .sheet .locks) edit changes
+
+      pub kept-undoable : takes s ≡ true → takes kept ≡ true
+      kept-undoable ok = ap takes kept-is ∙ ok
 
       module _ (n : ℕ) (found : foundBefore (handle .offset) (readBack used) ≡ Record kind start n count) where
-        pub back-not : undoable (st .sheet) edit changes ≡ false → refused (stateOf kept (st .journal) handle) 4 ≡ stepped
-        back-not e = ap (λ (x : Sheet). refused (stateOf x (st .journal) handle) 4) kept-is ∙ step-not back found e
+        pub back-not : takes s ≡ false → refused (stateOf lent (st .journal) handle) 4 ≡ stepped
+        back-not e = ap (λ (x : Document). refused (stateOf x (st .journal) handle) 4) lent-is ∙ step-not back found e
 
-        pub back-done : (next : Handle) → next ≡ steppedBack n handle → sound (length (st .journal)) next ≡ true → undoable (st .sheet) edit changes ≡ true
-            → {t : Sheet} → t ≡ reverted kept edit changes → done (stateOf t (st .journal) next) ≡ stepped
-        back-done next q e ok p = step-done back found next q e ok (p ∙ ap (λ (x : Sheet). reverted x edit changes) kept-is)
+        pub back-done : (next : Handle) → next ≡ steppedBack n handle → sound (length (st .journal)) next ≡ true → takes s ≡ true
+            → {t : Sheet} → t ≡ reverted kept edit changes → {marks : List Bool} → marks ≡ locksBack (s .k) (st .sheet .locks) edit
+            → done (stateOf (record { sheet = t; locks = marks }) (st .journal) next) ≡ stepped
+        back-done next q e ok {t} p {marks} m =
+            step-done back found next q e ok (λ i. record { sheet = (p ∙ ap (λ (x : Sheet). reverted x edit changes) kept-is) i; locks = m i })

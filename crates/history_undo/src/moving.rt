@@ -16,12 +16,12 @@ ghost use mathlib.Core.Path.{_≡_};
 ghost use Prim.Native.Nat.{_<_};
 ghost use lib.Dec.{leb};
 ghost use lib.ListN.{take};
-ghost use Rattle.sheet.specs.Sheet.{sheetOf};
 ghost use Rattle.journal_record.specs.declared.Found.the-variants.{Record};
 ghost use Rattle.journal_record.specs.Record.{readBack};
 ghost use Rattle.journal_record.specs.Found.{foundBefore};
 ghost use Rattle.history_ledger.specs.Handle.{steppedBack};
 ghost use Rattle.history_ledger.specs.Journal.{stepOver, undoOf};
+ghost use Rattle.history_model.specs.Document.{documentOf};
 ghost use Rattle.history_model.specs.Editing.{undoneBy, editing};
 ghost use Rattle.history_model.specs.Calls.{stateOf, leaves, Standing};
 
@@ -34,6 +34,7 @@ fn undo_at(
     palette: &mut [u8],
     lab: &mut [f64],
     indices: &mut [i16],
+    locks: &mut [bool],
     journal: &[u8],
     handle: Handle,
     kind: u8,
@@ -41,16 +42,20 @@ fn undo_at(
     n: usize,
     count: usize,
 ) -> Moved
-    requires { ⌜ Standing (stateOf (sheetOf w h k (now palette) (now lab) (now indices)) (now journal) handle) ⌝ }
+    requires { ⌜
+        Standing (stateOf (documentOf w h k (now palette) (now lab) (now indices) (now locks)) (now journal) handle)
+        ⌝ }
     requires { ⌜ 0 < handle .position ⌝ }
     requires { ⌜
         foundBefore (handle .offset) (readBack (take (handle .offset) (now journal))) ≡ Record kind start n count
         ⌝ }
     ensures { λ r. ⌜ (
-        let sheet = sheetOf w h k (now (palette .entry)) (now (lab .entry)) (now (indices .entry)) in
-        leaves r w h (now (palette .exit)) (now (lab .exit)) (now (indices .exit)) (now (journal .entry))
-        ≡ stepOver editing (stateOf sheet (now (journal .entry)) handle)
-        (undoneBy sheet (readBack (take (handle .offset) (now (journal .entry))))) (λ m. leb m (handle .offset))
+        let document =
+        documentOf w h k (now (palette .entry)) (now (lab .entry)) (now (indices .entry)) (now (locks .entry)) in
+        leaves r w h (now (palette .exit)) (now (lab .exit)) (now (indices .exit)) (now (locks .exit))
+        (now (journal .entry))
+        ≡ stepOver editing (stateOf document (now (journal .entry)) handle)
+        (undoneBy document (readBack (take (handle .offset) (now (journal .entry))))) (λ m. leb m (handle .offset))
         steppedBack
         ) ⌝ }
 {
@@ -58,10 +63,34 @@ fn undo_at(
     if !sound(next, journal.len()) {
         return refused(JOURNAL_DAMAGED, k, handle);
     }
-    if !can_undo(w, h, k, palette, lab, indices, journal, kind, start, count) {
+    if !can_undo(
+        w,
+        h,
+        k,
+        palette,
+        lab,
+        indices,
+        locks,
+        journal,
+        kind,
+        start,
+        count,
+    ) {
         return refused(JOURNAL_DAMAGED, k, handle);
     }
-    let k = undo_record(w, h, k, palette, lab, indices, journal, kind, start, count);
+    let k = undo_record(
+        w,
+        h,
+        k,
+        palette,
+        lab,
+        indices,
+        locks,
+        journal,
+        kind,
+        start,
+        count,
+    );
     Moved {
         answer: Answer::Done,
         k,
@@ -77,18 +106,23 @@ fn undo_found(
     palette: &mut [u8],
     lab: &mut [f64],
     indices: &mut [i16],
+    locks: &mut [bool],
     journal: &[u8],
     handle: Handle,
     found: Found,
 ) -> Moved
-    requires { ⌜ Standing (stateOf (sheetOf w h k (now palette) (now lab) (now indices)) (now journal) handle) ⌝ }
+    requires { ⌜
+        Standing (stateOf (documentOf w h k (now palette) (now lab) (now indices) (now locks)) (now journal) handle)
+        ⌝ }
     requires { ⌜ 0 < handle .position ⌝ }
     requires { ⌜ found ≡ foundBefore (handle .offset) (readBack (take (handle .offset) (now journal))) ⌝ }
     ensures { λ r. ⌜ (
-        let sheet = sheetOf w h k (now (palette .entry)) (now (lab .entry)) (now (indices .entry)) in
-        leaves r w h (now (palette .exit)) (now (lab .exit)) (now (indices .exit)) (now (journal .entry))
-        ≡ stepOver editing (stateOf sheet (now (journal .entry)) handle)
-        (undoneBy sheet (readBack (take (handle .offset) (now (journal .entry))))) (λ m. leb m (handle .offset))
+        let document =
+        documentOf w h k (now (palette .entry)) (now (lab .entry)) (now (indices .entry)) (now (locks .entry)) in
+        leaves r w h (now (palette .exit)) (now (lab .exit)) (now (indices .exit)) (now (locks .exit))
+        (now (journal .entry))
+        ≡ stepOver editing (stateOf document (now (journal .entry)) handle)
+        (undoneBy document (readBack (take (handle .offset) (now (journal .entry))))) (λ m. leb m (handle .offset))
         steppedBack
         ) ⌝ }
 {
@@ -105,6 +139,7 @@ fn undo_found(
             palette,
             lab,
             indices,
+            locks,
             journal,
             handle,
             kind,
@@ -117,7 +152,8 @@ fn undo_found(
 }
 
 // Takes back the edit whose record ends at the standing offset. At position 0 "still"; 4 where the record is not
-// sound. LAB comes back from the record, bit for bit.
+// sound. It does not look at locks, save that the entry of a lock bears its new mark. LAB comes back from the record,
+// bit for bit; an entry that comes back is not locked.
 pub fn undo(
     w: usize,
     h: usize,
@@ -125,16 +161,19 @@ pub fn undo(
     palette: &mut [u8],
     lab: &mut [f64],
     indices: &mut [i16],
+    locks: &mut [bool],
     journal: &[u8],
     handle: Handle,
 ) -> Moved
     ensures { λ r. ⌜ (
-        let sheet = sheetOf w h k (now (palette .entry)) (now (lab .entry)) (now (indices .entry)) in
-        leaves r w h (now (palette .exit)) (now (lab .exit)) (now (indices .exit)) (now (journal .entry))
-        ≡ undoOf editing (stateOf sheet (now (journal .entry)) handle)
+        let document =
+        documentOf w h k (now (palette .entry)) (now (lab .entry)) (now (indices .entry)) (now (locks .entry)) in
+        leaves r w h (now (palette .exit)) (now (lab .exit)) (now (indices .exit)) (now (locks .exit))
+        (now (journal .entry))
+        ≡ undoOf editing (stateOf document (now (journal .entry)) handle)
         ) ⌝ }
 {
-    let no = move_no(w, h, k, palette, lab, indices, journal, handle);
+    let no = move_no(w, h, k, palette, lab, indices, locks, journal, handle);
     if no != 0 {
         return refused(no, k, handle);
     }
@@ -142,5 +181,16 @@ pub fn undo(
         return still(k, handle);
     }
     let found = find_back(journal, handle.offset);
-    undo_found(w, h, k, palette, lab, indices, journal, handle, found)
+    undo_found(
+        w,
+        h,
+        k,
+        palette,
+        lab,
+        indices,
+        locks,
+        journal,
+        handle,
+        found,
+    )
 }

@@ -9,7 +9,7 @@ use Rattle.base.specs.declared.Rgb.{Rgb}
 use Rattle.base.specs.declared.Lab.{Lab}
 use Rattle.base.specs.Lists.{over}
 use Rattle.base.specs.declared.Edit.{Edit}
-use Rattle.base.specs.declared.Edit.the-variants.{Pixels, PaletteSet, PaletteAdd, PaletteRemove}
+use Rattle.base.specs.declared.Edit.the-variants.{Pixels, PaletteSet, PaletteAdd, PaletteRemove, PaletteLock}
 use Rattle.edit.specs.Change.{Change}
 use Rattle.edit.specs.List.{listOf}
 use Rattle.edit.specs.Storage.{bytesOf}
@@ -48,6 +48,7 @@ around-within (PaletteAdd c) cs n part q h = refl
 around-within (PaletteRemove i c lab) cs n part q h =
     framed (4 ∷ i ∷ bytesOf c ++ (labBytes lab ++ le 4 n)) (flatMap changeBytes cs) (le 4 (37 + 8 * n)) part 33 (33 + 8 * n) (simp (length-append, length-lab, length-le)) (omega arith) (rw (length-changes, q))
     ∙ rw (q, append-assoc (labBytes lab) (le 4 n) (flatMap changeBytes cs))
+around-within (PaletteLock i old new) cs n part q h = refl
 
 -- in a journal, from an offset on
 pub whole-record : (e : Edit) (cs : List Change) (n offset : ℕ) (journal after : List ℕ) → length cs ≡ n → offset + recordLength e n ≤ length journal

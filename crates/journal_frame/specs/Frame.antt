@@ -3,7 +3,7 @@ use Prim.Native.Nat.{ℕ, _+_, _*_, _<_}
 use mathlib.Core.List.{List, [], _∷_, _++_}
 use Rattle.base.specs.Lists.{over}
 use Rattle.base.specs.declared.Edit.{Edit}
-use Rattle.base.specs.declared.Edit.the-variants.{Pixels, PaletteSet, PaletteAdd, PaletteRemove}
+use Rattle.base.specs.declared.Edit.the-variants.{Pixels, PaletteSet, PaletteAdd, PaletteRemove, PaletteLock}
 use Rattle.edit.specs.Storage.{bytesOf}
 use Rattle.journal_record.specs.Bytes.{le, splice}
 use Rattle.journal_record.specs.Record.{labBytes, recordOf}
@@ -15,6 +15,7 @@ around (Pixels tool) n part = splice (over (1 ∷ tool ∷ le 4 n) part) (6 + 8 
 around (PaletteSet i old new lab) n part = over (recordOf (PaletteSet i old new lab) []) part
 around (PaletteAdd c) n part = over (recordOf (PaletteAdd c) []) part
 around (PaletteRemove i c lab) n part = splice (over (4 ∷ i ∷ bytesOf c ++ (labBytes lab ++ le 4 n)) part) (33 + 8 * n) (le 4 (37 + 8 * n))
+around (PaletteLock i old new) n part = over (recordOf (PaletteLock i old new) []) part
 
 -- what its writer asks of an edit: an index is a byte, LAB is numbers
 unfoldable pub Framed : Edit → Type 0
@@ -22,3 +23,4 @@ Framed (Pixels tool) = Unit {0}
 Framed (PaletteSet i old new lab) = (i < 256) × Numbers lab
 Framed (PaletteAdd c) = Unit {0}
 Framed (PaletteRemove i c lab) = (i < 256) × Numbers lab
+Framed (PaletteLock i old new) = i < 256

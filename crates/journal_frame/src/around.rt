@@ -8,6 +8,7 @@ use journal_write::put_kind;
 use journal_write::put_lab;
 use journal_write::put_rgb;
 use journal_write::write_add;
+use journal_write::write_lock;
 use journal_write::write_set;
 ghost use mathlib.Core.Path.{_≡_};
 ghost use Prim.Native.Nat.{_+_, _*_, _≤_, _<_};
@@ -60,5 +61,6 @@ pub fn write_around(part: &mut [u8], edit: Edit, n: usize)
         } => write_set(part, index, old, new, old_lab),
         Edit::PaletteAdd { rgb } => write_add(part, rgb),
         Edit::PaletteRemove { index, rgb, lab } => around_remove(part, index, rgb, lab, n),
+        Edit::PaletteLock { index, old, new } => write_lock(part, index, old, new),
     }
 }

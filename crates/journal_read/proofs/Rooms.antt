@@ -5,7 +5,7 @@ use Prim.Native.Nat.{ℕ, zero, suc, _+_, _*_, _≤_}
 use native.Mathlib.Omega.{arith}
 use lib.ListN.{length, getD}
 use Rattle.base.specs.declared.Edit.{Edit}
-use Rattle.base.specs.declared.Edit.the-variants.{Pixels, PaletteSet, PaletteAdd, PaletteRemove}
+use Rattle.base.specs.declared.Edit.the-variants.{Pixels, PaletteSet, PaletteAdd, PaletteRemove, PaletteLock}
 use Rattle.edit.specs.declared.ListKind.{ListKind}
 use Rattle.edit.specs.List.{listOf}
 use Rattle.edit_checks.specs.Marks.{Markable}
@@ -29,8 +29,12 @@ module _ {journal : List ℕ} {kind start count : ℕ} (l : Lies journal kind st
   unfolding editAt byKind recordLength
   remove-room e = rw e at (l .inside)
 
-  pub last-kind : (kind ≡ 1 → ⊥) → (kind ≡ 2 → ⊥) → (kind ≡ 3 → ⊥) → kind ≡ 4
-  last-kind a b c = omega (arith, l .least, l .most)
+  pub lock-room : kind ≡ 5 → start + 8 ≤ length journal
+  unfolding editAt byKind recordLength
+  lock-room e = rw e at (l .inside)
+
+  pub last-kind : (kind ≡ 1 → ⊥) → (kind ≡ 2 → ⊥) → (kind ≡ 3 → ⊥) → (kind ≡ 5 → ⊥) → kind ≡ 4
+  last-kind a b c d = omega (arith, l .least, l .most)
 
 -- ---- where a record lies, it lies without its changes
 shorter : (e : Edit) (n : ℕ) → recordLength e 0 ≤ recordLength e n
@@ -39,16 +43,18 @@ shorter (Pixels tool) n = omega arith
 shorter (PaletteSet i old new lab) n = omega arith
 shorter (PaletteAdd c) n = omega arith
 shorter (PaletteRemove i c lab) n = omega arith
+shorter (PaletteLock i old new) n = omega arith
 
 module _ (journal : List ℕ) (start : ℕ) where
-  no-changes : (kind : ℕ) → kind ≤ 4 → changesAt journal kind start 0 ≡ []
+  no-changes : (kind : ℕ) → kind ≤ 5 → changesAt journal kind start 0 ≡ []
   unfolding changesAt byKind changesIn
   no-changes zero h = refl
   no-changes (suc zero) h = refl
   no-changes (suc (suc zero)) h = refl
   no-changes (suc (suc (suc zero))) h = refl
   no-changes (suc (suc (suc (suc zero)))) h = refl
-  no-changes (suc (suc (suc (suc (suc kind))))) h = absurd (omega arith)
+  no-changes (suc (suc (suc (suc (suc zero))))) h = refl
+  no-changes (suc (suc (suc (suc (suc (suc kind)))))) h = absurd (omega arith)
 
   pub lies-bare : {kind count : ℕ} → Lies journal kind start count → Lies journal kind start 0
   lies-bare {kind} {count} l =
@@ -66,7 +72,8 @@ module _ (journal : List ℕ) (start : ℕ) where
     list-room (suc (suc zero)) l = omega (arith, l .inside, l .counts)
     list-room (suc (suc (suc zero))) l = omega (arith, l .inside, l .counts)
     list-room (suc (suc (suc (suc zero)))) l = omega (arith, l .inside)
-    list-room (suc (suc (suc (suc (suc kind))))) l = absurd (omega (arith, l .most))
+    list-room (suc (suc (suc (suc (suc zero))))) l = omega (arith, l .inside, l .counts)
+    list-room (suc (suc (suc (suc (suc (suc kind)))))) l = absurd (omega (arith, l .most))
 
     none-there : (at : ℕ) → 0 ≡ count → [] ≡ changesIn journal at count
     unfolding changesIn
@@ -79,7 +86,8 @@ module _ (journal : List ℕ) (start : ℕ) where
     list-there (suc (suc zero)) l = none-there (start + 0) (l .counts)
     list-there (suc (suc (suc zero))) l = none-there (start + 0) (l .counts)
     list-there (suc (suc (suc (suc zero)))) l = refl
-    list-there (suc (suc (suc (suc (suc kind))))) l = absurd (omega (arith, l .most))
+    list-there (suc (suc (suc (suc (suc zero))))) l = none-there (start + 0) (l .counts)
+    list-there (suc (suc (suc (suc (suc (suc kind)))))) l = absurd (omega (arith, l .most))
 
     -- its entry is a byte
     pub list-markable : (kind : ℕ) → Lies journal kind start count → getD journal (start + 1) 0 ≤ 255 → (n m : ℕ) → n ≤ m → Markable (listOf (editAt journal kind start)) n m
@@ -89,7 +97,8 @@ module _ (journal : List ℕ) (start : ℕ) where
     list-markable (suc (suc zero)) l b n m h = tt
     list-markable (suc (suc (suc zero))) l b n m h = tt
     list-markable (suc (suc (suc (suc zero)))) l b n m h = (b, h)
-    list-markable (suc (suc (suc (suc (suc kind))))) l b n m h = absurd (omega (arith, l .most))
+    list-markable (suc (suc (suc (suc (suc zero))))) l b n m h = tt
+    list-markable (suc (suc (suc (suc (suc (suc kind)))))) l b n m h = absurd (omega (arith, l .most))
 
 -- ---- as it is read: the edit, then its list, then where the list stands
 module _ {journal : List ℕ} {kind start count : ℕ} (l : Lies journal kind start count) {e : Edit} (edit-is : e ≡ editAt journal kind start)

@@ -10,7 +10,7 @@ use lib.Dec.{leb, eqb}
 use lib.ListN.{length, take, drop, length-drop}
 use lib.Seq.{length-take-le}
 use Rattle.base.specs.declared.Edit.{Edit}
-use Rattle.base.specs.declared.Edit.the-variants.{Pixels, PaletteSet, PaletteAdd, PaletteRemove}
+use Rattle.base.specs.declared.Edit.the-variants.{Pixels, PaletteSet, PaletteAdd, PaletteRemove, PaletteLock}
 use Rattle.edit.specs.Change.{Change}
 use Rattle.journal_record.specs.declared.Found.the-variants.{Record, Unsound}
 use Rattle.journal_record.specs.Bytes.{leAt}
@@ -18,7 +18,7 @@ use Rattle.journal_record.specs.Record.{recordLength, Reading, byKind, readFort
 use Rattle.journal_record.specs.Found.{kindOf, foundAt, foundBefore}
 use Rattle.journal_record.proofs.LittleEndian.{drop-take}
 use Rattle.journal_record.proofs.Holds.{Tells, tells-at, tells-before, Holds, Held, read-holds}
-use Rattle.journal_record.proofs.Parts.{part, byte-part, rgb-part, lab-part, changes-part}
+use Rattle.journal_record.proofs.Parts.{part, byte-part, mark-part, rgb-part, lab-part, changes-part}
 use Rattle.journal_read.specs.Lies.{editAt, changesAt, Lies}
 
 -- ---- what a part of the journal holds at its front stands in the journal from the part's start on
@@ -40,6 +40,12 @@ module _ (journal : List ℕ) (start size : ℕ) where
         h .1 ∙ rgb-part journal start size 2 (omega arith),
         h .2 ∙ lab-part journal start size 5 (omega arith),
       )
+  edit-part (PaletteLock i old new) cs h k =
+      rw (
+        h .0 ∙ byte-part journal start size 1 (omega arith),
+        h .1 ∙ mark-part journal start size 2 (omega arith),
+        h .2 ∙ mark-part journal start size 3 (omega arith),
+      )
 
   changes-there : (e : Edit) (cs : List Change) → Holds (part journal start size) e cs → recordLength e (length cs) ≤ size → cs ≡ changesAt journal (kindOf e) start (length cs)
   unfolding Holds changesAt byKind kindOf recordLength
@@ -47,6 +53,7 @@ module _ (journal : List ℕ) (start size : ℕ) where
   changes-there (PaletteSet i old new lab) cs h k = h .4
   changes-there (PaletteAdd c) cs h k = h .1
   changes-there (PaletteRemove i c lab) cs h k = h .3 ∙ changes-part journal start size (length cs) 33 (omega arith)
+  changes-there (PaletteLock i old new) cs h k = h .3
 
 least-kind : (e : Edit) → 1 ≤ kindOf e
 unfolding kindOf
@@ -54,13 +61,15 @@ least-kind (Pixels tool) = omega arith
 least-kind (PaletteSet i old new lab) = omega arith
 least-kind (PaletteAdd c) = omega arith
 least-kind (PaletteRemove i c lab) = omega arith
+least-kind (PaletteLock i old new) = omega arith
 
-most-kind : (e : Edit) → kindOf e ≤ 4
+most-kind : (e : Edit) → kindOf e ≤ 5
 unfolding kindOf
 most-kind (Pixels tool) = omega arith
 most-kind (PaletteSet i old new lab) = omega arith
 most-kind (PaletteAdd c) = omega arith
 most-kind (PaletteRemove i c lab) = omega arith
+most-kind (PaletteLock i old new) = omega arith
 
 -- ---- a reading whose record lies in the journal
 pub record Searched (journal : List ℕ) (reading : Reading) (kind start n count : ℕ) : Type 0 where

@@ -4,11 +4,11 @@ use mathlib.Core.List.{List, []}
 use Prim.Native.Nat.{ℕ, _+_, _≤_}
 use lib.ListN.{length, getD}
 use Rattle.base.specs.declared.Edit.{Edit}
-use Rattle.base.specs.declared.Edit.the-variants.{Pixels, PaletteSet, PaletteAdd, PaletteRemove}
+use Rattle.base.specs.declared.Edit.the-variants.{Pixels, PaletteSet, PaletteAdd, PaletteRemove, PaletteLock}
 use Rattle.edit.specs.declared.ListKind.{ListKind}
 use Rattle.edit.specs.declared.ListKind.the-variants.{NoList, PixelList, RemapList}
 use Rattle.edit.specs.Change.{Change}
-use Rattle.journal_record.specs.Record.{recordLength, rgbIn, labIn, changesIn, byKind}
+use Rattle.journal_record.specs.Record.{recordLength, rgbIn, labIn, markIn, changesIn, byKind}
 
 unfoldable pub editAt : List ℕ → ℕ → ℕ → Edit
 editAt journal kind start =
@@ -17,10 +17,11 @@ editAt journal kind start =
     (PaletteSet (getD journal (start + 1) 0) (rgbIn journal (start + 2)) (rgbIn journal (start + 5)) (labIn journal (start + 8)))
     (PaletteAdd (rgbIn journal (start + 1)))
     (PaletteRemove (getD journal (start + 1) 0) (rgbIn journal (start + 2)) (labIn journal (start + 5)))
+    (PaletteLock (getD journal (start + 1) 0) (markIn journal (start + 2)) (markIn journal (start + 3)))
     (Pixels 0)
 
 unfoldable pub changesAt : List ℕ → ℕ → ℕ → ℕ → List Change
-changesAt journal kind start count = byKind kind (changesIn journal (start + 6) count) [] [] (changesIn journal (start + 33) count) []
+changesAt journal kind start count = byKind kind (changesIn journal (start + 6) count) [] [] (changesIn journal (start + 33) count) [] []
 
 -- where a list stands in its record, counted from the record's start
 abbrev pub listOffset : ListKind → ℕ
@@ -28,9 +29,9 @@ listOffset NoList = 0
 listOffset PixelList = 6
 listOffset (RemapList i) = 33
 
--- a record of one of the four kinds and so many changes, all of it inside the journal
+-- a record of one of the five kinds and so many changes, all of it inside the journal
 pub record Lies (journal : List ℕ) (kind start count : ℕ) : Type 0 where
   pub least : 1 ≤ kind
-  pub most : kind ≤ 4
+  pub most : kind ≤ 5
   pub counts : length (changesAt journal kind start count) ≡ count
   pub inside : start + recordLength (editAt journal kind start) count ≤ length journal

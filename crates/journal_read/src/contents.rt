@@ -1,8 +1,10 @@
 // The edit of a record, read where it lies; its changes stay in the journal.
 use crate::kind::ADD;
+use crate::kind::LOCK;
 use crate::kind::PIXELS;
 use crate::kind::SET;
 use crate::kind::entry_at;
+use crate::kind::mark_at;
 use crate::lab::lab_in;
 use crate::rgb::get_rgb;
 use base::Edit;
@@ -15,9 +17,8 @@ pub fn edit_at(journal: &[u8], kind: u8, start: usize) -> Edit
     ensures { λ r. ⌜ r ≡ editAt (now (journal .entry)) kind start ⌝ }
 {
     if kind == PIXELS {
-        return Edit::Pixels {
-            tool: journal[start + 1],
-        };
+        let tool = journal[start + 1];
+        return Edit::Pixels { tool };
     }
     if kind == SET {
         let index = entry_at(journal, start);
@@ -35,6 +36,12 @@ pub fn edit_at(journal: &[u8], kind: u8, start: usize) -> Edit
         return Edit::PaletteAdd {
             rgb: get_rgb(journal, start + 1),
         };
+    }
+    if kind == LOCK {
+        let index = entry_at(journal, start);
+        let old = mark_at(journal, start + 2);
+        let new = mark_at(journal, start + 3);
+        return Edit::PaletteLock { index, old, new };
     }
     let index = entry_at(journal, start);
     let rgb = get_rgb(journal, start + 2);

@@ -8,9 +8,11 @@ mod rgb;
 
 pub use contents::edit_at;
 pub use kind::ADD;
+pub use kind::LOCK;
 pub use kind::PIXELS;
 pub use kind::SET;
 pub use kind::entry_at;
+pub use kind::mark_at;
 pub use lab::lab_in;
 pub use lab::unfit_lab_in;
 pub use list::any_outside_in;

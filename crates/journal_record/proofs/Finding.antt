@@ -1,7 +1,7 @@
 -- What a search finds, step by step, is what the definitions read. Assumes nothing.
 use Prim.Native.Nat.{ℕ, zero, suc, _+_, _-_, _*_, _≤_, _<_}
 use mathlib.Core.Path.{_≡_, refl, sym, ap, _∙_}
-use mathlib.Core.Bool.{Bool, true, false, cond}
+use mathlib.Core.Bool.{Bool, true, false, cond, _&&_}
 use mathlib.Core.List.{List, []}
 use mathlib.Core.Option.{Option, none, some}
 use native.Mathlib.Omega.{arith}
@@ -10,12 +10,12 @@ use lib.Dec.{leb, eqb}
 use lib.ListN.{length, getD, take, drop, length-drop}
 use lib.Seq.{length-take-le}
 use Rattle.base.specs.declared.Edit.{Edit}
-use Rattle.base.specs.declared.Edit.the-variants.{Pixels, PaletteSet, PaletteAdd, PaletteRemove}
+use Rattle.base.specs.declared.Edit.the-variants.{Pixels, PaletteSet, PaletteAdd, PaletteRemove, PaletteLock}
 use Rattle.edit.specs.Change.{Change}
 use Rattle.journal_record.specs.declared.Found.the-variants.{Record, Unsound}
 use Rattle.journal_record.specs.Bytes.{leAt}
-use Rattle.journal_record.specs.Record.{recordLength, rgbIn, labIn, changesIn, Reading, byKind, contents, closed, agreed, readForth, ofLength, readBack}
-use Rattle.journal_record.specs.Found.{kindOf, foundAt, foundBefore, closedAt, countedAt, wholeOnly}
+use Rattle.journal_record.specs.Record.{recordLength, rgbIn, labIn, isMark, lockIn, changesIn, Reading, byKind, contents, closed, agreed, readForth, ofLength, readBack}
+use Rattle.journal_record.specs.Found.{kindOf, foundAt, foundBefore, closedAt, countedAt, lockedAt, wholeOnly}
 use Rattle.journal_record.proofs.LittleEndian.{leAt-take, drop-take}
 
 pub length-in : (bytes : List ℕ) (at n : ℕ) → length (changesIn bytes at n) ≡ n
@@ -30,6 +30,7 @@ size-least (Pixels tool) n = omega arith
 size-least (PaletteSet i old new lab) n = omega arith
 size-least (PaletteAdd c) n = omega arith
 size-least (PaletteRemove i c lab) n = omega arith
+size-least (PaletteLock i old new) n = omega arith
 
 same-both : {A : Type 0} (b : Bool) (x : A) → cond b x x ≡ x
 same-both true x = refl
@@ -91,9 +92,14 @@ module _ (bytes : List ℕ) where
         let held : Edit = PaletteRemove (getD bytes 1 0) (rgbIn bytes 2) (labIn bytes 5) in
         rw (e, le-leb 0 n (omega arith)) (rw (length-in bytes 33 n) at (sym (found-told held (changesIn bytes 33 n))))
 
-    pub found-other : (getD bytes 0 0 ≡ 1 → ⊥) → (getD bytes 0 0 ≡ 2 → ⊥) → (getD bytes 0 0 ≡ 3 → ⊥) → (getD bytes 0 0 ≡ 4 → ⊥) → Unsound ≡ foundAt start (readForth bytes)
+    pub found-lock : getD bytes 0 0 ≡ 5 → lockedAt bytes start ≡ foundAt start (readForth bytes)
+    unfolding readForth contents byKind lockedAt kindOf recordLength
+    found-lock e = rw (e, found-where (isMark (getD bytes 2 0) && isMark (getD bytes 3 0)) (lockIn bytes 1) [], found-told (lockIn bytes 1) [])
+
+    pub found-other : (getD bytes 0 0 ≡ 1 → ⊥) → (getD bytes 0 0 ≡ 2 → ⊥) → (getD bytes 0 0 ≡ 3 → ⊥) → (getD bytes 0 0 ≡ 4 → ⊥) → (getD bytes 0 0 ≡ 5 → ⊥)
+        → Unsound ≡ foundAt start (readForth bytes)
     unfolding readForth contents byKind agreed foundAt
-    found-other a b c d = let k : ℕ = getD bytes 0 0 in rw (ne-eqb k 1 a, ne-eqb k 2 b, ne-eqb k 3 c, ne-eqb k 4 d)
+    found-other a b c d e = let k : ℕ = getD bytes 0 0 in rw (ne-eqb k 1 a, ne-eqb k 2 b, ne-eqb k 3 c, ne-eqb k 4 d, ne-eqb k 5 e)
 
   none-agreed : length bytes < 8 → (held : Option (Edit × List Change)) → agreed bytes held ≡ none
   unfolding agreed

@@ -2,7 +2,7 @@
 -- Assumes nothing.
 use Prim.Native.Nat.{ℕ, _-_, _≤_}
 use mathlib.Core.Path.{_≡_, refl, sym, ap, subst}
-use mathlib.Core.Bool.{Bool, true, false, cond}
+use mathlib.Core.Bool.{Bool, true, false, cond, _&&_}
 use mathlib.Core.List.{List, []}
 use mathlib.Core.Option.{Option, none, some, Option·some-injective}
 use native.Mathlib.Omega.{arith}
@@ -11,11 +11,11 @@ use lib.Dec.{leb, eqb}
 use lib.ListN.{length, getD}
 use Rattle.base.proofs.Bools.{and-left}
 use Rattle.base.specs.declared.Edit.{Edit}
-use Rattle.base.specs.declared.Edit.the-variants.{Pixels, PaletteSet, PaletteAdd, PaletteRemove}
+use Rattle.base.specs.declared.Edit.the-variants.{Pixels, PaletteSet, PaletteAdd, PaletteRemove, PaletteLock}
 use Rattle.edit.specs.Change.{Change}
 use Rattle.journal_record.specs.declared.Found.the-variants.{Record}
 use Rattle.journal_record.specs.Bytes.{leAt}
-use Rattle.journal_record.specs.Record.{recordLength, rgbIn, labIn, changesIn, Reading, byKind, contents, closed, agreed, readForth}
+use Rattle.journal_record.specs.Record.{recordLength, rgbIn, labIn, isMark, markIn, lockIn, changesIn, Reading, byKind, contents, closed, agreed, readForth}
 use Rattle.journal_record.specs.Found.{kindOf, foundAt, foundBefore}
 use Rattle.journal_record.proofs.Finding.{length-in}
 
@@ -55,6 +55,7 @@ Holds bytes (Pixels tool) cs = (tool ≡ getD bytes 1 0) × (cs ≡ changesIn by
 Holds bytes (PaletteSet i old new lab) cs = (i ≡ getD bytes 1 0) × (old ≡ rgbIn bytes 2) × (new ≡ rgbIn bytes 5) × (lab ≡ labIn bytes 8) × (cs ≡ [])
 Holds bytes (PaletteAdd c) cs = (c ≡ rgbIn bytes 1) × (cs ≡ [])
 Holds bytes (PaletteRemove i c lab) cs = (i ≡ getD bytes 1 0) × (c ≡ rgbIn bytes 2) × (lab ≡ labIn bytes 5) × (cs ≡ changesIn bytes 33 (length cs))
+Holds bytes (PaletteLock i old new) cs = (i ≡ getD bytes 1 0) × (old ≡ markIn bytes 2) × (new ≡ markIn bytes 3) × (cs ≡ [])
 
 module _ (bytes : List ℕ) (e : Edit) (cs : List Change) where
   same-pair : (e′ : Edit) (cs′ : List Change) → Holds bytes e′ cs′ → pair e′ cs′ ≡ pair e cs → Holds bytes e cs
@@ -71,24 +72,31 @@ module _ (bytes : List ℕ) (e : Edit) (cs : List Change) where
       (refl, ap (changesIn bytes 6) (sym (length-in bytes 6 n)), rw (length-in bytes 6 n) (leb-true 1 n q)) p
   holds-pixels false q p = never-none p
 
-  holds-by : (t₁ t₂ t₃ t₄ : Bool)
+  holds-lock : (b : Bool) → cond b (pair (lockIn bytes 1) []) none ≡ pair e cs → Holds bytes e cs
+  unfolding Holds
+  holds-lock true p = same-pair (lockIn bytes 1) [] (refl, refl, refl, refl) p
+  holds-lock false p = never-none p
+
+  holds-by : (t₁ t₂ t₃ t₄ t₅ : Bool)
       → cond t₁ (cond (leb 1 (leAt 4 bytes 2)) (pair (Pixels (getD bytes 1 0)) (changesIn bytes 6 (leAt 4 bytes 2))) none)
       (cond t₂ (pair (PaletteSet (getD bytes 1 0) (rgbIn bytes 2) (rgbIn bytes 5) (labIn bytes 8)) [])
       (cond t₃ (pair (PaletteAdd (rgbIn bytes 1)) [])
       (cond t₄ (pair (PaletteRemove (getD bytes 1 0) (rgbIn bytes 2) (labIn bytes 5)) (changesIn bytes 33 (leAt 4 bytes 29)))
-      none)))
+      (cond t₅ (cond (isMark (getD bytes 2 0) && isMark (getD bytes 3 0)) (pair (lockIn bytes 1) []) none)
+      none))))
       ≡ pair e cs
       → Holds bytes e cs
   unfolding Holds
-  holds-by true t₂ t₃ t₄ p = holds-pixels (leb 1 (leAt 4 bytes 2)) refl p
-  holds-by false true t₃ t₄ p = same-pair _ _ (refl, refl, refl, refl, refl) p
-  holds-by false false true t₄ p = same-pair _ _ (refl, refl) p
-  holds-by false false false true p = same-pair _ _ (refl, refl, refl, ap (changesIn bytes 33) (sym (length-in bytes 33 (leAt 4 bytes 29)))) p
-  holds-by false false false false p = never-none p
+  holds-by true t₂ t₃ t₄ t₅ p = holds-pixels (leb 1 (leAt 4 bytes 2)) refl p
+  holds-by false true t₃ t₄ t₅ p = same-pair _ _ (refl, refl, refl, refl, refl) p
+  holds-by false false true t₄ t₅ p = same-pair _ _ (refl, refl) p
+  holds-by false false false true t₅ p = same-pair _ _ (refl, refl, refl, ap (changesIn bytes 33) (sym (length-in bytes 33 (leAt 4 bytes 29)))) p
+  holds-by false false false false true p = holds-lock (isMark (getD bytes 2 0) && isMark (getD bytes 3 0)) p
+  holds-by false false false false false p = never-none p
 
   told-holds : contents bytes ≡ pair e cs → Holds bytes e cs
   unfolding contents byKind
-  told-holds p = let k : ℕ = getD bytes 0 0 in holds-by (eqb k 1) (eqb k 2) (eqb k 3) (eqb k 4) p
+  told-holds p = let k : ℕ = getD bytes 0 0 in holds-by (eqb k 1) (eqb k 2) (eqb k 3) (eqb k 4) (eqb k 5) p
 
 -- ---- the same of a reading: its length is the record's, and lies in the bytes
 pub record Held (bytes : List ℕ) (n : ℕ) (e : Edit) (cs : List Change) : Type 0 where

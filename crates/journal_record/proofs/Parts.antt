@@ -8,7 +8,7 @@ use native.Mathlib.Omega.{arith}
 use lib.ListN.{getD, take, drop}
 use lib.Seq.{drop-drop, getD-take, getD-drop}
 use Rattle.journal_record.specs.Bytes.{leAt}
-use Rattle.journal_record.specs.Record.{rgbIn, doubleIn, labIn, changesIn}
+use Rattle.journal_record.specs.Record.{rgbIn, doubleIn, labIn, markIn, changesIn}
 use Rattle.journal_record.proofs.LittleEndian.{leAt-take}
 
 module _ (journal : List ℕ) (start size : ℕ) where
@@ -17,6 +17,9 @@ module _ (journal : List ℕ) (start size : ℕ) where
 
   pub byte-part : (at : ℕ) → at < size → getD part at 0 ≡ getD journal (start + at) 0
   byte-part at h = rw (getD-take, getD-drop)
+
+  pub mark-part : (at : ℕ) → at < size → markIn part at ≡ markIn journal (start + at)
+  mark-part at h = rw (byte-part at h)
 
   pub leAt-part : (k at : ℕ) → at + k ≤ size → leAt k part at ≡ leAt k journal (start + at)
   unfolding leAt

@@ -1,14 +1,15 @@
-// The record that ends at an offset of the journal, or starts there: whether its kind, count and lengths
+// The record that ends at an offset of the journal, or starts there: whether its kind, count, marks and lengths
 // agree, and where it lies.
 use crate::Found;
 use crate::bytes::get_u32;
+use base::both;
 ghost use mathlib.Core.Path.{_≡_};
 ghost use Prim.Native.Nat.{_≤_, _-_};
 ghost use lib.ListN.{length, take, drop};
-ghost use Rattle.journal_record.specs.Record.{readForth, readBack};
-ghost use Rattle.journal_record.specs.Found.{foundAt, foundBefore, closedAt, countedAt, wholeOnly};
+ghost use Rattle.journal_record.specs.Record.{isMark, readForth, readBack};
+ghost use Rattle.journal_record.specs.Found.{foundAt, foundBefore, closedAt, countedAt, lockedAt, wholeOnly};
 
-// A record shorter than an add is none.
+// A record shorter than an add or a lock is none.
 const LEAST: usize = 8;
 
 // A record of `length` bytes from the front on, where these bytes hold it and its last four are its
@@ -47,6 +48,24 @@ fn counted(bytes: &[u8], start: usize, kind: u8, fixed: usize, least: usize) -> 
     closed(bytes, start, kind, fixed + 8 * count, count)
 }
 
+// Whether a byte is a lock mark.
+fn is_mark(b: u8) -> bool
+    ensures { λ r. ⌜ r ≡ isMark b ⌝ }
+{
+    b <= 1
+}
+
+// The same of a lock, whose old and new mark are marks: "a recorded mark other than 0 or 1 gets 4".
+fn locked(bytes: &[u8], start: usize) -> Found
+    requires { ⌜ 4 ≤ length (now bytes) ⌝ }
+    ensures { λ r. ⌜ r ≡ lockedAt (now (bytes .entry)) start ⌝ }
+{
+    if both(is_mark(bytes[2]), is_mark(bytes[3])) {
+        return closed(bytes, start, 5, 8, 0);
+    }
+    Found::Unsound
+}
+
 // The record that starts these bytes, which stand in the journal from `start` on.
 fn find_in(bytes: &[u8], start: usize) -> Found
     ensures { λ r. ⌜ r ≡ foundAt start (readForth (now (bytes .entry))) ⌝ }
@@ -66,6 +85,9 @@ fn find_in(bytes: &[u8], start: usize) -> Found
     }
     if kind == 4 {
         return counted(bytes, start, 4, 37, 0);
+    }
+    if kind == 5 {
+        return locked(bytes, start);
     }
     Found::Unsound
 }

@@ -1,6 +1,6 @@
 // An edit's bytes in the journal: numbers read and written there, and a record found from either end.
 //
-// specs/Record.antt has the four forms and their readings.
+// specs/Record.antt has the five forms and their readings.
 mod bytes;
 mod find;
 

@@ -1,6 +1,6 @@
 -- Redo of a record: what its steps ask, and that they make the sheet that redo makes. Assumes nothing.
 use mathlib.Core.Path.{_≡_, sym, ap, _∙_}
-use mathlib.Core.Bool.{true, false}
+use mathlib.Core.Bool.{Bool, true, false}
 use mathlib.Core.List.{List}
 use Prim.Native.Nat.{ℕ, _+_}
 use borrow.Author.Tests.{eqb-true}
@@ -17,24 +17,26 @@ use Rattle.base.specs.declared.Edit.{Edit}
 use Rattle.edit.specs.Change.{Change}
 use Rattle.edit.specs.List.{listOf, paintedList}
 use Rattle.edit.specs.Apply.{restDone, redone}
+use Rattle.edit.specs.Locks.{locksDone}
 use Rattle.edit.specs.declared.ListKind.{ListKind}
+use Rattle.edit_locks.specs.Movable as movable
 use Rattle.edit_list.specs.Paintable.{Paintable}
 use Rattle.edit_apply.specs.Redoable.{Finishable, Redoable}
-use Rattle.edit_apply.proofs.Redoing.{redoable-paints, redoable-finishes}
+use Rattle.edit_apply.proofs.Redoing.{redoable-paints, redoable-finishes, marks-redo}
 use Rattle.journal_record.specs.Record.{changesIn}
 use Rattle.journal_read.specs.Lies.{editAt, changesAt, listOffset, Lies}
 use Rattle.journal_read.proofs.Rooms.{read-list, read-changes}
 use Rattle.journal_read.specs.Sound.{anyColour, redoable}
 
 -- a record that redo takes
-pub may-redo : (w h k : ℕ) (palette : List ℕ) (lab : List Float) (indices : List ℤ) (e : Edit) (cs : List Change)
-    → WellFormed (sheetOf w h k palette lab indices) → redoable (sheetOf w h k palette lab indices) e cs ≡ true → Redoable w k palette lab indices e cs
+pub may-redo : (w h k : ℕ) (palette : List ℕ) (lab : List Float) (indices : List ℤ) (locks : List Bool) (e : Edit) (cs : List Change)
+    → WellFormed (sheetOf w h k palette lab indices) → redoable (sheetOf w h k palette lab indices) locks e cs ≡ true → Redoable w k palette lab indices e cs
 unfolding redoable
-may-redo w h k palette lab indices e cs f q =
+may-redo w h k palette lab indices locks e cs f q =
     record {
       h = h;
       limits = f .limits;
-      unrefused = record { replay = false; permitted = anyColour; passes = eqb-true _ 0 (and-right (leb (length cs) maxChanges) _ q) };
+      unrefused = record { replay = false; locks = locks; permitted = anyColour; passes = eqb-true _ 0 (and-right (leb (length cs) maxChanges) _ q) };
     }
 
 -- ---- as the record is read
@@ -50,6 +52,15 @@ module _ {journal : List ℕ} {kind start count : ℕ} (l : Lies journal kind st
   pub rest-finishes : {w k : ℕ} {palette : List ℕ} {lab : List Float} {indices : List ℤ}
       → Redoable w k palette lab indices (editAt journal kind start) (changesAt journal kind start count) → Finishable k (length palette) (length lab) edit
   rest-finishes r = rw edit-is (redoable-finishes (editAt journal kind start) r)
+
+  -- 255 marks are moved with their entries
+  pub marks-move : {w k : ℕ} {palette : List ℕ} {lab : List Float} {indices : List ℤ}
+      → Redoable w k palette lab indices (editAt journal kind start) (changesAt journal kind start count) → {n : ℕ} → n ≡ 255 → movable.Redoable k n edit
+  marks-move {w} {k} {palette} {lab} {indices} r {n} q =
+      rw edit-is (marks-redo (sheetOf w (r .h) k palette lab indices) (changesAt journal kind start count) (r .limits) n q (editAt journal kind start) (r .unrefused))
+
+  pub marks-done : (k : ℕ) (locks : List Bool) {marks : List Bool} → marks ≡ locksDone k locks edit → marks ≡ locksDone k locks (editAt journal kind start)
+  marks-done k locks q = q ∙ rw edit-is
 
   -- the list painted, and the rest done
   pub redone-by : (w h k : ℕ) (palette : List ℕ) (lab : List Float) (indices : List ℤ) {painted : List ℤ} {s : Sheet} → painted ≡ paintedList list w cs indices → s ≡ restDone labOf (sheetOf w h k palette lab painted) edit

@@ -6,6 +6,7 @@ use edit_apply::finish_edit;
 use edit_checks::clear_marks;
 use edit_checks::head_no;
 use edit_checks::left_no;
+use edit_locks::redo_locks;
 use journal_read::check_list_in;
 use journal_read::edit_at;
 use journal_read::list_offset;
@@ -18,18 +19,20 @@ ghost use lib.ListN.{length};
 ghost use Rattle.color_lab.specs.Convert.{labOf};
 ghost use Rattle.sheet.specs.Sheet.{sheetOf};
 ghost use Rattle.edit.specs.Apply.{redone};
+ghost use Rattle.edit.specs.Locks.{locksDone};
 ghost use Rattle.edit_apply.specs.Redoable.{Redoable};
 ghost use Rattle.journal_read.specs.Sound.{redoable};
 ghost use Rattle.journal_read.specs.Lies.{editAt, changesAt, Lies};
 
-// Whether redo takes the record: 21, then push's checks with every colour permitted. The marks are scratch, at least a
-// byte a pixel.
+// Whether redo takes the record: 21, then push's checks with every colour permitted, 24 among them. The marks are
+// scratch, at least a byte a pixel.
 pub fn can_redo(
     w: usize,
     h: usize,
     k: usize,
     palette: &[u8],
     indices: &[i16],
+    locks: &[bool],
     journal: &[u8],
     kind: u8,
     start: usize,
@@ -37,19 +40,20 @@ pub fn can_redo(
     marks: &mut [u8],
 ) -> bool
     requires { ⌜ Lies (now journal) kind start count ⌝ }
-    requires { ⌜ (k ≤ 255) × (length (now palette) ≡ 765) ⌝ }
+    requires { ⌜ (k ≤ 255) × (length (now palette) ≡ 765) × (length (now locks) ≡ 255) ⌝ }
     requires { ⌜ (length (now indices) ≡ w * h) × (w * h ≤ length (now marks)) ⌝ }
     ensures { λ r. ⌜
         ((lab : List Float) → r
         ≡ redoable (sheetOf w h k (now (palette .entry)) lab (now (indices .entry)))
-        (editAt (now (journal .entry)) kind start) (changesAt (now (journal .entry)) kind start count))
+        (now (locks .entry)) (editAt (now (journal .entry)) kind start)
+        (changesAt (now (journal .entry)) kind start count))
         ⌝ }
 {
     if MAX_CHANGES < count {
         return false;
     }
     let edit = edit_at(journal, kind, start);
-    if head_no(k, palette, false, &[], edit, false) != 0 {
+    if head_no(k, palette, locks, false, &[], edit, false) != 0 {
         return false;
     }
     let list = list_of(edit);
@@ -61,13 +65,15 @@ pub fn can_redo(
     left_no(list, w, h, indices, marks) == 0
 }
 
-// Redoes the record on a sheet of any height, and answers the palette count after it.
+// Redoes the record on a sheet of any height, moves the lock marks with their entries, and answers the palette count
+// after it.
 pub fn redo_record(
     w: usize,
     k: usize,
     palette: &mut [u8],
     lab: &mut [f64],
     indices: &mut [i16],
+    locks: &mut [bool],
     journal: &[u8],
     kind: u8,
     start: usize,
@@ -78,15 +84,20 @@ pub fn redo_record(
         Redoable w k (now palette) (now lab) (now indices) (editAt (now journal) kind start)
         (changesAt (now journal) kind start count)
         ⌝ }
+    requires { ⌜ length (now locks) ≡ 255 ⌝ }
     ensures { λ r. ⌜
         ((h : ℕ) → sheetOf w h r (now (palette .exit)) (now (lab .exit)) (now (indices .exit))
         ≡ redone labOf (sheetOf w h k (now (palette .entry)) (now (lab .entry)) (now (indices .entry)))
         (editAt (now (journal .entry)) kind start) (changesAt (now (journal .entry)) kind start count))
+        ⌝ }
+    ensures { λ _. ⌜
+        now (locks .exit) ≡ locksDone k (now (locks .entry)) (editAt (now (journal .entry)) kind start)
         ⌝ }
 {
     let edit = edit_at(journal, kind, start);
     let list = list_of(edit);
     let at = start + list_offset(list);
     paint_list_in(list, indices, w, journal, at, count);
+    redo_locks(k, locks, edit);
     finish_edit(k, palette, lab, indices, edit)
 }

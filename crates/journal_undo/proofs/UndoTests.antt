@@ -1,6 +1,6 @@
 -- On a well-formed sheet the tests of a kind are `undoable`: the sheet that undo leaves passes 1 to 3 exactly then. Assumes nothing.
 use mathlib.Core.Path.{_≡_, refl, sym, ap, _∙_}
-use mathlib.Core.Bool.{Bool, true, false, not, cond, _&&_, _||_, and-true, and-comm, or-assoc, or-false}
+use mathlib.Core.Bool.{Bool, true, false, not, cond, Bool·beq, _&&_, _||_, and-true, and-comm, or-assoc, or-false}
 use mathlib.Core.List.{List, [], _∷_, _++_, map}
 use Prim.Native.Nat.{ℕ, zero, suc, _+_, _*_, _<_, _≤_}
 use native.Mathlib.Omega.{arith}
@@ -18,17 +18,18 @@ use Rattle.color_doubles.specs.Finite.{unfit, unfitTriple}
 use Rattle.sheet.specs.Sheet.{Sheet, sheetOf, stray}
 use Rattle.sheet.specs.Checks.{sheetChecks, Limits, WellFormed}
 use Rattle.sheet.proofs.Judging.{limited-bad, judged-limits, judged-index, judged-lab, judged-fine}
-use Rattle.base.specs.declared.Edit.the-variants.{Pixels, PaletteSet, PaletteRemove}
+use Rattle.base.specs.declared.Edit.the-variants.{Pixels, PaletteSet, PaletteRemove, PaletteLock}
 use Rattle.edit.specs.Change.{Change, outside, painted, oldOf}
 use Rattle.edit.specs.Storage.{bytesOf, numbersOf, stored, storedBy, reinserted, reinsertedBy, raised}
 use Rattle.edit.specs.Apply.{reverted, canRevert}
+use Rattle.edit.specs.Locks.{lockAt, bears}
 use Rattle.edit.proofs.Painting.{painted-length}
 use Rattle.edit.proofs.Storage.{opened-shows}
 use Rattle.edit.proofs.Entries.{palette-store, lab-store, set-length, set-shows, reinsert-length}
 use Rattle.edit.proofs.Fits.{same-limits, more-in-range}
 use Rattle.journal_read.specs.Sound.{undoable}
 use Rattle.journal_olds.proofs.Fresh.{painted-alike}
-use Rattle.journal_undo.specs.UndoTests.{pixelsBack, setBack, removeBack}
+use Rattle.journal_undo.specs.UndoTests.{pixelsBack, setBack, removeBack, lockBack}
 
 -- ---- the sheet that is left, by 1 to 3
 sound : (t : Sheet) → Limits t → (a b : Bool) → some (stray (t .k)) (t .indices) ≡ a → some unfit (take (3 * t .k) (t .lab)) ≡ b
@@ -72,16 +73,16 @@ raised-fit : (i k : ℕ) (l : List ℤ) → some (stray k) l ≡ false → some 
 raised-fit i k l a = some-map (raised i) (stray (suc k)) l ∙ nowhere-weaker (stray k) _ (raised-in-range i k) l a
 
 -- ---- the kinds but for an add
-module _ (s : Sheet) (f : WellFormed s) where
-  pub undo-pixels : (tool : ℕ) (cs : List Change) → undoable s (Pixels tool) cs ≡ pixelsBack (s .w) (s .h) (s .k) (s .indices) cs
-  unfolding undoable canRevert reverted pixelsBack
+module _ (s : Sheet) (f : WellFormed s) (locks : List Bool) where
+  pub undo-pixels : (tool : ℕ) (cs : List Change) → undoable s locks (Pixels tool) cs ≡ pixelsBack (s .w) (s .h) (s .k) (s .indices) cs
+  unfolding undoable canRevert bears reverted pixelsBack
   undo-pixels tool cs =
       let l : List ℤ = painted oldOf (s .w) cs (s .indices) in
       let fits = same-limits (f .limits) (s .k) (s .palette) (s .lab) l (f .limits .k-small) (f .limits .palette-length) (f .limits .lab-length) (painted-length oldOf (s .w) cs (s .indices)) in
       rw (sound (sheetOf (s .w) (s .h) (s .k) (s .palette) (s .lab) l) fits (some (stray (s .k)) l) false refl (f .fit), and-true (not (some (stray (s .k)) l)))
 
-  pub undo-set : (i : ℕ) (old new : Rgb) (x : Lab) (cs : List Change) → undoable s (PaletteSet i old new x) cs ≡ setBack (s .k) i x
-  unfolding undoable canRevert reverted setBack storedBy
+  pub undo-set : (i : ℕ) (old new : Rgb) (x : Lab) (cs : List Change) → undoable s locks (PaletteSet i old new x) cs ≡ setBack (s .k) i x
+  unfolding undoable canRevert bears reverted setBack storedBy
   undo-set i old new x cs = go (ltb i (s .k)) refl
     where
       t : Sheet
@@ -102,8 +103,8 @@ module _ (s : Sheet) (f : WellFormed s) where
       go false e = refl
       go true e = let b : i < s .k = ltb-true i (s .k) e in sound t (fits b) false (unfitTriple x) (f .in-range) (numbers b)
 
-  pub undo-remove : (i : ℕ) (c : Rgb) (x : Lab) (cs : List Change) → undoable s (PaletteRemove i c x) cs ≡ removeBack (s .w) (s .h) (s .k) (s .indices) i x cs
-  unfolding undoable canRevert reverted removeBack reinsertedBy
+  pub undo-remove : (i : ℕ) (c : Rgb) (x : Lab) (cs : List Change) → undoable s locks (PaletteRemove i c x) cs ≡ removeBack (s .w) (s .h) (s .k) (s .indices) i x cs
+  unfolding undoable canRevert bears reverted removeBack reinsertedBy
   undo-remove i c x cs = go (leb i (s .k)) (ltb (s .k) 255) refl refl
     where
       l : List ℤ
@@ -145,3 +146,8 @@ module _ (s : Sheet) (f : WellFormed s) where
           let e : s .k < 255 = ltb-true (s .k) 255 q in
           rw (sound t (fits d e) bad (unfitTriple x) strays (numbers d e), and-comm (not bad) (not (unfitTriple x)))
       go true false p q = rw (unsound t (λ z. let a = z .k-small in omega (arith, ltb-false (s .k) 255 q)))
+
+  -- a lock leaves the sheet as it was
+  pub undo-lock : (i : ℕ) (old new : Bool) (cs : List Change) → undoable s locks (PaletteLock i old new) cs ≡ lockBack (s .k) locks i new
+  unfolding undoable canRevert bears reverted lockBack
+  undo-lock i old new cs = rw (sound s (f .limits) false false (f .in-range) (f .fit), and-true (Bool·beq (lockAt locks i) new))

@@ -1,5 +1,6 @@
 -- What undo tests on a well-formed sheet of a record other than an add's, kind by kind: `undoable` of that kind. Definitions only. Assumes nothing.
-use mathlib.Core.Bool.{Bool, not, _&&_}
+use mathlib.Core.Path.{_≡_}
+use mathlib.Core.Bool.{Bool, true, not, _&&_, Bool·beq}
 use mathlib.Core.List.{List}
 use Prim.Native.Nat.{ℕ, suc}
 use lib.Dec.{ltb, leb}
@@ -8,8 +9,11 @@ use Rattle.base.specs.Limits.{maxEntries}
 use Rattle.base.specs.declared.Lab.{Lab}
 use Rattle.base.specs.Lists.{some}
 use Rattle.color_doubles.specs.Finite.{unfitTriple}
-use Rattle.sheet.specs.Sheet.{stray}
+use Rattle.sheet.specs.Sheet.{Sheet, stray}
+use Rattle.base.specs.declared.Edit.{Edit}
 use Rattle.edit.specs.Change.{Change, outside, painted, oldOf}
+use Rattle.edit.specs.Locks.{lockAt}
+use Rattle.journal_read.specs.Sound.{undoable}
 
 -- none is off the sheet, and the picture with the olds has no stray index
 unfoldable pub pixelsBack : ℕ → ℕ → ℕ → List ℤ → List Change → Bool
@@ -27,3 +31,12 @@ removeBack w h k l i x cs =
     && (ltb k maxEntries
     && (not (unfitTriple x)
     && not (some (stray (suc k)) (painted oldOf w cs l)))))
+
+-- the entry is there, and bears the new mark
+unfoldable pub lockBack : ℕ → List Bool → ℕ → Bool → Bool
+lockBack k locks i new = ltb i k && Bool·beq (lockAt locks i) new
+
+-- a record that undo takes, with some marks
+pub record Revertible (s : Sheet) (e : Edit) (cs : List Change) : Type 0 where
+  pub locks : List Bool
+  pub takes : undoable s locks e cs ≡ true

@@ -1,25 +1,29 @@
-// Undo of the record that lies in the journal, kind by kind: whether it is taken, and the sheet reverted.
-// The journal is only read, and nothing is copied out of it.
+// Undo of the record that lies in the journal, kind by kind: whether it is taken, the sheet reverted, and its lock marks
+// moved with their entries. The journal is only read, and nothing is copied out of it.
 use base::MAX_ENTRIES;
 use base::put_lab;
 use edit_entries::open_lab_gap;
 use edit_entries::open_palette_gap;
 use edit_entries::store_rgb;
+use edit_locks::bears;
+use edit_locks::undo_locks;
 use edit_renumber::raise_from;
 use journal_olds::olds_stray;
 use journal_olds::paint_olds_in;
 use journal_read::ADD;
+use journal_read::LOCK;
 use journal_read::PIXELS;
 use journal_read::SET;
 use journal_read::any_outside_in;
+use journal_read::edit_at;
 use journal_read::entry_at;
 use journal_read::get_rgb;
 use journal_read::lab_in;
 use journal_read::unfit_lab_in;
 use sheet::check;
 ghost use mathlib.Core.Path.{_≡_};
-ghost use mathlib.Core.Bool.{true, false};
-ghost use mathlib.Core.List.{[], map};
+ghost use mathlib.Core.Bool.{Bool, true, false};
+ghost use mathlib.Core.List.{List, [], map};
 ghost use Prim.Native.Nat.{_+_, _*_, _≤_, _<_};
 ghost use lib.ListN.{length, getD};
 ghost use Rattle.base.specs.declared.Rgb.{Rgb};
@@ -30,11 +34,12 @@ ghost use Rattle.base.specs.declared.Edit.the-variants.{PaletteAdd};
 ghost use Rattle.edit.specs.Change.{painted, oldOf};
 ghost use Rattle.edit.specs.Storage.{bytesOf, numbersOf, stored, reinserted, raised};
 ghost use Rattle.edit.specs.Apply.{reverted};
+ghost use Rattle.edit.specs.Locks.{locksBack};
 ghost use Rattle.edit_pixels.specs.Inside.{past};
-ghost use Rattle.journal_record.specs.Record.{rgbIn, labIn, changesIn};
+ghost use Rattle.journal_record.specs.Record.{rgbIn, labIn, markIn, changesIn};
 ghost use Rattle.journal_read.specs.Sound.{undoable};
 ghost use Rattle.journal_read.specs.Lies.{Lies, editAt, changesAt};
-ghost use Rattle.journal_undo.specs.UndoTests.{pixelsBack, setBack, removeBack};
+ghost use Rattle.journal_undo.specs.UndoTests.{pixelsBack, setBack, removeBack, lockBack, Revertible};
 
 // Whether the olds of the changes from `at` on can be painted.
 fn can_undo_pixels(
@@ -76,8 +81,9 @@ fn can_undo_set(k: usize, journal: &[u8], start: usize) -> bool
 // Whether the last entry can go: there is one, and the sheet without it is well-formed.
 fn can_undo_add(w: usize, h: usize, k: usize, palette: &[u8], lab: &[f64], indices: &[i16]) -> bool
     ensures { λ r. ⌜
-        ((c : Rgb) → r
-        ≡ undoable (sheetOf w h k (now (palette .entry)) (now (lab .entry)) (now (indices .entry))) (PaletteAdd c) [])
+        ((locks : List Bool) (c : Rgb) → r
+        ≡ undoable (sheetOf w h k (now (palette .entry)) (now (lab .entry)) (now (indices .entry))) locks (PaletteAdd c)
+        [])
         ⌝ }
 {
     if k == 0 {
@@ -124,8 +130,24 @@ fn can_undo_remove(
     !olds_stray(indices, w, k + 1, journal, start + 33, count)
 }
 
-// Whether undo takes the record at `start`: it passes `can_revert`, and ends in a well-formed sheet. The
-// indices are written to on the way, and are as they were at the end.
+// Whether a lock can be undone: its entry is there, and bears the new mark.
+fn can_undo_lock(k: usize, locks: &[bool], journal: &[u8], start: usize) -> bool
+    requires { ⌜ Lies (now journal) 5 start 0 × (k ≤ length (now locks)) ⌝ }
+    ensures { λ r. ⌜
+        r
+        ≡ lockBack k (now (locks .entry)) (getD (now (journal .entry)) (start + 1) 0)
+        (markIn (now (journal .entry)) (start + 3))
+        ⌝ }
+{
+    let index = entry_at(journal, start);
+    if index < k {
+        return bears(locks, edit_at(journal, LOCK, start));
+    }
+    false
+}
+
+// Whether undo takes the record at `start`: it passes `can_revert`, and ends in a well-formed sheet. Only a lock's
+// looks at the marks. The indices are written to on the way, and are as they were at the end.
 pub fn can_undo(
     w: usize,
     h: usize,
@@ -133,6 +155,7 @@ pub fn can_undo(
     palette: &[u8],
     lab: &[f64],
     indices: &mut [i16],
+    locks: &[bool],
     journal: &[u8],
     kind: u8,
     start: usize,
@@ -140,11 +163,13 @@ pub fn can_undo(
 ) -> bool
     requires { ⌜ Lies (now journal) kind start count ⌝ }
     requires { ⌜ WellFormed (sheetOf w h k (now palette) (now lab) (now indices)) ⌝ }
+    requires { ⌜ length (now locks) ≡ 255 ⌝ }
     ensures { λ _. ⌜ now (indices .exit) ≡ now (indices .entry) ⌝ }
     ensures { λ r. ⌜ (
         let sheet = sheetOf w h k (now (palette .entry)) (now (lab .entry)) (now (indices .entry)) in
         r
-        ≡ undoable sheet (editAt (now (journal .entry)) kind start) (changesAt (now (journal .entry)) kind start count)
+        ≡ undoable sheet (now (locks .entry)) (editAt (now (journal .entry)) kind start)
+        (changesAt (now (journal .entry)) kind start count)
         ) ⌝ }
 {
     if kind == PIXELS {
@@ -155,6 +180,9 @@ pub fn can_undo(
     }
     if kind == ADD {
         return can_undo_add(w, h, k, palette, lab, indices);
+    }
+    if kind == LOCK {
+        return can_undo_lock(k, locks, journal, start);
     }
     can_undo_remove(w, h, k, indices, journal, start, count)
 }
@@ -224,8 +252,9 @@ fn undo_remove(
     open_lab_gap(lab, index, k, lab_in(journal, start + 5));
 }
 
-// Undoes the record at `start`, which undo takes, and answers how many entries the palette has then.
-pub fn undo_record(
+// Reverts the sheet by the record at `start`, which undo takes on some marks, and answers how many entries the palette
+// has then. A lock leaves the sheet as it was.
+fn revert_record(
     w: usize,
     h: usize,
     k: usize,
@@ -241,7 +270,7 @@ pub fn undo_record(
     requires { ⌜ WellFormed (sheetOf w h k (now palette) (now lab) (now indices)) ⌝ }
     requires { ⌜ (
         let sheet = sheetOf w h k (now palette) (now lab) (now indices) in
-        undoable sheet (editAt (now journal) kind start) (changesAt (now journal) kind start count) ≡ true
+        Revertible sheet (editAt (now journal) kind start) (changesAt (now journal) kind start count)
         ) ⌝ }
     ensures { λ r. ⌜ (
         let sheet = sheetOf w h k (now (palette .entry)) (now (lab .entry)) (now (indices .entry)) in
@@ -260,6 +289,45 @@ pub fn undo_record(
     if kind == ADD {
         return k - 1;
     }
-    undo_remove(w, k, palette, lab, indices, journal, start, count);
-    k + 1
+    if kind != LOCK {
+        undo_remove(w, k, palette, lab, indices, journal, start, count);
+        return k + 1;
+    }
+    k
+}
+
+// Undoes the record at `start`, which undo takes, moves the lock marks with their entries, and answers how many entries
+// the palette has then.
+pub fn undo_record(
+    w: usize,
+    h: usize,
+    k: usize,
+    palette: &mut [u8],
+    lab: &mut [f64],
+    indices: &mut [i16],
+    locks: &mut [bool],
+    journal: &[u8],
+    kind: u8,
+    start: usize,
+    count: usize,
+) -> usize
+    requires { ⌜ Lies (now journal) kind start count ⌝ }
+    requires { ⌜
+        WellFormed (sheetOf w h k (now palette) (now lab) (now indices)) × (length (now locks) ≡ 255)
+        ⌝ }
+    requires { ⌜ (
+        let sheet = sheetOf w h k (now palette) (now lab) (now indices) in
+        undoable sheet (now locks) (editAt (now journal) kind start) (changesAt (now journal) kind start count) ≡ true
+        ) ⌝ }
+    ensures { λ r. ⌜ (
+        let sheet = sheetOf w h k (now (palette .entry)) (now (lab .entry)) (now (indices .entry)) in
+        sheetOf w h r (now (palette .exit)) (now (lab .exit)) (now (indices .exit))
+        ≡ reverted sheet (editAt (now (journal .entry)) kind start) (changesAt (now (journal .entry)) kind start count)
+        ) ⌝ }
+    ensures { λ _. ⌜
+        now (locks .exit) ≡ locksBack k (now (locks .entry)) (editAt (now (journal .entry)) kind start)
+        ⌝ }
+{
+    undo_locks(k, locks, edit_at(journal, kind, start));
+    revert_record(w, h, k, palette, lab, indices, journal, kind, start, count)
 }

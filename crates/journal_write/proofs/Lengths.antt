@@ -6,7 +6,7 @@ use native.Mathlib.Omega.{arith}
 use lib.ListN.{length, length-append}
 use Rattle.base.specs.declared.Lab.{Lab}
 use Rattle.base.specs.declared.Edit.{Edit}
-use Rattle.base.specs.declared.Edit.the-variants.{Pixels, PaletteSet, PaletteAdd, PaletteRemove}
+use Rattle.base.specs.declared.Edit.the-variants.{Pixels, PaletteSet, PaletteAdd, PaletteRemove, PaletteLock}
 use Rattle.edit.specs.Change.{Change}
 use Rattle.journal_record.specs.Record.{labBytes, listBytes, bodyOf, recordLength, recordOf}
 use Rattle.journal_record.proofs.LittleEndian.{length-le}
@@ -26,6 +26,7 @@ length-body (Pixels tool) cs = rw length-list (omega arith)
 length-body (PaletteSet i old new lab) cs = rw length-lab
 length-body (PaletteAdd c) cs = refl
 length-body (PaletteRemove i c lab) cs = simp (length-append, length-lab, length-list) (omega arith)
+length-body (PaletteLock i old new) cs = refl
 
 pub length-record : (e : Edit) (cs : List Change) → length (recordOf e cs) ≡ recordLength e (length cs)
 unfolding recordOf

@@ -1,25 +1,25 @@
--- What was written is read, from both ends. By kinds only `told`, what a record's kind and count say that it holds: bytes at fixed places are
+-- What was written is read, from both ends. By kinds only `contents`, what a record's kind, count and marks say that it holds: bytes at fixed places are
 -- found by computing, and the changes by their own law. Assumes nothing.
 use Prim.Native.Nat.{ℕ, _+_, _-_, _^_, _<_, _≤_}
 use mathlib.Core.Path.{_≡_, refl, sym, ap, ap₂, _∙_}
-use mathlib.Core.Bool.{true}
+use mathlib.Core.Bool.{Bool, true, false}
 use mathlib.Core.List.{List, [], _∷_, _++_, append-assoc, append-nil}
 use mathlib.Core.Option.{some}
 use native.Mathlib.Nat.{mod-eq-of-lt}
 use native.Mathlib.Omega.{arith}
 use borrow.Author.Tests.{eq-eqb, le-leb}
-use lib.Dec.{T}
+use lib.Dec.{T, eqb}
 use lib.Ieee.{Float, binary64, toBits, ofBits, fits}
 use lib.Ieee.Bits.{ofBits-toBits, toBits-lt}
 use lib.ListN.{length, drop, length-append}
 use lib.Seq.{drop-at}
 use Rattle.base.specs.declared.Lab.{Lab}
 use Rattle.base.specs.declared.Edit.{Edit}
-use Rattle.base.specs.declared.Edit.the-variants.{Pixels, PaletteSet, PaletteAdd, PaletteRemove}
+use Rattle.base.specs.declared.Edit.the-variants.{Pixels, PaletteSet, PaletteAdd, PaletteRemove, PaletteLock}
 use Rattle.edit.specs.Change.{Change}
 use Rattle.edit.specs.Storage.{bytesOf}
 use Rattle.journal_record.specs.Bytes.{le, unle, leAt}
-use Rattle.journal_record.specs.Record.{labBytes, listBytes, bodyOf, recordLength, recordOf, rgbIn, doubleIn, labIn, changesIn, byKind, contents, closed, agreed, readForth, ofLength, readBack}
+use Rattle.journal_record.specs.Record.{labBytes, listBytes, markByte, isMark, bodyOf, recordLength, recordOf, rgbIn, doubleIn, labIn, changesIn, byKind, contents, closed, agreed, readForth, ofLength, readBack}
 use Rattle.journal_write.specs.Fit.{FitLab, FitEdit, Fit}
 use Rattle.journal_record.proofs.LittleEndian.{length-le, unle-le, leAt-of}
 use Rattle.journal_write.proofs.Changes.{changes-in}
@@ -38,7 +38,15 @@ double-back v h = ap (ofBits binary64) (unle-le 8 (toBits binary64 v) ∙ mod-eq
 lab-back : (x : Lab) → FitLab x → record { l = again (x .l); a = again (x .a); b = again (x .b) } ≡ x
 lab-back x h j = record { l = double-back (x .l) (h .l-fits) j; a = double-back (x .a) (h .a-fits) j; b = double-back (x .b) (h .b-fits) j }
 
--- ---- what kind and count say
+mark-back : (b : Bool) → eqb (markByte b) 1 ≡ b
+mark-back true = refl
+mark-back false = refl
+
+mark-fits : (b : Bool) → isMark (markByte b) ≡ true
+mark-fits true = refl
+mark-fits false = refl
+
+-- ---- what kind, count and marks say
 told-is : (e : Edit) (cs : List Change) (rest : List ℕ) → Fit e cs → contents (bodyOf e cs ++ rest) ≡ some (e, cs)
 unfolding contents byKind leAt rgbIn doubleIn labIn bodyOf labBytes listBytes le FitEdit recordLength
 told-is (Pixels tool) cs rest h =
@@ -54,6 +62,8 @@ told-is (PaletteRemove i c lab) cs rest h =
     let count : leAt 4 bytes 29 ≡ length cs = count-back (length cs) (omega (arith, h .whole)) in
     ap₂ (λ (x : Lab) (l : List Change). some (PaletteRemove i c x, l)) (lab-back lab (h .edit))
     (ap (changesIn bytes 33) count ∙ changes-in cs (h .changes) bytes (front ++ le 4 (length cs)) rest 33 refl refl)
+told-is (PaletteLock i old new) cs rest h =
+    rw (mark-fits old, mark-fits new, mark-back old, mark-back new) (ap (λ (l : List Change). some (PaletteLock i old new, l)) (sym (h .edit)))
 
 -- ---- the record that starts the bytes
 last-four : (e : Edit) (cs : List Change) (after : List ℕ) → Fit e cs → closed (recordOf e cs ++ after) (recordLength e (length cs)) ≡ true

@@ -1,15 +1,16 @@
 -- The parts of a record without a list, written one behind the other, are the record in front of what was there. Assumes nothing.
 use Prim.Native.Nat.{ℕ, _+_, _≤_}
 use mathlib.Core.Path.{_≡_, refl, ap, _∙_}
+use mathlib.Core.Bool.{Bool}
 use mathlib.Core.List.{List, [], _∷_, _++_, append-assoc}
 use lib.ListN.{length, length-append}
 use Rattle.base.specs.declared.Rgb.{Rgb}
 use Rattle.base.specs.declared.Lab.{Lab}
 use Rattle.base.specs.Lists.{over}
-use Rattle.base.specs.declared.Edit.the-variants.{PaletteSet, PaletteAdd}
+use Rattle.base.specs.declared.Edit.the-variants.{PaletteSet, PaletteAdd, PaletteLock}
 use Rattle.edit.specs.Storage.{bytesOf}
 use Rattle.journal_record.specs.Bytes.{le, splice}
-use Rattle.journal_record.specs.Record.{doubleBytes, labBytes, bodyOf, recordLength, recordOf}
+use Rattle.journal_record.specs.Record.{doubleBytes, labBytes, markByte, bodyOf, recordLength, recordOf}
 use Rattle.journal_record.proofs.LittleEndian.{length-le}
 use Rattle.journal_write.proofs.Lengths.{length-lab}
 use Rattle.journal_record.proofs.Splice.{over-then, splice-then}
@@ -38,3 +39,10 @@ module _ (part : List ℕ) where
       let s₃ : p₃ ≡ over front part = over-then (2 ∷ i ∷ bytesOf old) (bytesOf new) part p₂ p₃ 5 refl s₂ e₃ in
       let s₄ : p₄ ≡ over (front ++ labBytes lab) part = over-then front (labBytes lab) part p₃ p₄ 8 refl s₃ e₄ in
       over-then (front ++ labBytes lab) (le 4 36) part p₄ p₅ 32 (rw length-lab) s₄ e₅
+
+  pub lock-written : (p₁ p₂ p₃ : List ℕ) (i : ℕ) (old new : Bool) → p₁ ≡ over (5 ∷ i ∷ []) part → p₂ ≡ splice p₁ 2 (markByte old ∷ markByte new ∷ [])
+      → p₃ ≡ splice p₂ 4 (le 4 8) → p₃ ≡ over (recordOf (PaletteLock i old new) []) part
+  unfolding recordOf bodyOf recordLength
+  lock-written p₁ p₂ p₃ i old new e₁ e₂ e₃ =
+      let marks : List ℕ = markByte old ∷ markByte new ∷ [] in
+      over-then (5 ∷ i ∷ marks) (le 4 8) part p₂ p₃ 4 refl (over-then (5 ∷ i ∷ []) marks part p₁ p₂ 2 refl e₁ e₂) e₃

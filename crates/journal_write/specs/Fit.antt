@@ -10,7 +10,7 @@ use mir.Syntax.{w16}
 use mir.Val.{SFits}
 use Rattle.base.specs.declared.Lab.{Lab}
 use Rattle.base.specs.declared.Edit.{Edit}
-use Rattle.base.specs.declared.Edit.the-variants.{Pixels, PaletteSet, PaletteAdd, PaletteRemove}
+use Rattle.base.specs.declared.Edit.the-variants.{Pixels, PaletteSet, PaletteAdd, PaletteRemove, PaletteLock}
 use Rattle.edit.specs.Change.{Change}
 use Rattle.journal_record.specs.Record.{recordLength}
 
@@ -31,12 +31,13 @@ pub record FitLab (x : Lab) : Type 0 where
   pub a-fits : T (fits binary64 (x .a))
   pub b-fits : T (fits binary64 (x .b))
 
--- pixels have a change, set and add have none
+-- pixels have a change; set, add and lock have none
 unfoldable pub FitEdit : Edit → List Change → Type 0
 FitEdit (Pixels tool) cs = 1 ≤ length cs
 FitEdit (PaletteSet i old new lab) cs = FitLab lab × (cs ≡ [])
 FitEdit (PaletteAdd c) cs = cs ≡ []
 FitEdit (PaletteRemove i c lab) cs = FitLab lab
+FitEdit (PaletteLock i old new) cs = cs ≡ []
 
 pub record Fit (e : Edit) (cs : List Change) : Type 0 where
   pub edit : FitEdit e cs

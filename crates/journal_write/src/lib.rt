@@ -11,4 +11,5 @@ pub use write::put_lab;
 pub use write::put_list;
 pub use write::put_rgb;
 pub use write::write_add;
+pub use write::write_lock;
 pub use write::write_set;

@@ -1,4 +1,4 @@
-// The parts of a record, and the records of set and add, each written to a part of the journal. What lies beside them
+// The parts of a record, and the records of set, add and lock, each written to a part of the journal. What lies beside them
 // keeps.
 use base::Lab;
 use base::Rgb;
@@ -13,13 +13,13 @@ ghost use mathlib.Core.List.{[], _∷_, map, flatMap};
 ghost use Prim.Native.Nat.{_+_, _*_, _≤_, _<_};
 ghost use lib.ListN.{length};
 ghost use Rattle.base.specs.Lists.{some, over};
-ghost use Rattle.base.specs.declared.Edit.the-variants.{PaletteSet, PaletteAdd};
+ghost use Rattle.base.specs.declared.Edit.the-variants.{PaletteSet, PaletteAdd, PaletteLock};
 ghost use Rattle.edit.specs.Change.{unpacked, filledIn};
 ghost use Rattle.edit.specs.List.{filledList};
 ghost use Rattle.edit.specs.Storage.{bytesOf};
 ghost use Rattle.edit_pixels.specs.Inside.{past};
 ghost use Rattle.journal_record.specs.Bytes.{splice};
-ghost use Rattle.journal_record.specs.Record.{changeBytes, labBytes, recordOf};
+ghost use Rattle.journal_record.specs.Record.{changeBytes, labBytes, markByte, recordOf};
 ghost use Rattle.journal_write.specs.Fit.{Numbers};
 ghost use Rattle.journal_write.specs.List.{within, Puttable};
 
@@ -113,6 +113,33 @@ pub fn write_add(part: &mut [u8], c: Rgb)
 {
     part[0] = 3;
     put_rgb(part, 1, c);
+    put_u32(part, 4, 8);
+}
+
+// The byte of a mark: 1 or 0.
+fn mark_byte(mark: bool) -> u8
+    ensures { λ r. ⌜ r ≡ markByte mark ⌝ }
+{
+    if mark { 1 } else { 0 }
+}
+
+// Writes the bytes of two marks from `at` on.
+fn put_marks(part: &mut [u8], at: usize, old: bool, new: bool)
+    requires { ⌜ at + 2 ≤ length (now part) ⌝ }
+    ensures { λ _. ⌜ now (part .exit) ≡ splice (now (part .entry)) at (markByte old ∷ markByte new ∷ []) ⌝ }
+{
+    part[at] = mark_byte(old);
+    part[at + 1] = mark_byte(new);
+}
+
+// "kind 5, index, old mark, new mark".
+pub fn write_lock(part: &mut [u8], index: usize, old: bool, new: bool)
+    requires { ⌜ 8 ≤ length (now part) ⌝ }
+    requires { ⌜ index < 256 ⌝ }
+    ensures { λ _. ⌜ now (part .exit) ≡ over (recordOf (PaletteLock index old new) []) (now (part .entry)) ⌝ }
+{
+    put_kind(part, 5, index as u8);
+    put_marks(part, 2, old, new);
     put_u32(part, 4, 8);
 }
 

@@ -74,12 +74,12 @@ module _ (n w h : ℕ) (one : 1 ≤ n) (few : n ≤ maxLayers) (buffer : List �
     fit : All (Fits w h) (sheetsOf n layers)
     unfolding sheetsOf
     fit =
-        all-range (Fits w h) (λ i. layers i .sheet) 0 n
+        all-range (Fits w h) (λ i. layers i .sheet .sheet) 0 n
         (λ i b. let s = stand i (omega arith) in record { well = stays-fits s; width = s .width; height = s .height })
 
     how-many : length (sheetsOf n layers) ≡ n
     unfolding sheetsOf
-    how-many = length-map (range 0 n) (λ i. layers i .sheet) ∙ length-range 0 n
+    how-many = length-map (range 0 n) (λ i. layers i .sheet .sheet) ∙ length-range 0 n
 
     flat-is : (out : List ℕ) → 4 * (w * h) ≤ length out
         → flattenLent (sheetsOf n layers) out ≡ leaving (result (4 * (w * h))) (over (flattened (sheetsOf n layers) (w * h)) out)
@@ -99,10 +99,10 @@ module _ (n w h : ℕ) (one : 1 ≤ n) (few : n ≤ maxLayers) (buffer : List �
         go false e = stand i b
 
     -- with the earlier sheet put back they are as they were
-    earlier : set (sheetsOf n next) (c .layer) (layers (c .layer) .sheet) ≡ sheetsOf n layers
+    earlier : set (sheetsOf n next) (c .layer) (layers (c .layer) .sheet .sheet) ≡ sheetsOf n layers
     unfolding sheetsOf layered
     earlier =
-        put-back (λ i. layers i .sheet) (λ i. next i .sheet) 0 n (c .layer) (c .layer) (omega arith) among
+        put-back (λ i. layers i .sheet .sheet) (λ i. next i .sheet .sheet) 0 n (c .layer) (c .layer) (omega arith) among
         (λ i q. rw (ne-eqb i (c .layer) q))
 
     repaints : repaintAfter n layers (callOn c) (flat layers) ≡ leaving (result (4 * (w * h))) (flat next)
@@ -113,13 +113,13 @@ module _ (n w h : ℕ) (one : 1 ≤ n) (few : n ≤ maxLayers) (buffer : List �
         let long : length before ≡ 4 * (w * h) = flat-length w h (sheetsOf n layers) (fit layers stand) in
         let long′ : length after ≡ 4 * (w * h) = flat-length w h (sheetsOf n next) (fit next next-stands) in
         let enough : 4 * (w * h) ≤ length (flat layers) = omega (arith, length-over before buffer (omega arith)) in
-        let held : take (4 * (w * h)) (flat layers) ≡ flattened (set (sheetsOf n next) (c .layer) (layers (c .layer) .sheet)) (w * h) =
+        let held : take (4 * (w * h)) (flat layers) ≡ flattened (set (sheetsOf n next) (c .layer) (layers (c .layer) .sheet .sheet)) (w * h) =
         take-at before (drop (length before) buffer) (4 * (w * h)) long ∙ ap (λ l. flattened l (w * h)) (sym earlier) in
         let s = stand (c .layer) among in
-        let was : Fits w h (layers (c .layer) .sheet) = record { well = stays-fits s; width = s .width; height = s .height } in
+        let was : Fits w h (layers (c .layer) .sheet .sheet) = record { well = stays-fits s; width = s .width; height = s .height } in
         let many : length (sheetsOf n next) ≡ n = how-many next next-stands in
         repaint-is w h (sheetsOf n next) (fit next next-stands) (omega arith) (omega arith) (flat layers) enough
-        (c .layer) (omega arith) (layers (c .layer) .sheet) was held
+        (c .layer) (omega arith) (layers (c .layer) .sheet .sheet) was held
         ∙ flat-is next next-stands (flat layers) enough
         ∙ ap (leaving (result (4 * (w * h)))) (over-over before after buffer (long ∙ sym long′))
 

@@ -15,13 +15,12 @@ use Rattle.base.specs.Numbers.{noSpace}
 use Rattle.base.specs.Checks.{Check, firstOf, refusedOr}
 use Rattle.base.specs.declared.Handle.{Handle}
 use Rattle.base.specs.declared.Edit.{Edit}
-use Rattle.base.specs.declared.Edit.the-variants.{Pixels, PaletteSet, PaletteAdd, PaletteRemove}
+use Rattle.base.specs.declared.Edit.the-variants.{Pixels, PaletteSet, PaletteAdd, PaletteRemove, PaletteLock}
 use Rattle.color_lab.specs.Convert.{labOf}
 use Rattle.sheet.specs.Sheet.{Sheet, view}
 use Rattle.sheet.specs.Checks.{WellFormed}
-use Rattle.sheet.proofs.Judging.{none-applied}
 use Rattle.edit.specs.Change.{Change}
-use Rattle.edit.specs.Apply.{redone, reverted}
+use Rattle.edit.specs.Apply.{reverted}
 use Rattle.edit.proofs.Redone.{SameSize, redone-size}
 use Rattle.journal_record.specs.Record as records
 use Rattle.journal_record.specs.Record.{readBack, readForth}
@@ -38,8 +37,9 @@ use Rattle.history_ledger.proofs.Trace.{Trace, Holds, begin, begins}
 use Rattle.history_ledger.proofs.Scratch.{any-room}
 use Rattle.history_ledger.proofs.Refusals.{when-passes, each-passes}
 use Rattle.history_ledger.proofs.Whole.{runs}
+use Rattle.history_model.specs.Document.{Document, documentDone, documentBack}
 use Rattle.history_model.specs.Editing.{Given, editing, taken, undoneBy, redoneBy}
-use Rattle.history_model.proofs.Keeps.{keeps}
+use Rattle.history_model.proofs.Keeps.{marked, keeps}
 use Rattle.history_model.proofs.Demand3.{curve}
 
 -- ---- the size
@@ -49,25 +49,30 @@ reverted-size s (Pixels tool) cs = record { w = refl; h = refl }
 reverted-size s (PaletteSet i old new lab) cs = record { w = refl; h = refl }
 reverted-size s (PaletteAdd c) cs = record { w = refl; h = refl }
 reverted-size s (PaletteRemove i c lab) cs = record { w = refl; h = refl }
+reverted-size s (PaletteLock i old new) cs = record { w = refl; h = refl }
 
 -- what a reading leads to
-abbrev Leads : (Sheet → Type 0) → Option (Taken Sheet) → Type 0
+abbrev Leads : (Document → Type 0) → Option (Taken Document) → Type 0
 Leads P none = Unit {0}
 Leads P (some r) = P (r .sheet)
 
-leads-taken : (P : Sheet → Type 0) (ok : Bool) (n : ℕ) (s : Sheet) → P s → Leads P (taken ok n s)
-leads-taken P true n s h = h
-leads-taken P false n s h = tt
+leads-taken : (P : Document → Type 0) (ok : Bool) (n : ℕ) (d : Document) → P d → Leads P (taken ok n d)
+leads-taken P true n d h = h
+leads-taken P false n d h = tt
 
-undone-size : (s : Sheet) (r : records.Reading) → Leads (SameSize s) (undoneBy s r)
+abbrev Sides : Document → Document → Type 0
+Sides d after = SameSize (d .sheet) (after .sheet)
+
+undone-size : (d : Document) (r : records.Reading) → Leads (Sides d) (undoneBy d r)
 unfolding undoneBy
-undone-size s none = tt
-undone-size s (some r) = leads-taken (SameSize s) (undoable s (r .1) (r .2)) (r .0) (reverted s (r .1) (r .2)) (reverted-size s (r .1) (r .2))
+undone-size d none = tt
+undone-size d (some r) = leads-taken (Sides d) (undoable (d .sheet) (d .locks) (r .1) (r .2)) (r .0) (documentBack d (r .1) (r .2)) (reverted-size (d .sheet) (r .1) (r .2))
 
-forth-size : (s : Sheet) (r : records.Reading) → Leads (SameSize s) (redoneBy labOf s r)
+forth-size : (d : Document) (r : records.Reading) → Leads (Sides d) (redoneBy labOf d r)
 unfolding redoneBy
-forth-size s none = tt
-forth-size s (some r) = leads-taken (SameSize s) (redoable s (r .1) (r .2)) (r .0) (redone labOf s (r .1) (r .2)) (redone-size labOf s (r .1) (r .2))
+forth-size d none = tt
+forth-size d (some r) =
+    leads-taken (Sides d) (redoable (d .sheet) (d .locks) (r .1) (r .2)) (r .0) (documentDone labOf d (r .1) (r .2)) (redone-size labOf (d .sheet) (r .1) (r .2))
 
 -- ---- what a call leaves is what was there, or what the outcome behind its checks leaves
 pub record Left {S : Type 0} (P : S → Type 0) (o : Outcome S) : Type 0 where
@@ -87,14 +92,14 @@ module _ {S : Type 0} (P : S → Type 0) (s : S) (h : P s) where
   or-still false o k = k
 
 -- ---- a call leaves the size, in every state
-module _ (st : State Sheet) where
-  abbrev Sized : State Sheet → Type 0
-  Sized after = SameSize (st .sheet) (after .sheet)
+module _ (st : State Document) where
+  abbrev Sized : State Document → Type 0
+  Sized after = Sides (st .sheet) (after .sheet)
 
   stands : Sized st
   stands = record { w = refl; h = refl }
 
-  step-over : (r : Option (Taken Sheet)) (inside : ℕ → Bool) (stepped : ℕ → Handle → Handle) → Leads (SameSize (st .sheet)) r
+  step-over : (r : Option (Taken Document)) (inside : ℕ → Bool) (stepped : ℕ → Handle → Handle) → Leads (Sides (st .sheet)) r
       → Left Sized (stepOver editing st r inside stepped)
   unfolding stepOver
   step-over none inside stepped h = record { is = stands }
@@ -106,7 +111,7 @@ module _ (st : State Sheet) where
       after-checks Sized st stands (entryChecks editing st g) _
       (or-still Sized st stands (editing .isEmpty g) _
       (after-checks Sized st stands (pushChecks editing room st g) (done (pushed editing st g))
-      (record { is = redone-size labOf (st .sheet) (g .edit) (g .changes) })))
+      (record { is = redone-size labOf (st .sheet .sheet) (g .edit) (g .changes) })))
   sized room undo =
       let used : List ℕ = take (st .handle .offset) (st .journal) in
       after-checks Sized st stands (moveChecks editing st) _
@@ -122,7 +127,7 @@ module _ (st : State Sheet) where
   sized room mark = record { is = stands }
 
 -- ---- a journal that is too long, or scratch that is too short, leaves everything as it was
-overlong : (room : ℕ) (st : State Sheet) (c : Call Given) → maxJournal < length (st .journal) → step editing room st c .leaves ≡ st
+overlong : (room : ℕ) (st : State Document) (c : Call Given) → maxJournal < length (st .journal) → step editing room st c .leaves ≡ st
 unfolding pushOf undoOf redoOf markOf firstOf refusedOr
 overlong room st (push g) h = rw (lt-ltb maxJournal (length (st .journal)) h)
 overlong room st undo h = rw (lt-ltb maxJournal (length (st .journal)) h)
@@ -137,9 +142,9 @@ applied s cs o h = go (firstOf cs) refl
     go zero e = absurd (h e)
     go (suc n) e = record { is = refl }
 
-module _ (room : ℕ) (st : State Sheet) (short : room < st .sheet .w * st .sheet .h) where
-  not-enough : ¬ (cond (ltb room (st .sheet .w * st .sheet .h)) noSpace 0 ≡ 0)
-  not-enough e = omega (arith, ltb-false room (st .sheet .w * st .sheet .h) (when-passes 15 (ltb room (st .sheet .w * st .sheet .h)) e))
+module _ (room : ℕ) (st : State Document) (short : room < st .sheet .sheet .w * st .sheet .sheet .h) where
+  not-enough : ¬ (cond (ltb room (st .sheet .sheet .w * st .sheet .sheet .h)) noSpace 0 ≡ 0)
+  not-enough e = omega (arith, ltb-false room (st .sheet .sheet .w * st .sheet .sheet .h) (when-passes 15 (ltb room (st .sheet .sheet .w * st .sheet .sheet .h)) e))
 
   short-push : (g : Given) → Left (λ s. s ≡ st) (pushOf editing room st g)
   unfolding pushOf view
@@ -158,16 +163,16 @@ module _ (room : ℕ) (st : State Sheet) (short : room < st .sheet .w * st .shee
       (applied st (shortScratch editing room st ∷ []) over (λ e. not-enough (each-passes (shortScratch editing room st ∷ []) e .0))))
 
 -- ---- a state on the way, with scratch of `room` places
-pub record Along (room n : ℕ) (st : State Sheet) : Type 0 where
+pub record Along (room n : ℕ) (st : State Document) : Type 0 where
   pub by : Trace editing
   pub holds : Holds editing room n by
   pub is : st ≡ trace.stateOf editing by
 
-pub data Lives (room : ℕ) (st : State Sheet) : Type 0 where
+pub data Lives (room : ℕ) (st : State Document) : Type 0 where
   refuses : maxJournal < length (st .journal) → WellFormedIn editing (st .sheet) → Lives room st
   goes : (n : ℕ) → n ≤ maxJournal → Along room n st → Lives room st
 
-along-step : {room n : ℕ} {st : State Sheet} → n ≤ maxJournal → Along room n st → (c : Call Given) → TypedCall editing c
+along-step : {room n : ℕ} {st : State Document} → n ≤ maxJournal → Along room n st → (c : Call Given) → TypedCall editing c
     → Along room n (step editing room st c .leaves)
 unfolding play lend
 along-step {room} {n} permitted a c t =
@@ -175,31 +180,31 @@ along-step {room} {n} permitted a c t =
     record { by = ran .to; holds = ran .holds; is = ap (λ s. step editing room s c .leaves) (a .is) ∙ ap (λ p. p .ends) (ran .code) }
 
 -- ---- a layer of w by h
-pub record Stays (w h : ℕ) (st : State Sheet) : Type 0 where
-  pub width : st .sheet .w ≡ w
-  pub height : st .sheet .h ≡ h
+pub record Stays (w h : ℕ) (st : State Document) : Type 0 where
+  pub width : st .sheet .sheet .w ≡ w
+  pub height : st .sheet .sheet .h ≡ h
   pub lives : Lives (w * h) st
 
-lives-fits : {room : ℕ} {st : State Sheet} → Lives room st → WellFormedIn editing (st .sheet)
+lives-fits : {room : ℕ} {st : State Document} → Lives room st → WellFormedIn editing (st .sheet)
 lives-fits (refuses long f) = f
 lives-fits (goes n permitted a) = subst (λ s. WellFormedIn editing (s .sheet)) (sym (a .is)) (a .holds .fits)
 
-pub stays-fits : {w h : ℕ} {st : State Sheet} → Stays w h st → WellFormed (st .sheet)
-stays-fits {w} {h} {st} a = none-applied (st .sheet) (lives-fits (a .lives) .passes)
+pub stays-fits : {w h : ℕ} {st : State Document} → Stays w h st → WellFormed (st .sheet .sheet)
+stays-fits {w} {h} {st} a = marked (st .sheet .sheet) (st .sheet .locks) (lives-fits (a .lives) .passes) .formed
 
-pub opens : {w h : ℕ} (s : Sheet) (journal : List ℕ) → WellFormedIn editing s → s .w ≡ w → s .h ≡ h → Stays w h (opened editing s journal)
+pub opens : {w h : ℕ} (d : Document) (journal : List ℕ) → WellFormedIn editing d → d .sheet .w ≡ w → d .sheet .h ≡ h → Stays w h (opened editing d journal)
 unfolding view
-opens {w} {h} s journal f p q = record { width = p; height = q; lives = go (ltb maxJournal (length journal)) refl }
+opens {w} {h} d journal f p q = record { width = p; height = q; lives = go (ltb maxJournal (length journal)) refl }
   where
-    places : s .w * s .h ≤ w * h
+    places : d .sheet .w * d .sheet .h ≤ w * h
     places = rw (p, q) (omega arith)
 
-    go : (b : Bool) → ltb maxJournal (length journal) ≡ b → Lives (w * h) (opened editing s journal)
+    go : (b : Bool) → ltb maxJournal (length journal) ≡ b → Lives (w * h) (opened editing d journal)
     go true e = refuses (ltb-true _ _ e) f
     go false e =
-        goes (length journal) (ltb-false _ _ e) (record { by = begin editing s journal; holds = begins editing s journal (w * h) f places; is = refl })
+        goes (length journal) (ltb-false _ _ e) (record { by = begin editing d journal; holds = begins editing d journal (w * h) f places; is = refl })
 
-module _ {w h : ℕ} {st : State Sheet} (a : Stays w h st) (room : ℕ) where
+module _ {w h : ℕ} {st : State Document} (a : Stays w h st) (room : ℕ) where
   enough : room < w * h → (c : Call Given) → Lives (w * h) (step editing (w * h) st c .leaves) → Lives (w * h) (step editing room st c .leaves)
   enough short (push g) k = subst (Lives (w * h)) (sym (short-push room st (rw (a .width, a .height) short) g .is)) (a .lives)
   enough short undo k = k

@@ -15,23 +15,23 @@ use Rattle.base.specs.Answer.{Told, Filled, leaving}
 use Rattle.base.specs.Answer.Told.{result}
 use Rattle.base.specs.Lists.{All, range, over}
 use Rattle.sheet.specs.Sheet.{Sheet}
-use Rattle.sheet.specs.Checks.{sheetChecks}
 use Rattle.history_ledger.specs.Calls.{Call, Lent, play}
 use Rattle.history_ledger.specs.Journal.{State, opened, stepLent}
 use Rattle.history_ledger.specs.Layers.{OnLayer, layered}
+use Rattle.history_model.specs.Document.{Document, documentChecks}
 use Rattle.history_model.specs.Editing.{Given, editing}
 use Rattle.history_model.specs.Handed.{HandedSheet, sheetBy}
 use Rattle.history_model.specs.Layers.{HandedCall, callOn}
 use Rattle.layer_shown.specs.Layers.{layersOf, flattened}
 use Rattle.layer_shown.specs.Calls.{flattenOf, repaintOf}
 
--- layers by their numbers, each with sheet, journal and handle of its own
+-- layers by their numbers, each with sheet, marks, journal and handle of its own
 abbrev pub Layers : Type 0
-Layers = ℕ → State Sheet
+Layers = ℕ → State Document
 
--- the sheets of the first n, bottom first
+-- the sheets of the first n, bottom first: a mark is not shown (document 02, E5)
 unfoldable pub sheetsOf : ℕ → Layers → List Sheet
-sheetsOf n layers = map (λ i. layers i .sheet) (range 0 n)
+sheetsOf n layers = map (λ i. layers i .sheet .sheet) (range 0 n)
 
 -- ---- the two calls, on sheets that are lent in one buffer a kind
 unfoldable pub sizesOf : List Sheet → List ℕ
@@ -60,7 +60,7 @@ repaintLent sheets edited before out = repaintOf (sizesOf sheets) (lentLayers sh
 unfoldable pub repaintAfter : ℕ → Layers → OnLayer (Lent (Call Given)) → List ℕ → Filled ℕ
 repaintAfter n layers c out =
     let next = layered (stepLent editing) layers c .leaves in
-    repaintLent (sheetsOf n next) (c .layer) (layers (c .layer) .sheet) out
+    repaintLent (sheetsOf n next) (c .layer) (layers (c .layer) .sheet .sheet) out
 
 -- a list of calls, with a repaint after each: what the repaints answer, and the buffer at the end
 pub record Painted : Type 0 where
@@ -74,11 +74,11 @@ painted n layers out (c ∷ cs) =
     let later = painted n (layered (stepLent editing) layers c .leaves) (now .buffer) cs in
     record { answers = now .answer ∷ later .answers; out = later .out }
 
--- ---- a sheet of w by h that none of 1 to 3 refuses
-pub record Opens (w h : ℕ) (s : Sheet) : Type 0 where
-  pub passes : firstOf (sheetChecks [] s) ≡ 0
-  pub width : s .w ≡ w
-  pub height : s .h ≡ h
+-- ---- a sheet of w by h, with its marks, that none of 1 to 3 refuses
+pub record Opens (w h : ℕ) (d : Document) : Type 0 where
+  pub passes : firstOf (documentChecks d) ≡ 0
+  pub width : d .sheet .w ≡ w
+  pub height : d .sheet .h ≡ h
 
 -- The first flattening and every repaint answered a count. At the end the buffer is what `flatten` makes of the sheets at the
 -- end in the buffer as it was lent: their flattening, and past it what was there.

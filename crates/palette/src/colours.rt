@@ -2,6 +2,7 @@
 use base::Answer;
 use base::COLOUR_NOT_PERMITTED;
 use base::Choices;
+use base::ENTRY_LOCKED;
 use base::Edit;
 use base::MAX_ENTRIES;
 use base::MadeEdit;
@@ -13,13 +14,16 @@ use base::rgb_at;
 use edit_entries::is_listed;
 use edit_entries::no_lab;
 use sheet::check;
+use sheet::check_marked;
 use sheet::permitted_no;
 ghost use mathlib.Core.Path.{_≡_};
+ghost use mathlib.Core.List.{[]};
 ghost use Prim.Native.Nat.{_+_, _*_, _/_, _≤_};
 ghost use lib.ListN.{length};
 ghost use Rattle.base.specs.Answer.{answerTold, madeEditTold};
 ghost use Rattle.base.specs.Lists.{over};
 ghost use Rattle.sheet.specs.Sheet.{sheetOf};
+ghost use Rattle.sheet.specs.Checks.{WellFormed, Marked, markChecks};
 ghost use Rattle.sheet.specs.Document.{mark};
 ghost use Rattle.base.specs.Triples.{rgbAt};
 ghost use Rattle.edit.specs.Checks.{permittedOf, listed};
@@ -38,7 +42,7 @@ fn opened_no(
 ) -> u8
     ensures { λ r. ⌜ (
         let sheet = sheetOf w h k (now (palette .entry)) (now (lab .entry)) (now (indices .entry)) in
-        PaletteJudged sheet (permittedOf limited (now (permitted .entry))) r
+        PaletteJudged [] (WellFormed sheet) sheet (permittedOf limited (now (permitted .entry))) r
         ) ⌝ }
 {
     let no = permitted_no(limited, permitted);
@@ -46,6 +50,31 @@ fn opened_no(
         return no;
     }
     check(w, h, k, palette, lab, indices)
+}
+
+// The same with the lock marks, whose number 1 is among them.
+fn marked_no(
+    w: usize,
+    h: usize,
+    k: usize,
+    palette: &[u8],
+    lab: &[f64],
+    indices: &[i16],
+    locks: &[bool],
+    limited: bool,
+    permitted: &[u8],
+) -> u8
+    ensures { λ r. ⌜ (
+        let sheet = sheetOf w h k (now (palette .entry)) (now (lab .entry)) (now (indices .entry)) in
+        let locks = now (locks .entry) in
+        PaletteJudged (markChecks locks) (Marked sheet locks) sheet (permittedOf limited (now (permitted .entry))) r
+        ) ⌝ }
+{
+    let no = permitted_no(limited, permitted);
+    if no != 0 {
+        return no;
+    }
+    check_marked(w, h, k, palette, lab, indices, locks)
 }
 
 // Whether an entry may take this colour: 10 where it is not on a present list.
@@ -124,7 +153,7 @@ pub fn fixed_choices(
     Choices::Count(n)
 }
 
-// The edit that recolours entry `index`.
+// The edit that recolours entry `index`. A locked entry keeps its colour: 24.
 pub fn set_color(
     w: usize,
     h: usize,
@@ -132,6 +161,7 @@ pub fn set_color(
     palette: &[u8],
     lab: &[f64],
     indices: &[i16],
+    locks: &[bool],
     limited: bool,
     permitted: &[u8],
     index: usize,
@@ -139,15 +169,19 @@ pub fn set_color(
 ) -> MadeEdit
     ensures { λ r. ⌜ (
         let sheet = sheetOf w h k (now (palette .entry)) (now (lab .entry)) (now (indices .entry)) in
-        madeEditTold r ≡ setColorOf sheet (permittedOf limited (now (permitted .entry))) index rgb
+        madeEditTold r
+        ≡ setColorOf sheet (now (locks .entry)) (permittedOf limited (now (permitted .entry))) index rgb
         ) ⌝ }
 {
-    let no = opened_no(w, h, k, palette, lab, indices, limited, permitted);
+    let no = marked_no(w, h, k, palette, lab, indices, locks, limited, permitted);
     if no != 0 {
         return MadeEdit::Refused(no);
     }
     if k <= index {
         return MadeEdit::Refused(NO_SUCH_ENTRY);
+    }
+    if locks[index] {
+        return MadeEdit::Refused(ENTRY_LOCKED);
     }
     if edit_entries::check_color(limited, permitted, rgb) {
         return MadeEdit::Refused(COLOUR_NOT_PERMITTED);

@@ -1,33 +1,40 @@
--- The checks that `nearest_other` and `remove_entry` of palette.rs share, and the nearest of the other entries. Definitions only. Assumes nothing.
+-- The checks that `nearest_other` and `remove_entry` of palette.rs begin with, and the nearest of the other entries. Definitions only. Assumes nothing.
 use mathlib.Core.Path.{_≡_}
 use Prim.Native.Nat.{ℕ, suc, _*_, _-_, _<_, _≤_}
-use mathlib.Core.Bool.{cond}
+use mathlib.Core.Bool.{Bool, cond}
 use mathlib.Core.List.{List, [], _∷_, _++_}
 use lib.Dec.{T, ltb, leb}
 use lib.ListN.{take}
 use lib.Ieee.{Float, lt, le}
-use Rattle.base.specs.Numbers.{noSuchEntry, lastEntry}
+use Rattle.base.specs.Numbers.{noSuchEntry, lastEntry, entryLocked}
 use Rattle.base.specs.Checks.{Check, _when_, firstOf}
 use Rattle.base.specs.Answer.{EntryAt, entryAt}
 use Rattle.color_nearest.specs.declared.Near.{Near}
 use Rattle.color_nearest.specs.Nearest.{distance, nearestOf}
 use Rattle.base.specs.Triples.{labAt}
 use Rattle.sheet.specs.Sheet.{Sheet}
-use Rattle.sheet.specs.Checks.{sheetChecks, WellFormed}
+use Rattle.sheet.specs.Checks.{markChecks, sheetChecks, WellFormed}
 use Rattle.edit.specs.Storage.{cut}
+use Rattle.edit.specs.Locks.{lockAt}
 
 -- 1, 2, 3, then "`remove_entry`, `nearest_other`: 7, 9"
 unfoldable pub otherChecks : Sheet → ℕ → List Check
 otherChecks s i = sheetChecks [] s ++ (noSuchEntry when leb (s .k) i ∷ lastEntry when ltb (s .k) 2 ∷ [])
 
--- what a caller knows where none of them applies, and the number of the first that does
+-- of `remove_entry`, with the marks: "24 .. directly after 7 (never in `nearest_other`)" (document 02, E5)
+unfoldable pub removalChecks : Sheet → List Bool → ℕ → List Check
+removalChecks s locks i =
+    sheetChecks (markChecks locks) s
+    ++ (noSuchEntry when leb (s .k) i ∷ entryLocked when lockAt locks i ∷ lastEntry when ltb (s .k) 2 ∷ [])
+
+-- what a caller knows where none of these checks applies, and the number of the first that does
 pub record HasOthers (s : Sheet) (i : ℕ) : Type 0 where
   pub formed : WellFormed s
   pub entry : i < s .k
   pub more : 2 ≤ s .k
 
-pub record Removable (s : Sheet) (i n : ℕ) : Type 0 where
-  pub value : n ≡ firstOf (otherChecks s i)
+pub record Removable (checks : List Check) (s : Sheet) (i n : ℕ) : Type 0 where
+  pub value : n ≡ firstOf checks
   pub fine : n ≡ 0 → HasOthers s i
 
 -- "`nearest_other` takes the first entry but the removed one with the smallest float `dist2`, the first such entry if all are infinite": the

@@ -1,4 +1,5 @@
 // The entries but one: whether there are others, and the nearest of them.
+use base::ENTRY_LOCKED;
 use base::LAST_ENTRY;
 use base::NO_SUCH_ENTRY;
 use base::lab_at;
@@ -6,6 +7,7 @@ use color_nearest::Near;
 use color_nearest::nearer;
 use color_nearest::nearest_in;
 use sheet::check;
+use sheet::check_marked;
 ghost use mathlib.Core.Path.{_≡_};
 ghost use mathlib.Core.Bool.{false};
 ghost use Prim.Native.Nat.{_*_, _<_, _≤_};
@@ -13,7 +15,7 @@ ghost use lib.ListN.{length, take};
 ghost use Rattle.base.specs.Lists.{some};
 ghost use Rattle.color_doubles.specs.Finite.{unfit};
 ghost use Rattle.sheet.specs.Sheet.{sheetOf};
-ghost use Rattle.palette_nearest.specs.Nearest.{Removable, Nearest};
+ghost use Rattle.palette_nearest.specs.Nearest.{otherChecks, removalChecks, Removable, Nearest};
 
 // The number of the first of 1 to 3, 7 and 9 that applies, or 0 where entry `index` is there and is not
 // the last.
@@ -28,7 +30,7 @@ pub fn other_no(
 ) -> u8
     ensures { λ r. ⌜ (
         let sheet = sheetOf w h k (now (palette .entry)) (now (lab .entry)) (now (indices .entry)) in
-        Removable sheet index r
+        Removable (otherChecks sheet index) sheet index r
         ) ⌝ }
 {
     let no = check(w, h, k, palette, lab, indices);
@@ -37,6 +39,38 @@ pub fn other_no(
     }
     if k <= index {
         return NO_SUCH_ENTRY;
+    }
+    if k < 2 {
+        return LAST_ENTRY;
+    }
+    0
+}
+
+// The same of a removal, with the lock marks: 1 to 3, 7, 24, 9. A locked entry is refused before the last one is.
+pub fn removal_no(
+    w: usize,
+    h: usize,
+    k: usize,
+    palette: &[u8],
+    lab: &[f64],
+    indices: &[i16],
+    locks: &[bool],
+    index: usize,
+) -> u8
+    ensures { λ r. ⌜ (
+        let sheet = sheetOf w h k (now (palette .entry)) (now (lab .entry)) (now (indices .entry)) in
+        Removable (removalChecks sheet (now (locks .entry)) index) sheet index r
+        ) ⌝ }
+{
+    let no = check_marked(w, h, k, palette, lab, indices, locks);
+    if no != 0 {
+        return no;
+    }
+    if k <= index {
+        return NO_SUCH_ENTRY;
+    }
+    if locks[index] {
+        return ENTRY_LOCKED;
     }
     if k < 2 {
         return LAST_ENTRY;

@@ -1,6 +1,6 @@
 -- What the calls that take an entry out answer, by what their tests find. Laws on the removal are over what a call hands back of it. Assumes nothing.
 use mathlib.Core.Path.{_≡_, refl, sym, ap, subst, _∙_}
-use mathlib.Core.Bool.{or-true}
+use mathlib.Core.Bool.{Bool, true, false, or-true}
 use mathlib.Core.List.{List, [], map}
 use Prim.Native.Nat.{ℕ, zero, suc, _<_, _≤_}
 use native.Mathlib.Omega.{arith}
@@ -17,11 +17,12 @@ use Rattle.base.specs.Answer.Told.{result, alone}
 use Rattle.base.proofs.Told.{alone-other, same-result}
 use Rattle.base.specs.declared.Found.the-variants as found
 use Rattle.sheet.specs.Sheet.{Sheet}
-use Rattle.sheet.specs.Checks.{sheetChecks, WellFormed, Judged}
+use Rattle.sheet.specs.Checks.{markChecks, sheetChecks, MarkedJudged}
 use Rattle.base.specs.Triples.{rgbAt}
-use Rattle.sheet.proofs.Judging.{past-sheet}
+use Rattle.sheet.proofs.Marks.{past-marked}
 use Rattle.base.specs.declared.Edit.the-variants.{PaletteRemove}
 use Rattle.edit.specs.Change.{packed}
+use Rattle.edit.specs.Locks.{lockAt}
 use Rattle.edit_pixels.specs.Listing.{placesFrom}
 use Rattle.edit_entries.specs.Unfilled.{noLab}
 use Rattle.color_nearest.specs.declared.Near.{Near}
@@ -31,11 +32,11 @@ use Rattle.palette_remove.specs.Removal.{moved, remapOf, Remapped, Repla
 
 -- ---- `nearest_other`
 module _ (s : Sheet) (i : ℕ) where
-  pub near-refused : (n : ℕ) → Removable s i n → (n ≡ 0 → ⊥) → NearestOther s i (found.Refused n)
+  pub near-refused : (n : ℕ) → Removable (otherChecks s i) s i n → (n ≡ 0 → ⊥) → NearestOther s i (found.Refused n)
   unfolding nearestOtherOf
   near-refused n r h = record { value = refused-first (otherChecks s i) alone _ n (r .value) h; first = λ j e. absurd (alone-other e) }
 
-  pub near-found : (n : ℕ) → Removable s i n → n ≡ 0 → (r : Near) → Nearest (s .lab) (s .k) i r → NearestOther s i (found.Entry (r .entry) (r .distance))
+  pub near-found : (n : ℕ) → Removable (otherChecks s i) s i n → n ≡ 0 → (r : Near) → Nearest (s .lab) (s .k) i r → NearestOther s i (found.Entry (r .entry) (r .distance))
   unfolding nearestOtherOf
   near-found n r z m f =
       record {
@@ -91,23 +92,29 @@ module _ (into : EntryAt) (w : ℕ) (palette : List ℕ) (l : List ℤ) (i targe
   remove-with a b list' h e = rw e (ap (λ (f : Remapped). remapping (withTarget into (f .answer)) (f .list)) h ∙ made-with)
 
 -- ---- `merge_entries`
-module _ (s : Sheet) (from into : ℕ) where
-  pub merge-sheet : (n : ℕ) → Judged s n → (n ≡ 0 → ⊥) → n ≡ firstOf (mergeChecks s from into)
+module _ (s : Sheet) (locks : List Bool) (from into n : ℕ) (j : MarkedJudged s locks n) where
+  pub merge-sheet : (n ≡ 0 → ⊥) → n ≡ firstOf (mergeChecks s locks from into)
   unfolding mergeChecks
-  merge-sheet n j h = first-here (sheetChecks [] s) _ n (j .value) h
+  merge-sheet h = first-here (sheetChecks (markChecks locks) s) _ n (j .value) h
 
-  pub merge-from : WellFormed s → s .k ≤ from → 18 ≡ firstOf (mergeChecks s from into)
-  unfolding mergeChecks firstOf
-  merge-from f h = rw (past-sheet s f, le-leb _ _ h)
+  module _ (z : n ≡ 0) where
+    pub merge-from : s .k ≤ from → 18 ≡ firstOf (mergeChecks s locks from into)
+    unfolding mergeChecks firstOf
+    merge-from h = rw (past-marked s locks n j z, le-leb _ _ h)
 
-  pub merge-into : WellFormed s → s .k ≤ into → 18 ≡ firstOf (mergeChecks s from into)
-  unfolding mergeChecks firstOf
-  merge-into f h = rw (past-sheet s f, le-leb _ _ h, or-true)
+    pub merge-into : s .k ≤ into → 18 ≡ firstOf (mergeChecks s locks from into)
+    unfolding mergeChecks firstOf
+    merge-into h = rw (past-marked s locks n j z, le-leb _ _ h, or-true)
 
-  pub merge-same : WellFormed s → from ≡ into → 18 ≡ firstOf (mergeChecks s from into)
-  unfolding mergeChecks firstOf
-  merge-same f h = rw (past-sheet s f, eq-eqb _ _ h, or-true, or-true)
+    pub merge-same : from ≡ into → 18 ≡ firstOf (mergeChecks s locks from into)
+    unfolding mergeChecks firstOf
+    merge-same h = rw (past-marked s locks n j z, eq-eqb _ _ h, or-true, or-true)
 
-  pub merge-fine : WellFormed s → from < s .k → into < s .k → (from ≡ into → ⊥) → firstOf (mergeChecks s from into) ≡ 0
-  unfolding mergeChecks firstOf
-  merge-fine f a b ne = rw (past-sheet s f, lt-leb _ _ a, lt-leb _ _ b, ne-eqb _ _ ne)
+    module _ (a : from < s .k) (b : into < s .k) (ne : from ≡ into → ⊥) where
+      pub merge-locked : lockAt locks from ≡ true → 24 ≡ firstOf (mergeChecks s locks from into)
+      unfolding mergeChecks firstOf
+      merge-locked e = rw (past-marked s locks n j z, lt-leb _ _ a, lt-leb _ _ b, ne-eqb _ _ ne, e)
+
+      pub merge-fine : lockAt locks from ≡ false → firstOf (mergeChecks s locks from into) ≡ 0
+      unfolding mergeChecks firstOf
+      merge-fine e = rw (past-marked s locks n j z, lt-leb _ _ a, lt-leb _ _ b, ne-eqb _ _ ne, e)

@@ -1,21 +1,22 @@
 -- `remove_entry` and `merge_entries` of palette.rs: the remap, and the calls. Definitions only. Assumes nothing.
 use Prim.Native.Nat.{ℕ, _/_, _%_}
-use mathlib.Core.Bool.{_||_}
+use mathlib.Core.Bool.{Bool, _||_}
 use mathlib.Core.List.{List, [], _∷_, _++_, map}
 use lib.Dec.{ltb, leb, eqb}
 use lib.IntN.{ℤ, pos}
 use lib.ListN.{length}
-use Rattle.base.specs.Numbers.{badMerge, noSpace}
+use Rattle.base.specs.Numbers.{badMerge, entryLocked, noSpace}
 use Rattle.base.specs.Checks.{Check, _when_, checked}
 use Rattle.base.specs.Lists.{over}
 use Rattle.sheet.specs.Sheet.{Sheet}
-use Rattle.sheet.specs.Checks.{sheetChecks}
+use Rattle.sheet.specs.Checks.{markChecks, sheetChecks}
 use Rattle.base.specs.Triples.{rgbAt}
 use Rattle.base.specs.declared.Edit.the-variants.{PaletteRemove}
 use Rattle.edit.specs.Change.{Change, packed}
+use Rattle.edit.specs.Locks.{lockAt}
 use Rattle.edit_pixels.specs.Listing.{placesFrom}
 use Rattle.edit_entries.specs.Unfilled.{noLab}
-use Rattle.palette_nearest.specs.Nearest.{otherChecks, substitute}
+use Rattle.palette_nearest.specs.Nearest.{removalChecks, substitute}
 use Rattle.base.specs.declared.Removal.{Removal}
 use Rattle.base.specs.declared.Removed.{Removed}
 use Rattle.base.specs.Answer.{Told, Op, op, removalTold, EntryAt, Replacement, replacement, removedTold}
@@ -66,16 +67,18 @@ removeTo handed checks w palette indices i target list =
 
 -- "Remove entry `index`; its pixels (if any) move to the nearest remaining entry"; that entry and its distance are
 -- handed back (document 02, E3)
-unfoldable pub removeEntryOf : Sheet → ℕ → List ℕ → Replaced
-removeEntryOf s i list =
+unfoldable pub removeEntryOf : Sheet → List Bool → ℕ → List ℕ → Replaced
+removeEntryOf s locks i list =
     let into = substitute (s .lab) (s .k) i in
-    removeTo (λ made. replacement made into) (otherChecks s i) (s .w) (s .palette) (s .indices) i (into .index) list
+    removeTo (λ made. replacement made into) (removalChecks s locks i) (s .w) (s .palette) (s .indices) i (into .index) list
 
--- 18: "from or into ≥ k, or equal"
-unfoldable pub mergeChecks : Sheet → ℕ → ℕ → List Check
-mergeChecks s from into = sheetChecks [] s ++ (badMerge when (leb (s .k) from || (leb (s .k) into || eqb from into)) ∷ [])
+-- 18: "from or into ≥ k, or equal"; 24 "after 18 in a merge" (document 02, E5), of the entry that goes
+unfoldable pub mergeChecks : Sheet → List Bool → ℕ → ℕ → List Check
+mergeChecks s locks from into =
+    sheetChecks (markChecks locks) s
+    ++ (badMerge when (leb (s .k) from || (leb (s .k) into || eqb from into)) ∷ entryLocked when lockAt locks from ∷ [])
 
 -- "Merge entry `from` into `into`: every pixel of `from` becomes `into`, `from` is removed"
-unfoldable pub mergeEntriesOf : Sheet → ℕ → ℕ → List ℕ → Remapped
-mergeEntriesOf s from into list =
-    removeTo (λ made. made) (mergeChecks s from into) (s .w) (s .palette) (s .indices) from into list
+unfoldable pub mergeEntriesOf : Sheet → List Bool → ℕ → ℕ → List ℕ → Remapped
+mergeEntriesOf s locks from into list =
+    removeTo (λ made. made) (mergeChecks s locks from into) (s .w) (s .palette) (s .indices) from into list

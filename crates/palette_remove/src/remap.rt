@@ -1,6 +1,7 @@
 // Entries that leave the palette, with the changes that move their pixels: `remove_entry` and
 // `merge_entries`. The changes are counted before the first is written.
 use base::BAD_MERGE;
+use base::ENTRY_LOCKED;
 use base::Edit;
 use base::NO_SPACE;
 use base::Removal;
@@ -11,8 +12,8 @@ use edit_pixels::change_of;
 use edit_pixels::count_on;
 use edit_pixels::list_row;
 use palette_nearest::nearest_but;
-use palette_nearest::other_no;
-use sheet::check;
+use palette_nearest::removal_no;
+use sheet::check_marked;
 ghost use mathlib.Core.Path.{_≡_};
 ghost use mathlib.Core.List.{[], map};
 ghost use Prim.Native.Nat.{_+_, _*_, _<_, _≤_};
@@ -106,7 +107,7 @@ fn with_target(made: Removal, into: usize, distance: f64) -> Removed
 }
 
 // The edit that removes entry `index`; its pixels move to the nearest other entry, which is handed back with its
-// `dist2`, also where no pixel is on the entry.
+// `dist2`, also where no pixel is on the entry. A locked entry stays: 24.
 pub fn remove_entry(
     w: usize,
     h: usize,
@@ -114,15 +115,16 @@ pub fn remove_entry(
     palette: &[u8],
     lab: &[f64],
     indices: &[i16],
+    locks: &[bool],
     index: usize,
     list: &mut [u64],
 ) -> Removed
     ensures { λ r. ⌜ (
         let sheet = sheetOf w h k (now (palette .entry)) (now (lab .entry)) (now (indices .entry)) in
-        replaced r (now (list .exit)) ≡ removeEntryOf sheet index (now (list .entry))
+        replaced r (now (list .exit)) ≡ removeEntryOf sheet (now (locks .entry)) index (now (list .entry))
         ) ⌝ }
 {
-    let no = other_no(w, h, k, palette, lab, indices, index);
+    let no = removal_no(w, h, k, palette, lab, indices, locks, index);
     if no != 0 {
         return Removed::Refused(no);
     }
@@ -132,7 +134,8 @@ pub fn remove_entry(
     with_target(made, into, near.distance)
 }
 
-// The edit that merges entry `from` into `into`: its pixels become `into`, and it is removed.
+// The edit that merges entry `from` into `into`: its pixels become `into`, and it is removed. 24 where `from` is
+// locked; into a locked entry others may be merged.
 pub fn merge_entries(
     w: usize,
     h: usize,
@@ -140,16 +143,17 @@ pub fn merge_entries(
     palette: &[u8],
     lab: &[f64],
     indices: &[i16],
+    locks: &[bool],
     from: usize,
     into: usize,
     list: &mut [u64],
 ) -> Removal
     ensures { λ r. ⌜ (
         let sheet = sheetOf w h k (now (palette .entry)) (now (lab .entry)) (now (indices .entry)) in
-        remapped r (now (list .exit)) ≡ mergeEntriesOf sheet from into (now (list .entry))
+        remapped r (now (list .exit)) ≡ mergeEntriesOf sheet (now (locks .entry)) from into (now (list .entry))
         ) ⌝ }
 {
-    let no = check(w, h, k, palette, lab, indices);
+    let no = check_marked(w, h, k, palette, lab, indices, locks);
     if no != 0 {
         return Removal::Refused(no);
     }
@@ -161,6 +165,9 @@ pub fn merge_entries(
     }
     if from == into {
         return Removal::Refused(BAD_MERGE);
+    }
+    if locks[from] {
+        return Removal::Refused(ENTRY_LOCKED);
     }
     remove_to(w, h, palette, indices, from, into, list)
 }

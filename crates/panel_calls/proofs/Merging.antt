@@ -26,9 +26,9 @@ use Rattle.edit_entries.specs.Unfilled.{noLab}
 use Rattle.edit_pixels.specs.Listing.{placesFrom}
 use Rattle.edit_pixels.proofs.Places.{places-few}
 use Rattle.palette_remove.specs.Removal.{moved, remapOf, Remapped, remapped, removeTo, mergeChecks, mergeEntriesOf}
-use Rattle.sheet.specs.Sheet.{Sheet}
 use Rattle.history_ledger.specs.Calls.{refused}
 use Rattle.history_ledger.specs.Journal.{State, pushOf}
+use Rattle.history_model.specs.Document.{Document}
 use Rattle.history_model.specs.Editing.{editing}
 use Rattle.panel_calls.specs.Panel.{room, given, mergedOf}
 
@@ -40,15 +40,15 @@ abbrev made : Told Op → Bool
 made (result o) = true
 made (alone n) = false
 
-module _ (st : State Sheet) (from into : ℕ) (list : List ℕ) (fits : length (st .sheet .indices) ≤ length list) where
+module _ (st : State Document) (from into : ℕ) (list : List ℕ) (fits : length (st .sheet .sheet .indices) ≤ length list) where
   abbrev cs : List Check
-  cs = mergeChecks (st .sheet) from into
+  cs = mergeChecks (st .sheet .sheet) (st .sheet .locks) from into
 
   abbrev remap : List Change
-  remap = remapOf (st .sheet .w) (st .sheet .indices) from into
+  remap = remapOf (st .sheet .sheet .w) (st .sheet .sheet .indices) from into
 
   abbrev entry : Edit
-  entry = PaletteRemove from (rgbAt (st .sheet .palette) from) noLab
+  entry = PaletteRemove from (rgbAt (st .sheet .sheet .palette) from) noLab
 
   space : Check
   space = noSpace when ltb (length list) (length remap)
@@ -56,10 +56,10 @@ module _ (st : State Sheet) (from into : ℕ) (list : List ℕ) (fits : length (
   no-more : firstOf (cs ++ (space ∷ [])) ≡ firstOf cs
   unfolding firstOf space
   no-more =
-      let n : length remap ≤ length list = omega (arith, remap-few (st .sheet .w) from into (st .sheet .indices), fits) in
+      let n : length remap ≤ length list = omega (arith, remap-few (st .sheet .sheet .w) from into (st .sheet .sheet .indices), fits) in
       rw (first-append cs (space ∷ []), le-ltb (length list) (length remap) n) (or-else-zero (firstOf cs))
 
-  as-merge : mergeEntriesOf (st .sheet) from into list ≡ refusedOr (firstOf cs) (λ n. remapped (Refused n) list) (remapped (Made entry (length remap)) (over (map packed remap) list))
+  as-merge : mergeEntriesOf (st .sheet .sheet) (st .sheet .locks) from into list ≡ refusedOr (firstOf cs) (λ n. remapped (Refused n) list) (remapped (Made entry (length remap)) (over (map packed remap) list))
   unfolding mergeEntriesOf removeTo space
   as-merge = rw no-more
 
@@ -67,7 +67,7 @@ module _ (st : State Sheet) (from into : ℕ) (list : List ℕ) (fits : length (
   unfolding over
   front = take-at (map packed remap) _ (length remap) (length-map remap packed)
 
-  pub merge-made : (e : Edit) (n : ℕ) (l : List ℕ) → remapped (Made e n) l ≡ mergeEntriesOf (st .sheet) from into list
+  pub merge-made : (e : Edit) (n : ℕ) (l : List ℕ) → remapped (Made e n) l ≡ mergeEntriesOf (st .sheet .sheet) (st .sheet .locks) from into list
       → pushOf editing room st (given e (map unpacked (take n l))) ≡ mergedOf st from into
   unfolding mergedOf refusedOr
   merge-made e n l q = by (firstOf cs) refl
@@ -84,7 +84,7 @@ module _ (st : State Sheet) (from into : ℕ) (list : List ℕ) (fits : length (
           let r : remapped (Made e n) l ≡ remapped (Refused (suc v)) list = q ∙ as-merge ∙ rw z in
           never (sym (ap (λ (x : Remapped). made (x .answer)) r))
 
-  pub merge-refused : (n : ℕ) (l : List ℕ) → remapped (Refused n) l ≡ mergeEntriesOf (st .sheet) from into list → refused st n ≡ mergedOf st from into
+  pub merge-refused : (n : ℕ) (l : List ℕ) → remapped (Refused n) l ≡ mergeEntriesOf (st .sheet .sheet) (st .sheet .locks) from into list → refused st n ≡ mergedOf st from into
   unfolding mergedOf refusedOr
   merge-refused n l q = by (firstOf cs) refl
     where
@@ -98,7 +98,7 @@ module _ (st : State Sheet) (from into : ℕ) (list : List ℕ) (fits : length (
           rw (z, n-is)
 
   -- the list has room
-  pub merge-room : (e : Edit) (n : ℕ) (l : List ℕ) → remapped (Made e n) l ≡ mergeEntriesOf (st .sheet) from into list → n ≤ length list
+  pub merge-room : (e : Edit) (n : ℕ) (l : List ℕ) → remapped (Made e n) l ≡ mergeEntriesOf (st .sheet .sheet) (st .sheet .locks) from into list → n ≤ length list
   unfolding refusedOr
   merge-room e n l q = by (firstOf cs) refl
     where
@@ -107,7 +107,7 @@ module _ (st : State Sheet) (from into : ℕ) (list : List ℕ) (fits : length (
           let r : remapped (Made e n) l ≡ remapped (Made entry (length remap)) (over (map packed remap) list) = q ∙ as-merge ∙ rw z in
           let a : op e n ≡ op entry (length remap) = same-result (ap (λ (x : Remapped). x .answer) r) in
           let n-is : n ≡ length remap = ap (λ (o : Op). o .count) a in
-          omega (arith, n-is, remap-few (st .sheet .w) from into (st .sheet .indices), fits)
+          omega (arith, n-is, remap-few (st .sheet .sheet .w) from into (st .sheet .sheet .indices), fits)
       by (suc v) z =
           let r : remapped (Made e n) l ≡ remapped (Refused (suc v)) list = q ∙ as-merge ∙ rw z in
           never (sym (ap (λ (x : Remapped). made (x .answer)) r))

@@ -7,10 +7,11 @@ use mathlib.Core.List.{List, [], map}
 use mathlib.Core.Option.{Option, none, some}
 use lib.Dec.{eqb}
 use lib.ListN.{replicate}
+use Rattle.base.specs.Limits.{maxEntries}
 use Rattle.base.specs.Numbers.{unreadFrame}
 use Rattle.base.specs.Answer.{Told, number, Done}
 use Rattle.base.specs.Answer.Told.{result, alone}
-use Rattle.sheet.specs.Sheet.{Sheet, sheetOf}
+use Rattle.sheet.specs.Sheet.{Sheet}
 use Rattle.sheet.specs.Document.{newLab}
 use Rattle.base.specs.Triples.{rgbAt}
 use Rattle.base.specs.declared.Edit.{Edit}
@@ -23,6 +24,7 @@ use Rattle.history_ledger.specs.Handle.{dirty}
 use Rattle.history_ledger.specs.Calls.{Answer, Outcome, refused, guarded}
 use Rattle.history_ledger.specs.Calls.Call.{push, undo, redo, mark}
 use Rattle.history_ledger.specs.Journal.{State, opened, step}
+use Rattle.history_model.specs.Document.{Document, documentOf}
 use Rattle.history_model.specs.Editing.{Given, givenOf, editing}
 use Rattle.panel_frames.specs.Reading.{frameOf, changesFrom}
 use Rattle.panel_frames.specs.Opening.{openedOr, sheetIn}
@@ -31,9 +33,9 @@ use Rattle.panel_frames.specs.declared.Frame.{Frame}
 use Rattle.panel_frames.specs.declared.Frame.the-variants.{Open, Pixels, Set, Add, Merge, Undo, Redo, Mark, Malformed}
 use Rattle.panel_lines.specs.Lines.{Said, said, answers}
 
--- nothing before the opening; then sheet, journal and handle
+-- nothing before the opening; then sheet and marks, journal and handle
 abbrev pub Panel : Type 0
-Panel = Option (State Sheet)
+Panel = Option (State Document)
 
 -- "Journal 4,096 bytes", and places of scratch, more than a sheet of 64 by 64 has
 abbrev pub journalBytes : ℕ
@@ -49,15 +51,15 @@ abbrev pub given : Edit → List Change → Given
 given e cs = record { permitted = permittedOf false []; edit = e; changes = cs }
 
 -- "04 from into": 18 comes first, then what the push of the merge answers
-unfoldable pub mergedOf : State Sheet → ℕ → ℕ → Outcome (State Sheet)
+unfoldable pub mergedOf : State Document → ℕ → ℕ → Outcome (State Document)
 mergedOf st from into =
-    let s = st .sheet in
-    guarded st (mergeChecks s from into)
+    let s = st .sheet .sheet in
+    guarded st (mergeChecks s (st .sheet .locks) from into)
     (step editing room st (push (givenOf false [] (edit.PaletteRemove from (rgbAt (s .palette) from) noLab)
     (map packed (remapOf (s .w) (s .indices) from into)))))
 
 -- what a frame asks of the history; push fills in old colour and old LAB. 22 for "a second opening" and for a "malformed line"
-unfoldable pub callOf : State Sheet → Frame → List ℕ → Outcome (State Sheet)
+unfoldable pub callOf : State Document → Frame → List ℕ → Outcome (State Document)
 callOf st (Open w h k) bs = refused st unreadFrame
 callOf st (Pixels tool n) bs = step editing room st (push (given (edit.Pixels tool) (changesFrom bs 2 n)))
 callOf st (Set i c) bs = step editing room st (push (given (edit.PaletteSet i c c noLab) []))
@@ -69,20 +71,22 @@ callOf st Mark bs = step editing room st mark
 callOf st Malformed bs = refused st unreadFrame
 
 -- "It prints .. answer (00 done, FF still, else number), position (2), dirty, k, indices"
-unfoldable pub wholeLine : Answer → State Sheet → List ℕ
-wholeLine a st = lineOf (number a) (st .handle .position) (dirty (st .handle)) (st .sheet .k) (st .sheet .indices)
+unfoldable pub wholeLine : Answer → State Document → List ℕ
+wholeLine a st = lineOf (number a) (st .handle .position) (dirty (st .handle)) (st .sheet .sheet .k) (st .sheet .sheet .indices)
 
 -- "22 .. prints the number only"; "Every other refusal prints the whole line"
-unfoldable pub shown : Outcome (State Sheet) → Said Panel
+unfoldable pub shown : Outcome (State Document) → Said Panel
 shown o =
     said (some (o .leaves))
     (cond (eqb (number (o .answer)) unreadFrame) (numberLine unreadFrame) (wholeLine (o .answer) (o .leaves)))
 
 -- ---- the opening
 
--- LAB of the k entries worked out, and the journal zero
-unfoldable pub begun : Sheet → State Sheet
-begun s = opened editing (sheetOf (s .w) (s .h) (s .k) (s .palette) (newLab s) (s .indices)) (replicate journalBytes 0)
+-- LAB of the k entries worked out, no entry locked (no frame locks one), and the journal zero
+unfoldable pub begun : Sheet → State Document
+begun s =
+    opened editing (documentOf (s .w) (s .h) (s .k) (s .palette) (newLab s) (s .indices) (replicate maxEntries false))
+    (replicate journalBytes 0)
 
 -- "a failed opening (.. the sheet stays unopened) .. prints the number only"
 unfoldable pub opensAs : Told Sheet → Said Panel

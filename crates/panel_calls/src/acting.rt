@@ -20,11 +20,11 @@ ghost use mathlib.Core.List.{[], map};
 ghost use Prim.Native.Nat.{_+_, _*_, _≤_};
 ghost use lib.ListN.{length, take};
 ghost use Rattle.base.specs.declared.Answer.the-variants.{Refused};
-ghost use Rattle.sheet.specs.Sheet.{sheetOf};
 ghost use Rattle.edit.specs.Change.{unpacked};
 ghost use Rattle.base.specs.declared.Edit.the-variants.{Pixels, PaletteSet};
 ghost use Rattle.edit_entries.specs.Unfilled.{noLab};
 ghost use Rattle.history_ledger.specs.Journal as ledgers;
+ghost use Rattle.history_model.specs.Document.{documentOf};
 ghost use Rattle.history_model.specs.Calls.{stateOf, leaves};
 ghost use Rattle.history_model.specs.Editing.{editing};
 ghost use Rattle.history_model.specs.Calls.{outcomeOf};
@@ -39,6 +39,7 @@ fn push_edit(
     palette: &mut [u8],
     lab: &mut [f64],
     indices: &mut [i16],
+    locks: &mut [bool],
     journal: &mut [u8],
     handle: Handle,
     edit: Edit,
@@ -48,9 +49,9 @@ fn push_edit(
 ) -> Moved
     requires { ⌜ (n ≤ length (now list)) × (length (now scratch) ≡ 8192) ⌝ }
     ensures { λ r. ⌜ (
-        let sheet = sheetOf w h k (now (palette .entry)) (now (lab .entry)) (now (indices .entry)) in
-        leaves r w h (now (palette .exit)) (now (lab .exit)) (now (indices .exit)) (now (journal .exit))
-        ≡ ledgers.pushOf editing room (stateOf sheet (now (journal .entry)) handle)
+        let document = documentOf w h k (now (palette .entry)) (now (lab .entry)) (now (indices .entry)) (now (locks .entry)) in
+        leaves r w h (now (palette .exit)) (now (lab .exit)) (now (indices .exit)) (now (locks .exit)) (now (journal .exit))
+        ≡ ledgers.pushOf editing room (stateOf document (now (journal .entry)) handle)
         (given edit (map unpacked (take n (now (list .entry)))))
         ) ⌝ }
 {
@@ -61,6 +62,7 @@ fn push_edit(
         palette,
         lab,
         indices,
+        locks,
         false,
         b"",
         edit,
@@ -79,6 +81,7 @@ fn push_pixels(
     palette: &mut [u8],
     lab: &mut [f64],
     indices: &mut [i16],
+    locks: &mut [bool],
     journal: &mut [u8],
     handle: Handle,
     tool: u8,
@@ -88,9 +91,9 @@ fn push_pixels(
 ) -> Moved
     requires { ⌜ (2 + 6 * n ≤ length (now bytes)) × (length (now bytes) ≡ 8192) × (length (now list) ≡ 4096) ⌝ }
     ensures { λ r. ⌜ (
-        let sheet = sheetOf w h k (now (palette .entry)) (now (lab .entry)) (now (indices .entry)) in
-        leaves r w h (now (palette .exit)) (now (lab .exit)) (now (indices .exit)) (now (journal .exit))
-        ≡ ledgers.pushOf editing room (stateOf sheet (now (journal .entry)) handle)
+        let document = documentOf w h k (now (palette .entry)) (now (lab .entry)) (now (indices .entry)) (now (locks .entry)) in
+        leaves r w h (now (palette .exit)) (now (lab .exit)) (now (indices .exit)) (now (locks .exit)) (now (journal .exit))
+        ≡ ledgers.pushOf editing room (stateOf document (now (journal .entry)) handle)
         (given (Pixels tool) (changesFrom (now (bytes .entry)) 2 n))
         ) ⌝ }
 {
@@ -102,6 +105,7 @@ fn push_pixels(
         palette,
         lab,
         indices,
+        locks,
         journal,
         handle,
         Edit::Pixels { tool },
@@ -132,6 +136,7 @@ fn push_entry(
     palette: &mut [u8],
     lab: &mut [f64],
     indices: &mut [i16],
+    locks: &mut [bool],
     journal: &mut [u8],
     handle: Handle,
     edit: Edit,
@@ -140,9 +145,9 @@ fn push_entry(
 ) -> Moved
     requires { ⌜ length (now scratch) ≡ 8192 ⌝ }
     ensures { λ r. ⌜ (
-        let sheet = sheetOf w h k (now (palette .entry)) (now (lab .entry)) (now (indices .entry)) in
-        leaves r w h (now (palette .exit)) (now (lab .exit)) (now (indices .exit)) (now (journal .exit))
-        ≡ ledgers.pushOf editing room (stateOf sheet (now (journal .entry)) handle) (given edit [])
+        let document = documentOf w h k (now (palette .entry)) (now (lab .entry)) (now (indices .entry)) (now (locks .entry)) in
+        leaves r w h (now (palette .exit)) (now (lab .exit)) (now (indices .exit)) (now (locks .exit)) (now (journal .exit))
+        ≡ ledgers.pushOf editing room (stateOf document (now (journal .entry)) handle) (given edit [])
         ) ⌝ }
 {
     push_edit(
@@ -152,6 +157,7 @@ fn push_entry(
         palette,
         lab,
         indices,
+        locks,
         journal,
         handle,
         edit,
@@ -179,6 +185,7 @@ fn merge(
     palette: &mut [u8],
     lab: &mut [f64],
     indices: &mut [i16],
+    locks: &mut [bool],
     journal: &mut [u8],
     handle: Handle,
     from: usize,
@@ -188,12 +195,12 @@ fn merge(
 ) -> Moved
     requires { ⌜ (length (now indices) ≤ length (now list)) × (length (now scratch) ≡ 8192) ⌝ }
     ensures { λ r. ⌜ (
-        let sheet = sheetOf w h k (now (palette .entry)) (now (lab .entry)) (now (indices .entry)) in
-        leaves r w h (now (palette .exit)) (now (lab .exit)) (now (indices .exit)) (now (journal .exit))
-        ≡ mergedOf (stateOf sheet (now (journal .entry)) handle) from into
+        let document = documentOf w h k (now (palette .entry)) (now (lab .entry)) (now (indices .entry)) (now (locks .entry)) in
+        leaves r w h (now (palette .exit)) (now (lab .exit)) (now (indices .exit)) (now (locks .exit)) (now (journal .exit))
+        ≡ mergedOf (stateOf document (now (journal .entry)) handle) from into
         ) ⌝ }
 {
-    let made = merge_entries(w, h, k, palette, lab, indices, from, into, list);
+    let made = merge_entries(w, h, k, palette, lab, indices, locks, from, into, list);
     match made {
         Removal::Made { edit, count } => push_edit(
             w,
@@ -202,6 +209,7 @@ fn merge(
             palette,
             lab,
             indices,
+            locks,
             journal,
             handle,
             edit,
@@ -236,6 +244,7 @@ pub fn call(
     palette: &mut [u8],
     lab: &mut [f64],
     indices: &mut [i16],
+    locks: &mut [bool],
     journal: &mut [u8],
     handle: Handle,
     frame: Frame,
@@ -247,9 +256,9 @@ pub fn call(
         × (length (now indices) ≤ 4096)
         ⌝ }
     ensures { λ r. ⌜ (
-        let sheet = sheetOf w h k (now (palette .entry)) (now (lab .entry)) (now (indices .entry)) in
-        leaves r w h (now (palette .exit)) (now (lab .exit)) (now (indices .exit)) (now (journal .exit))
-        ≡ callOf (stateOf sheet (now (journal .entry)) handle) frame (now (bytes .entry))
+        let document = documentOf w h k (now (palette .entry)) (now (lab .entry)) (now (indices .entry)) (now (locks .entry)) in
+        leaves r w h (now (palette .exit)) (now (lab .exit)) (now (indices .exit)) (now (locks .exit)) (now (journal .exit))
+        ≡ callOf (stateOf document (now (journal .entry)) handle) frame (now (bytes .entry))
         ) ⌝ }
 {
     match frame {
@@ -261,6 +270,7 @@ pub fn call(
             palette,
             lab,
             indices,
+            locks,
             journal,
             handle,
             tool,
@@ -275,6 +285,7 @@ pub fn call(
             palette,
             lab,
             indices,
+            locks,
             journal,
             handle,
             set_edit(index, rgb),
@@ -288,6 +299,7 @@ pub fn call(
             palette,
             lab,
             indices,
+            locks,
             journal,
             handle,
             Edit::PaletteAdd { rgb },
@@ -301,6 +313,7 @@ pub fn call(
             palette,
             lab,
             indices,
+            locks,
             journal,
             handle,
             from,
@@ -308,8 +321,19 @@ pub fn call(
             list,
             bytes,
         ),
-        Frame::Undo => undo(w, h, k, palette, lab, indices, journal, handle),
-        Frame::Redo => redo(w, h, k, palette, lab, indices, journal, handle, bytes),
+        Frame::Undo => undo(w, h, k, palette, lab, indices, locks, journal, handle),
+        Frame::Redo => redo(
+            w,
+            h,
+            k,
+            palette,
+            lab,
+            indices,
+            locks,
+            journal,
+            handle,
+            bytes,
+        ),
         Frame::Mark => mark(k, journal, handle),
         Frame::Malformed => refused(UNREAD_FRAME, k, handle),
     }

@@ -25,6 +25,7 @@ pub fn answer_chunk(
     palette: &mut [u8],
     lab: &mut [f64],
     indices: &mut [i16],
+    locks: &mut [bool],
     journal: &mut [u8],
     line: &mut [u8],
     chunk: &[u8],
@@ -33,20 +34,20 @@ pub fn answer_chunk(
     out: &mut [u8],
 ) -> Told
     requires { ⌜
-        Fits (t .core) (length (now palette)) (length (now lab)) (length (now indices)) (length (now journal))
+        Fits (t .core) (length (now palette)) (length (now lab)) (length (now indices)) (length (now locks)) (length (now journal))
         (length (now bytes)) (length (now list))
         ⌝ }
     requires { ⌜ Holds t (length (now line)) × (length (now out) ≡ 65536) × (length (now chunk) ≤ 4096) ⌝ }
     ensures { λ r. ⌜
         (r .all ≡ true → Answered
-        (panelIn (r .turn .core) (now (palette .exit)) (now (lab .exit)) (now (indices .exit)) (now (journal .exit)))
+        (panelIn (r .turn .core) (now (palette .exit)) (now (lab .exit)) (now (indices .exit)) (now (locks .exit)) (now (journal .exit)))
         (take (r .turn .len) (now (line .exit))) (r .said) (chunkFed stepOf
-        (panelIn (t .core) (now (palette .entry)) (now (lab .entry)) (now (indices .entry)) (now (journal .entry)))
+        (panelIn (t .core) (now (palette .entry)) (now (lab .entry)) (now (indices .entry)) (now (locks .entry)) (now (journal .entry)))
         (take (t .len) (now (line .entry))) (now (chunk .entry))))
         ⌝ }
     ensures { λ r. ⌜
         Fits (r .turn .core) (length (now (palette .exit))) (length (now (lab .exit))) (length (now (indices .exit)))
-        (length (now (journal .exit))) (length (now (bytes .exit))) (length (now (list .exit)))
+        (length (now (locks .exit))) (length (now (journal .exit))) (length (now (bytes .exit))) (length (now (list .exit)))
         ⌝ }
     ensures { λ r. ⌜ Holds (r .turn) (length (now (line .exit))) ⌝ }
 {
@@ -60,6 +61,7 @@ pub fn answer_chunk(
             palette,
             lab,
             indices,
+            locks,
             journal,
             line,
             chunk,

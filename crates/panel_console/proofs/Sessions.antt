@@ -1,7 +1,7 @@
 -- The whole session: what was read is answered, the last line, too. Assumes nothing.
 use Prim.Native.Nat.{ℕ, _+_, _≤_}
 use mathlib.Core.Path.{_≡_, sym, ap, _∙_}
-use mathlib.Core.Bool.{true}
+use mathlib.Core.Bool.{Bool, true}
 use mathlib.Core.List.{List, []}
 use mathlib.Core.Option.{none}
 use borrow.Author.Tests.{eqb-true}
@@ -20,15 +20,15 @@ use Rattle.panel_ends.specs.Ends.{Begins, Ends}
 use Rattle.panel_console.specs.Session.{Printed}
 
 -- from the beginning
-begun : (t : Turn) (palette : List ℕ) (lab : List Float) (indices : List ℤ) (journal line : List ℕ) (p : Panel) (l : List ℕ) (heard said : ℕ) → Begins t
-    → Heard stepOf (panelIn (t .core) palette lab indices journal) (take (t .len) line) p l heard said → Heard stepOf none [] p l heard said
-begun t palette lab indices journal line p l heard said b q = rw (b .unopened palette lab indices journal, b .nothing-held) at q
+begun : (t : Turn) (palette : List ℕ) (lab : List Float) (indices : List ℤ) (locks : List Bool) (journal line : List ℕ) (p : Panel) (l : List ℕ) (heard said : ℕ) → Begins t
+    → Heard stepOf (panelIn (t .core) palette lab indices locks journal) (take (t .len) line) p l heard said → Heard stepOf none [] p l heard said
+begun t palette lab indices locks journal line p l heard said b q = rw (b .unopened palette lab indices locks journal, b .nothing-held) at q
 
 -- the whole session, where the last text was taken, too
-pub session-printed : (t : Turn) (palette : List ℕ) (lab : List Float) (indices : List ℤ) (journal line : List ℕ) (p : Panel) (l out : List ℕ) (heard said at n said′ : ℕ) → Begins t
-    → Heard stepOf (panelIn (t .core) palette lab indices journal) (take (t .len) line) p l heard said → Ends at out (lastFed stepOf p l) → at ≤ length out → eqb n at ≡ true
+pub session-printed : (t : Turn) (palette : List ℕ) (lab : List Float) (indices : List ℤ) (locks : List Bool) (journal line : List ℕ) (p : Panel) (l out : List ℕ) (heard said at n said′ : ℕ) → Begins t
+    → Heard stepOf (panelIn (t .core) palette lab indices locks journal) (take (t .len) line) p l heard said → Ends at out (lastFed stepOf p l) → at ≤ length out → eqb n at ≡ true
     → said′ ≡ counted (said + n) → Printed heard said′
-session-printed t palette lab indices journal line p l out heard said at n said′ b q h k all e =
+session-printed t palette lab indices locks journal line p l out heard said at n said′ b q h k all e =
     let m : n ≡ length (lastFed stepOf p l) = eqb-true n at all ∙ sym (length-take-le at out k) ∙ ap length (h .text-is) in
-    let g = begun t palette lab indices journal line p l heard said b q in
+    let g = begun t palette lab indices locks journal line p l heard said b q in
     record { input = g .input; heard-is = g .heard-is; said-is = heard-all stepOf none [] p l heard said g n said′ m e ∙ ap (λ (x : List ℕ). counted (length x)) (all-printed (g .input)) }

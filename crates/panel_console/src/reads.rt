@@ -30,6 +30,7 @@ fn answer_some(
     palette: &mut [u8],
     lab: &mut [f64],
     indices: &mut [i16],
+    locks: &mut [bool],
     journal: &mut [u8],
     line: &mut [u8],
     chunk: &mut [u8],
@@ -39,21 +40,21 @@ fn answer_some(
     input: i32,
 ) -> Got
     requires { ⌜
-        Fits (t .core) (length (now palette)) (length (now lab)) (length (now indices)) (length (now journal))
+        Fits (t .core) (length (now palette)) (length (now lab)) (length (now indices)) (length (now locks)) (length (now journal))
         (length (now bytes)) (length (now list))
         ⌝ }
     requires { ⌜ Holds t (length (now line)) × (length (now out) ≡ 65536) × (length (now chunk) ≡ 4096) ⌝ }
     ensures { λ r. ⌜
         (r .sound ≡ true → Answered
-        (panelIn (r .turn .core) (now (palette .exit)) (now (lab .exit)) (now (indices .exit)) (now (journal .exit)))
+        (panelIn (r .turn .core) (now (palette .exit)) (now (lab .exit)) (now (indices .exit)) (now (locks .exit)) (now (journal .exit)))
         (take (r .turn .len) (now (line .exit))) (r .said) (chunkFed stepOf
-        (panelIn (t .core) (now (palette .entry)) (now (lab .entry)) (now (indices .entry)) (now (journal .entry)))
+        (panelIn (t .core) (now (palette .entry)) (now (lab .entry)) (now (indices .entry)) (now (locks .entry)) (now (journal .entry)))
         (take (t .len) (now (line .entry))) (take (r .n) (now (chunk .exit)))))
         ⌝ }
     ensures { λ r. ⌜ Reads r ⌝ }
     ensures { λ r. ⌜
         Fits (r .turn .core) (length (now (palette .exit))) (length (now (lab .exit))) (length (now (indices .exit)))
-        (length (now (journal .exit))) (length (now (bytes .exit))) (length (now (list .exit)))
+        (length (now (locks .exit))) (length (now (journal .exit))) (length (now (bytes .exit))) (length (now (list .exit)))
         ⌝ }
     ensures { λ r. ⌜ Holds (r .turn) (length (now (line .exit))) ⌝ }
 {
@@ -75,6 +76,7 @@ fn answer_some(
         palette,
         lab,
         indices,
+        locks,
         journal,
         line,
         &chunk[..n],
@@ -100,6 +102,7 @@ fn answer_reads(
     palette: &mut [u8],
     lab: &mut [f64],
     indices: &mut [i16],
+    locks: &mut [bool],
     journal: &mut [u8],
     line: &mut [u8],
     chunk: &mut [u8],
@@ -109,21 +112,21 @@ fn answer_reads(
     input: i32,
 ) -> Session
     requires { ⌜
-        Fits (t .core) (length (now palette)) (length (now lab)) (length (now indices)) (length (now journal))
+        Fits (t .core) (length (now palette)) (length (now lab)) (length (now indices)) (length (now locks)) (length (now journal))
         (length (now bytes)) (length (now list))
         ⌝ }
     requires { ⌜ Holds t (length (now line)) × (length (now out) ≡ 65536) × (length (now chunk) ≡ 4096) ⌝ }
     ensures { λ r. ⌜
         (r .sound ≡ true → Heard stepOf
-        (panelIn (t .core) (now (palette .entry)) (now (lab .entry)) (now (indices .entry)) (now (journal .entry)))
+        (panelIn (t .core) (now (palette .entry)) (now (lab .entry)) (now (indices .entry)) (now (locks .entry)) (now (journal .entry)))
         (take (t .len) (now (line .entry)))
-        (panelIn (r .turn .core) (now (palette .exit)) (now (lab .exit)) (now (indices .exit)) (now (journal .exit)))
+        (panelIn (r .turn .core) (now (palette .exit)) (now (lab .exit)) (now (indices .exit)) (now (locks .exit)) (now (journal .exit)))
         (take (r .turn .len) (now (line .exit))) (r .heard) (r .said))
         ⌝ }
     ensures { λ r. ⌜ Closed r ⌝ }
     ensures { λ r. ⌜
         Fits (r .turn .core) (length (now (palette .exit))) (length (now (lab .exit))) (length (now (indices .exit)))
-        (length (now (journal .exit))) (length (now (bytes .exit))) (length (now (list .exit)))
+        (length (now (locks .exit))) (length (now (journal .exit))) (length (now (bytes .exit))) (length (now (list .exit)))
         ⌝ }
     ensures { λ r. ⌜ Holds (r .turn) (length (now (line .exit))) ⌝ }
 {
@@ -138,6 +141,7 @@ fn answer_reads(
             palette,
             lab,
             indices,
+            locks,
             journal,
             line,
             chunk,
@@ -180,6 +184,7 @@ fn answer_all(
     palette: &mut [u8],
     lab: &mut [f64],
     indices: &mut [i16],
+    locks: &mut [bool],
     journal: &mut [u8],
     line: &mut [u8],
     chunk: &mut [u8],
@@ -190,7 +195,7 @@ fn answer_all(
 ) -> Session
     requires { ⌜
         (length (now palette) ≡ 765) × (length (now lab) ≡ 765) × (length (now indices) ≡ 4096)
-        × (length (now journal) ≡ 4096) × (length (now line) ≡ 16385)
+        × (length (now locks) ≡ 255) × (length (now journal) ≡ 4096) × (length (now line) ≡ 16385)
         ⌝ }
     requires { ⌜
         (length (now chunk) ≡ 4096) × (length (now bytes) ≡ 8192) × (length (now list) ≡ 4096)
@@ -204,6 +209,7 @@ fn answer_all(
         palette,
         lab,
         indices,
+        locks,
         journal,
         line,
         chunk,
@@ -216,7 +222,18 @@ fn answer_all(
         return s;
     }
     let turn = s.turn;
-    let at = answer_held(turn, palette, lab, indices, journal, line, bytes, list, out);
+    let at = answer_held(
+        turn,
+        palette,
+        lab,
+        indices,
+        locks,
+        journal,
+        line,
+        bytes,
+        list,
+        out,
+    );
     let sent = send(&out[..at]);
     let said = wrapping_add_u64(s.said, sent.n as u64);
     Session {
@@ -237,6 +254,7 @@ pub fn run(input: i32) -> Session
     let mut palette = [0u8; 765];
     let mut lab = [0.0f64; 765];
     let mut indices = [0i16; 4096];
+    let mut locks = [false; 255];
     let mut journal = [0u8; 4096];
     let mut line = [0u8; HELD];
     let mut chunk = [0u8; CHUNK];
@@ -247,6 +265,7 @@ pub fn run(input: i32) -> Session
         &mut palette,
         &mut lab,
         &mut indices,
+        &mut locks,
         &mut journal,
         &mut line,
         &mut chunk,

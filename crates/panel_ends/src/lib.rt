@@ -36,6 +36,7 @@ pub fn answer_held(
     palette: &mut [u8],
     lab: &mut [f64],
     indices: &mut [i16],
+    locks: &mut [bool],
     journal: &mut [u8],
     line: &[u8],
     bytes: &mut [u8],
@@ -43,13 +44,13 @@ pub fn answer_held(
     out: &mut [u8],
 ) -> usize
     requires { ⌜
-        Fits (t .core) (length (now palette)) (length (now lab)) (length (now indices)) (length (now journal))
+        Fits (t .core) (length (now palette)) (length (now lab)) (length (now indices)) (length (now locks)) (length (now journal))
         (length (now bytes)) (length (now list))
         ⌝ }
     requires { ⌜ Holds t (length (now line)) × (length (now out) ≡ 65536) ⌝ }
     ensures { λ r. ⌜
         Ends r (now (out .exit)) (lastFed stepOf
-        (panelIn (t .core) (now (palette .entry)) (now (lab .entry)) (now (indices .entry)) (now (journal .entry)))
+        (panelIn (t .core) (now (palette .entry)) (now (lab .entry)) (now (indices .entry)) (now (locks .entry)) (now (journal .entry)))
         (take (t .len) (now (line .entry))))
         ⌝ }
 {
@@ -60,6 +61,7 @@ pub fn answer_held(
             palette,
             lab,
             indices,
+            locks,
             journal,
             &line[..len],
             bytes,

@@ -20,6 +20,7 @@ fn take_byte(
     palette: &mut [u8],
     lab: &mut [f64],
     indices: &mut [i16],
+    locks: &mut [bool],
     journal: &mut [u8],
     line: &mut [u8],
     b: u8,
@@ -28,21 +29,21 @@ fn take_byte(
     out: &mut [u8],
 ) -> Turn
     requires { ⌜
-        Fits (t .core) (length (now palette)) (length (now lab)) (length (now indices)) (length (now journal))
+        Fits (t .core) (length (now palette)) (length (now lab)) (length (now indices)) (length (now locks)) (length (now journal))
         (length (now bytes)) (length (now list))
         ⌝ }
     requires { ⌜ Holds t (length (now line)) ⌝ }
     requires { ⌜ t .at + 8203 ≤ length (now out) ⌝ }
     ensures { λ r. ⌜
-        fed (panelIn (r .core) (now (palette .exit)) (now (lab .exit)) (now (indices .exit)) (now (journal .exit)))
+        fed (panelIn (r .core) (now (palette .exit)) (now (lab .exit)) (now (indices .exit)) (now (locks .exit)) (now (journal .exit)))
         (take (r .len) (now (line .exit))) (take (r .at) (now (out .exit)))
         ≡ saying (take (t .at) (now (out .entry))) (byteFed stepOf
-        (panelIn (t .core) (now (palette .entry)) (now (lab .entry)) (now (indices .entry)) (now (journal .entry)))
+        (panelIn (t .core) (now (palette .entry)) (now (lab .entry)) (now (indices .entry)) (now (locks .entry)) (now (journal .entry)))
         (take (t .len) (now (line .entry))) b)
         ⌝ }
     ensures { λ r. ⌜
         Fits (r .core) (length (now (palette .exit))) (length (now (lab .exit))) (length (now (indices .exit)))
-        (length (now (journal .exit))) (length (now (bytes .exit))) (length (now (list .exit)))
+        (length (now (locks .exit))) (length (now (journal .exit))) (length (now (bytes .exit))) (length (now (list .exit)))
         ⌝ }
     ensures { λ r. ⌜ Holds r (length (now (line .exit))) × (r .at ≤ t .at + 8203) ⌝ }
 {
@@ -55,6 +56,7 @@ fn take_byte(
             palette,
             lab,
             indices,
+            locks,
             journal,
             &line[..len],
             bytes,
@@ -87,6 +89,7 @@ pub fn pour(
     palette: &mut [u8],
     lab: &mut [f64],
     indices: &mut [i16],
+    locks: &mut [bool],
     journal: &mut [u8],
     line: &mut [u8],
     chunk: &[u8],
@@ -96,22 +99,22 @@ pub fn pour(
     out: &mut [u8],
 ) -> Poured
     requires { ⌜
-        Fits core (length (now palette)) (length (now lab)) (length (now indices)) (length (now journal))
+        Fits core (length (now palette)) (length (now lab)) (length (now indices)) (length (now locks)) (length (now journal))
         (length (now bytes)) (length (now list))
         ⌝ }
     requires { ⌜ Holds (record { core = core; len = len; at = 0 }) (length (now line)) ⌝ }
     requires { ⌜ (from ≤ length (now chunk)) × (length (now out) ≡ 65536) ⌝ }
     ensures { λ r. ⌜
         saying (take (r .turn .at) (now (out .exit))) (chunkFed stepOf
-        (panelIn (r .turn .core) (now (palette .exit)) (now (lab .exit)) (now (indices .exit)) (now (journal .exit)))
+        (panelIn (r .turn .core) (now (palette .exit)) (now (lab .exit)) (now (indices .exit)) (now (locks .exit)) (now (journal .exit)))
         (take (r .turn .len) (now (line .exit))) (drop (r .next) (now (chunk .entry))))
         ≡ chunkFed stepOf
-        (panelIn core (now (palette .entry)) (now (lab .entry)) (now (indices .entry)) (now (journal .entry)))
+        (panelIn core (now (palette .entry)) (now (lab .entry)) (now (indices .entry)) (now (locks .entry)) (now (journal .entry)))
         (take len (now (line .entry))) (drop from (now (chunk .entry)))
         ⌝ }
     ensures { λ r. ⌜
         Fits (r .turn .core) (length (now (palette .exit))) (length (now (lab .exit))) (length (now (indices .exit)))
-        (length (now (journal .exit))) (length (now (bytes .exit))) (length (now (list .exit)))
+        (length (now (locks .exit))) (length (now (journal .exit))) (length (now (bytes .exit))) (length (now (list .exit)))
         ⌝ }
     ensures { λ r. ⌜
         Holds (r .turn) (length (now (line .exit))) × Onward from (length (now (chunk .entry))) (r .next) (r .turn .at)
@@ -128,6 +131,7 @@ pub fn pour(
             palette,
             lab,
             indices,
+            locks,
             journal,
             line,
             chunk[i],

@@ -1,24 +1,24 @@
 -- The opening: its buffers are filled as the definition's sheet has them, and the first check that applies decides. Assumes nothing.
 use Prim.Native.Nat.{ℕ, zero, suc, _+_, _*_, _≤_, _<_}
 use mathlib.Core.Path.{_≡_, refl, sym, ap, _∙_}
-use mathlib.Core.Bool.{true}
-use mathlib.Core.List.{List, [], _++_, map}
+use mathlib.Core.Bool.{Bool, true, false}
+use mathlib.Core.List.{List, [], _∷_, _++_, map}
 use mathlib.Core.Option.{none, some}
 use native.Mathlib.Omega.{arith}
 use borrow.Author.Tests.{lt-ltb, le-ltb}
 use lib.IntN.{ℤ}
 use lib.Ieee.{Float}
-use lib.ListN.{length, take, drop, replicate, length-map, length-take, length-drop}
+use lib.ListN.{length, take, drop, replicate, length-map, length-take, length-drop, length-replicate}
 use lib.Seq.{take-at}
-use Rattle.base.specs.Limits.{storage}
+use Rattle.base.specs.Limits.{maxEntries, storage}
 use Rattle.base.specs.Checks.{Check, firstOf, refusedOr}
 use Rattle.base.specs.Answer.{number, numberOf, Done}
 use Rattle.base.specs.declared.Answer.{Answer}
 use Rattle.base.specs.Lists.{over}
 use Rattle.color_doubles.specs.Arithmetic.{decimal}
 use Rattle.sheet.specs.Sheet.{Sheet, sheetOf}
-use Rattle.sheet.specs.Checks.{limitChecks, indexChecks}
-use Rattle.sheet.specs.Document.{New, newMade, newLab, newOf}
+use Rattle.sheet.specs.Checks.{limitChecks, markChecks, indexChecks}
+use Rattle.sheet.specs.Document.{New, clearedMarks, newMade, newLab, newOf}
 use Rattle.base.specs.declared.Handle.{Handle}
 use Rattle.history_ledger.specs.Handle.{fresh, dirty}
 use Rattle.panel_frames.specs.Reading.{paletteIn, indicesIn, indexOf}
@@ -40,6 +40,22 @@ unfolding over
 indices-filled bs start n m indices indices′ e room p =
     let long : length (map indexOf (take n (drop start bs))) ≡ n = length-map (take n (drop start bs)) indexOf ∙ simp (length-take, length-drop) (omega arith) in
     rw (p, e) (take-at (map indexOf (take n (drop start bs))) _ n long)
+
+-- ---- the marks
+abbrev pub unlocked : List Bool
+unlocked = replicate maxEntries false
+
+no-below : (k : ℕ) → suc k ≤ 0 → ⊥
+no-below k h = omega arith
+
+drop-same : {A : Type 0} (a : A) (n k : ℕ) → k ≤ n → replicate k a ++ drop k (replicate n a) ≡ replicate n a
+drop-same a n zero h = refl
+drop-same a zero (suc k) h = absurd (no-below k h)
+drop-same a (suc n) (suc k) h = ap (λ l. a ∷ l) (drop-same a n k (omega arith))
+
+none-locked : (k : ℕ) → k ≤ 255 → clearedMarks k unlocked ≡ unlocked
+unfolding clearedMarks over
+none-locked k h = rw (length-replicate k false) (drop-same false 255 k h)
 
 -- ---- the checks
 module _ (w h k : ℕ) (bs : List ℕ) where
@@ -67,19 +83,24 @@ module _ (w h k : ℕ) (bs : List ℕ) where
   open-many a b d = failed 0 (rw (le-ltb 64 w a, le-ltb 64 h b, le-ltb 1024 w (omega arith), le-ltb 1024 h (omega arith), lt-ltb 255 k d))
 
   module _ (small-w : w ≤ 64) (small-h : h ≤ 64) where
+    -- 255 marks add no number
+    marked-first : firstOf (limitChecks s ++ (markChecks unlocked ++ indexChecks s)) ≡ firstOf cs
+    unfolding firstOf markChecks limitChecks
+    marked-first = refl
+
     same-first : firstOf (openChecks [] s) ≡ firstOf cs
     unfolding openChecks openSheet firstOf
     same-first = rw (le-ltb 64 w small-w, le-ltb 64 h small-h)
 
     -- what `new` answers of the sheet
-    module _ (a : Answer) (lab′ : List Float) (e : newMade a lab′ ≡ newOf s) where
+    module _ (a : Answer) (lab′ : List Float) (locks′ : List Bool) (e : newMade a lab′ locks′ ≡ newOf s unlocked) where
       answered : numberOf a ≡ firstOf cs
       unfolding newOf refusedOr
       answered = by (firstOf cs) refl
         where
           by : (v : ℕ) → firstOf cs ≡ v → numberOf a ≡ firstOf cs
-          by zero z = ap (λ (x : New). number (x .answer)) e ∙ rw z
-          by (suc v) z = ap (λ (x : New). number (x .answer)) e ∙ rw z
+          by zero z = ap (λ (x : New). number (x .answer)) e ∙ rw (marked-first, z)
+          by (suc v) z = ap (λ (x : New). number (x .answer)) e ∙ rw (marked-first, z)
 
       pub open-failed : (num : ℕ) → num ≡ numberOf a → (num ≡ 0 → ⊥) → openOf s ≡ said none (numberLine num)
       open-failed zero n z = absurd (z refl)
@@ -95,18 +116,23 @@ module _ (w h k : ℕ) (bs : List ℕ) where
 
         pub lab-made : lab′ ≡ newLab s
         unfolding newOf refusedOr
-        lab-made = ap (λ (x : New). x .lab) e ∙ rw none-first
+        lab-made = ap (λ (x : New). x .lab) e ∙ rw (marked-first, none-first)
+
+        -- `new` writes false where false stands
+        pub locks-made : k ≤ 255 → locks′ ≡ unlocked
+        unfolding newOf refusedOr openSheet
+        locks-made few = ap (λ (x : New). x .locks) e ∙ rw (marked-first, none-first) (none-locked k few)
 
   -- ---- the state after it
-  module _ (palette : List ℕ) (lab : List Float) (indices : List ℤ) (journal : List ℕ) (handle : Handle)
+  module _ (palette : List ℕ) (lab : List Float) (indices : List ℤ) (locks : List Bool) (journal : List ℕ) (handle : Handle)
       (e-palette : palette ≡ over (paletteIn k bs) (replicate storage 0)) (e-lab : lab ≡ newLab s) (e-indices : take (w * h) indices ≡ indicesIn w h k bs)
-      (e-journal : journal ≡ replicate journalBytes 0) (e-handle : handle ≡ fresh) where
+      (e-locks : locks ≡ unlocked) (e-journal : journal ≡ replicate journalBytes 0) (e-handle : handle ≡ fresh) where
     abbrev next : Core
     next = record { opened = true; w = w; h = h; k = k; handle = handle }
 
-    pub open-state : panelIn next palette lab indices journal ≡ some (begun s)
+    pub open-state : panelIn next palette lab indices locks journal ≡ some (begun s)
     unfolding panelIn begun openSheet
-    open-state = rw (e-palette, e-lab, e-indices, e-journal, e-handle)
+    open-state = rw (e-palette, e-lab, e-indices, e-locks, e-journal, e-handle)
 
     pub open-text : (num : ℕ) → num ≡ 0 → lineOf num (handle .position) (dirty handle) k (take (w * h) indices) ≡ wholeLine Done (begun s)
     unfolding wholeLine begun openSheet
@@ -118,6 +144,6 @@ module _ (w h k : ℕ) (bs : List ℕ) where
   unfolding openSheet
   open-sheet palette lab indices e-palette e-lab e-indices = rw (e-palette, e-lab, e-indices)
 
-  pub new-is : (palette : List ℕ) (lab lab′ : List Float) (indices : List ℤ) (a : Answer) → palette ≡ over (paletteIn k bs) (replicate storage 0) → lab ≡ replicate storage (decimal 0 1)
-      → indices ≡ indicesIn w h k bs → newMade a lab′ ≡ newOf (sheetOf w h k palette lab indices) → newMade a lab′ ≡ newOf s
-  new-is palette lab lab′ indices a e-palette e-lab e-indices e = e ∙ ap newOf (open-sheet palette lab indices e-palette e-lab e-indices)
+  pub new-is : (palette : List ℕ) (lab lab′ : List Float) (indices : List ℤ) (locks locks′ : List Bool) (a : Answer) → palette ≡ over (paletteIn k bs) (replicate storage 0) → lab ≡ replicate storage (decimal 0 1)
+      → indices ≡ indicesIn w h k bs → locks ≡ unlocked → newMade a lab′ locks′ ≡ newOf (sheetOf w h k palette lab indices) locks → newMade a lab′ locks′ ≡ newOf s unlocked
+  new-is palette lab lab′ indices locks locks′ a e-palette e-lab e-indices e-locks e = e ∙ rw (open-sheet palette lab indices e-palette e-lab e-indices, e-locks)

@@ -22,10 +22,10 @@ pub line-short : (answer position : ℕ) (d : Bool) (k n : ℕ) (indices : List 
 line-short answer position d k n indices small room = omega (arith, length-line answer position d k (take n indices), length-take-le n indices room)
 
 -- a text that was told, and the state that stands
-pub told-steps : (r : Stepped) (core : Core) (palette : List ℕ) (lab : List Float) (indices : List ℤ) (journal out₀ out : List ℕ) (at : ℕ) (text : List ℕ) (o : Said Panel)
-    → Tells r core out₀ out at text → text ≡ o .text → panelIn core palette lab indices journal ≡ o .state → core .w * core .h ≤ 4096
-    → Steps r (panelIn (r .core) palette lab indices journal) out₀ out at o
-told-steps r core palette lab indices journal out₀ out at text o t e s small =
+pub told-steps : (r : Stepped) (core : Core) (palette : List ℕ) (lab : List Float) (indices : List ℤ) (locks : List Bool) (journal out₀ out : List ℕ) (at : ℕ) (text : List ℕ) (o : Said Panel)
+    → Tells r core out₀ out at text → text ≡ o .text → panelIn core palette lab indices locks journal ≡ o .state → core .w * core .h ≤ 4096
+    → Steps r (panelIn (r .core) palette lab indices locks journal) out₀ out at o
+told-steps r core palette lab indices locks journal out₀ out at text o t e s small =
     record {
       state-is = rw (t .core-is) s;
       out-is = rw e at (t .out-is);
@@ -35,16 +35,16 @@ told-steps r core palette lab indices journal out₀ out at text o t e s small =
     }
 
 -- before the opening
-pub shut : (core : Core) (palette : List ℕ) (lab : List Float) (indices : List ℤ) (journal : List ℕ) → core .opened ≡ false → panelIn core palette lab indices journal ≡ none
+pub shut : (core : Core) (palette : List ℕ) (lab : List Float) (indices : List ℤ) (locks : List Bool) (journal : List ℕ) → core .opened ≡ false → panelIn core palette lab indices locks journal ≡ none
 unfolding panelIn
-shut core palette lab indices journal e = rw e
+shut core palette lab indices locks journal e = rw e
 
 -- a line that is answered by its number only, before the opening
-pub told-failed : (r : Stepped) (core : Core) (palette : List ℕ) (lab : List Float) (indices : List ℤ) (journal out₀ out : List ℕ) (at n : ℕ) (o : Said Panel)
+pub told-failed : (r : Stepped) (core : Core) (palette : List ℕ) (lab : List Float) (indices : List ℤ) (locks : List Bool) (journal out₀ out : List ℕ) (at n : ℕ) (o : Said Panel)
     → Tells r core out₀ out at (numberLine n) → core .opened ≡ false → o ≡ said none (numberLine n) → core .w * core .h ≤ 4096
-    → Steps r (panelIn (r .core) palette lab indices journal) out₀ out at o
-told-failed r core palette lab indices journal out₀ out at n o t e q small =
-    told-steps r core palette lab indices journal out₀ out at (numberLine n) o t
+    → Steps r (panelIn (r .core) palette lab indices locks journal) out₀ out at o
+told-failed r core palette lab indices locks journal out₀ out at n o t e q small =
+    told-steps r core palette lab indices locks journal out₀ out at (numberLine n) o t
     (sym (ap (λ (x : Said Panel). x .text) q))
-    (shut core palette lab indices journal e ∙ sym (ap (λ (x : Said Panel). x .state) q))
+    (shut core palette lab indices locks journal e ∙ sym (ap (λ (x : Said Panel). x .state) q))
     small

@@ -8,7 +8,7 @@ pub use open::open_sheet;
 pub use text::number;
 pub use text::whole;
 
-// The numbers of the open sheet, and its history's. Its palette, LAB and indices, and the journal, are in
+// The numbers of the open sheet, and its history's. Its palette, LAB, indices and lock marks, and the journal, are in
 // buffers; the indices are the first w × h places of theirs.
 pub struct Core {
     pub opened: bool,

@@ -2,6 +2,7 @@
 use crate::Core;
 use crate::Stepped;
 use crate::clear::clear_lab;
+use crate::clear::clear_locks;
 use crate::text::number;
 use crate::text::whole;
 use base::BAD_SHEET;
@@ -42,12 +43,13 @@ fn open_indices(bytes: &[u8], start: usize, n: usize, indices: &mut [i16])
     take_indices(&bytes[start..end], indices);
 }
 
-// Opens the sheet, with zeros for what the frame leaves open. A failed opening prints its number only.
+// Opens the sheet, with zeros for what the frame leaves open and no entry locked. A failed opening prints its number only.
 pub fn open_sheet(
     core: Core,
     palette: &mut [u8],
     lab: &mut [f64],
     indices: &mut [i16],
+    locks: &mut [bool],
     journal: &mut [u8],
     w: usize,
     h: usize,
@@ -58,12 +60,12 @@ pub fn open_sheet(
 ) -> Stepped
     requires { ⌜ core .opened ≡ false ⌝ }
     requires { ⌜
-        Fits core (length (now palette)) (length (now lab)) (length (now indices)) (length (now journal))
+        Fits core (length (now palette)) (length (now lab)) (length (now indices)) (length (now locks)) (length (now journal))
         (length (now bytes)) 4096
         ⌝ }
     requires { ⌜ (6 + 3 * k + w * h ≤ length (now bytes)) × (at + 8203 ≤ length (now out)) ⌝ }
     ensures { λ r. ⌜
-        Steps r (panelIn (r .core) (now (palette .exit)) (now (lab .exit)) (now (indices .exit)) (now (journal .exit)))
+        Steps r (panelIn (r .core) (now (palette .exit)) (now (lab .exit)) (now (indices .exit)) (now (locks .exit)) (now (journal .exit)))
         (now (out .entry)) (now (out .exit)) at (openOf (openSheet w h k (now (bytes .entry))))
         ⌝ }
 {
@@ -80,8 +82,9 @@ pub fn open_sheet(
     open_palette(bytes, k, palette);
     open_indices(bytes, 6 + 3 * k, n, indices);
     clear_lab(lab);
+    clear_locks(locks);
     clear(journal);
-    let answer = sheet::new(w, h, k, palette, lab, &indices[..n]);
+    let answer = sheet::new(w, h, k, palette, lab, &indices[..n], locks);
     let no = answer.number();
     if no != 0 {
         return number(core, no, out, at);

@@ -1,7 +1,7 @@
 -- From calls to what a line does. Assumes nothing.
 use Prim.Native.Nat.{ℕ, zero, suc, _+_, _*_, _≤_}
 use mathlib.Core.Path.{_≡_, refl, ap, _∙_}
-use mathlib.Core.Bool.{true, false}
+use mathlib.Core.Bool.{Bool, true, false}
 use mathlib.Core.List.{List, [], _∷_, _++_}
 use mathlib.Core.Option.{none, some}
 use native.Mathlib.Omega.{arith}
@@ -13,8 +13,8 @@ use lib.Seq.{take-at, length-take-le, getD-take}
 use types.Run.{OneOf}
 use denote.Enum.Declared.{tagOf}
 use Rattle.base.specs.Answer.{numberOf}
-use Rattle.sheet.specs.Sheet.{sheetOf}
 use Rattle.base.specs.declared.Moved.{Moved}
+use Rattle.history_model.specs.Document.{documentOf}
 use Rattle.history_model.specs.Calls.{stateOf, leaves}
 use Rattle.history_ledger.specs.Handle.{dirty}
 use Rattle.panel_frames.specs.Reading.{told, sizeOf, frameOf, changeAt, changesFrom}
@@ -31,22 +31,22 @@ use Rattle.panel_open.proofs.Texts.{shut}
 
 -- ---- a frame on the open sheet, which the call left as m and the buffers have it
 module _
-    (core : Core) (palette : List ℕ) (lab : List Float) (indices : List ℤ) (journal : List ℕ) (f : Frame) (bs : List ℕ)
-    (m : Moved) (palette′ : List ℕ) (lab′ : List Float) (part indices′ : List ℤ) (journal′ : List ℕ)
+    (core : Core) (palette : List ℕ) (lab : List Float) (indices : List ℤ) (locks : List Bool) (journal : List ℕ) (f : Frame) (bs : List ℕ)
+    (m : Moved) (palette′ : List ℕ) (lab′ : List Float) (part indices′ : List ℤ) (locks′ : List Bool) (journal′ : List ℕ)
     (is-open : core .opened ≡ true)
-    (e : leaves m (core .w) (core .h) palette′ lab′ part journal′ ≡ callOf (stateOf (sheetOf (core .w) (core .h) (core .k) palette lab (take (core .w * core .h) indices)) journal (core .handle)) f bs)
+    (e : leaves m (core .w) (core .h) palette′ lab′ part locks′ journal′ ≡ callOf (stateOf (documentOf (core .w) (core .h) (core .k) palette lab (take (core .w * core .h) indices) locks) journal (core .handle)) f bs)
     (p : take (core .w * core .h) indices′ ≡ part) where
   abbrev next : Core
   next = record { opened = true; w = core .w; h = core .h; k = m .k; handle = m .handle }
 
   abbrev acted : Said Panel
-  acted = actOf (panelIn core palette lab indices journal) f bs
+  acted = actOf (panelIn core palette lab indices locks journal) f bs
 
-  is-shown : acted ≡ shown (leaves m (core .w) (core .h) palette′ lab′ part journal′)
+  is-shown : acted ≡ shown (leaves m (core .w) (core .h) palette′ lab′ part locks′ journal′)
   unfolding panelIn actOf
   is-shown = rw (is-open, e)
 
-  pub act-state : panelIn next palette′ lab′ indices′ journal′ ≡ acted .state
+  pub act-state : panelIn next palette′ lab′ indices′ locks′ journal′ ≡ acted .state
   unfolding panelIn shown
   act-state = rw (is-shown, p)
 
@@ -107,24 +107,25 @@ unfolding stepOf
 step-by p line f l e = rw (← e) (act-take p f l)
 
 -- before the opening
-pub act-shut : (core : Core) (palette : List ℕ) (lab : List Float) (indices : List ℤ) (journal : List ℕ) (f : Frame) (bs : List ℕ) → core .opened ≡ false
-    → actOf (panelIn core palette lab indices journal) f bs ≡ unopenedOf f bs
+pub act-shut : (core : Core) (palette : List ℕ) (lab : List Float) (indices : List ℤ) (locks : List Bool) (journal : List ℕ) (f : Frame) (bs : List ℕ) → core .opened ≡ false
+    → actOf (panelIn core palette lab indices locks journal) f bs ≡ unopenedOf f bs
 unfolding actOf
-act-shut core palette lab indices journal f bs e = rw (shut core palette lab indices journal e)
+act-shut core palette lab indices locks journal f bs e = rw (shut core palette lab indices locks journal e)
 
 pub unopened-call : (f : Frame) (bs : List ℕ) → OneOf (1 ∷ 2 ∷ 3 ∷ 4 ∷ 5 ∷ 6 ∷ 7 ∷ 8 ∷ []) (tagOf the-type f) → unopenedOf f bs ≡ said none (numberLine 22)
 unfolding unopenedOf opensAs
 unopened-call f bs o = rw (sheet-other [] f bs o)
 
 -- buffers keep their lengths
-pub refits : {core core′ : Core} {p l i j b s p′ l′ i′ j′ b′ s′ : ℕ} → Fits core p l i j b s → core′ .w * core′ .h ≤ 4096
-    → p′ ≡ p → l′ ≡ l → i′ ≡ i → j′ ≡ j → b′ ≡ b → s′ ≡ s → Fits core′ p′ l′ i′ j′ b′ s′
-refits f small ep el ei ej eb es =
+pub refits : {core core′ : Core} {p l i m j b s p′ l′ i′ m′ j′ b′ s′ : ℕ} → Fits core p l i m j b s → core′ .w * core′ .h ≤ 4096
+    → p′ ≡ p → l′ ≡ l → i′ ≡ i → m′ ≡ m → j′ ≡ j → b′ ≡ b → s′ ≡ s → Fits core′ p′ l′ i′ m′ j′ b′ s′
+refits f small ep el ei em ej eb es =
     record {
       small = small;
       palette-length = ep ∙ f .palette-length;
       lab-length = el ∙ f .lab-length;
       indices-length = ei ∙ f .indices-length;
+      locks-length = em ∙ f .locks-length;
       journal-length = ej ∙ f .journal-length;
       bytes-length = eb ∙ f .bytes-length;
       list-length = es ∙ f .list-length;

@@ -22,6 +22,7 @@ fn unopened(
     palette: &mut [u8],
     lab: &mut [f64],
     indices: &mut [i16],
+    locks: &mut [bool],
     journal: &mut [u8],
     frame: Frame,
     bytes: &[u8],
@@ -30,12 +31,12 @@ fn unopened(
 ) -> Stepped
     requires { ⌜ core .opened ≡ false ⌝ }
     requires { ⌜
-        Fits core (length (now palette)) (length (now lab)) (length (now indices)) (length (now journal))
+        Fits core (length (now palette)) (length (now lab)) (length (now indices)) (length (now locks)) (length (now journal))
         (length (now bytes)) 4096
         ⌝ }
     requires { ⌜ (sizeOf frame ≤ length (now bytes)) × (at + 8203 ≤ length (now out)) ⌝ }
     ensures { λ r. ⌜
-        Steps r (panelIn (r .core) (now (palette .exit)) (now (lab .exit)) (now (indices .exit)) (now (journal .exit)))
+        Steps r (panelIn (r .core) (now (palette .exit)) (now (lab .exit)) (now (indices .exit)) (now (locks .exit)) (now (journal .exit)))
         (now (out .entry)) (now (out .exit)) at (unopenedOf frame (now (bytes .entry)))
         ⌝ }
 {
@@ -45,6 +46,7 @@ fn unopened(
             palette,
             lab,
             indices,
+            locks,
             journal,
             w,
             h,
@@ -63,6 +65,7 @@ fn act(
     palette: &mut [u8],
     lab: &mut [f64],
     indices: &mut [i16],
+    locks: &mut [bool],
     journal: &mut [u8],
     frame: Frame,
     bytes: &mut [u8],
@@ -72,14 +75,14 @@ fn act(
 ) -> Stepped
     requires { ⌜ core .opened ≡ true ⌝ }
     requires { ⌜
-        Fits core (length (now palette)) (length (now lab)) (length (now indices)) (length (now journal))
+        Fits core (length (now palette)) (length (now lab)) (length (now indices)) (length (now locks)) (length (now journal))
         (length (now bytes)) (length (now list))
         ⌝ }
     requires { ⌜ (sizeOf frame ≤ length (now bytes)) × (at + 8203 ≤ length (now out)) ⌝ }
     ensures { λ r. ⌜
-        Steps r (panelIn (r .core) (now (palette .exit)) (now (lab .exit)) (now (indices .exit)) (now (journal .exit)))
+        Steps r (panelIn (r .core) (now (palette .exit)) (now (lab .exit)) (now (indices .exit)) (now (locks .exit)) (now (journal .exit)))
         (now (out .entry)) (now (out .exit)) at
-        (actOf (panelIn core (now (palette .entry)) (now (lab .entry)) (now (indices .entry)) (now (journal .entry)))
+        (actOf (panelIn core (now (palette .entry)) (now (lab .entry)) (now (indices .entry)) (now (locks .entry)) (now (journal .entry)))
         frame (now (bytes .entry)))
         ⌝ }
 {
@@ -91,6 +94,7 @@ fn act(
         palette,
         lab,
         &mut indices[..n],
+        locks,
         journal,
         core.handle,
         frame,
@@ -119,6 +123,7 @@ pub fn step(
     palette: &mut [u8],
     lab: &mut [f64],
     indices: &mut [i16],
+    locks: &mut [bool],
     journal: &mut [u8],
     line: &[u8],
     bytes: &mut [u8],
@@ -127,14 +132,14 @@ pub fn step(
     at: usize,
 ) -> Stepped
     requires { ⌜
-        Fits core (length (now palette)) (length (now lab)) (length (now indices)) (length (now journal))
+        Fits core (length (now palette)) (length (now lab)) (length (now indices)) (length (now locks)) (length (now journal))
         (length (now bytes)) (length (now list))
         ⌝ }
     requires { ⌜ at + 8203 ≤ length (now out) ⌝ }
     ensures { λ r. ⌜
-        Steps r (panelIn (r .core) (now (palette .exit)) (now (lab .exit)) (now (indices .exit)) (now (journal .exit)))
+        Steps r (panelIn (r .core) (now (palette .exit)) (now (lab .exit)) (now (indices .exit)) (now (locks .exit)) (now (journal .exit)))
         (now (out .entry)) (now (out .exit)) at
-        (stepOf (panelIn core (now (palette .entry)) (now (lab .entry)) (now (indices .entry)) (now (journal .entry)))
+        (stepOf (panelIn core (now (palette .entry)) (now (lab .entry)) (now (indices .entry)) (now (locks .entry)) (now (journal .entry)))
         (now (line .entry)))
         ⌝ }
 {
@@ -145,6 +150,7 @@ pub fn step(
             palette,
             lab,
             indices,
+            locks,
             journal,
             frame,
             bytes,
@@ -153,5 +159,16 @@ pub fn step(
             at,
         );
     }
-    unopened(core, palette, lab, indices, journal, frame, bytes, out, at)
+    unopened(
+        core,
+        palette,
+        lab,
+        indices,
+        locks,
+        journal,
+        frame,
+        bytes,
+        out,
+        at,
+    )
 }

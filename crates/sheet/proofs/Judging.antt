@@ -1,5 +1,5 @@
 -- Checks 1 to 3 and the facts that they stand for. Assumes nothing.
-use mathlib.Core.Path.{_≡_, refl, sym, _∙_}
+use mathlib.Core.Path.{_≡_, refl, sym, ap, _∙_}
 use mathlib.Core.Bool.{Bool, true, false, not, cond}
 use mathlib.Core.List.{List, [], _∷_, _++_, map}
 use Prim.Native.Nat.{ℕ, suc, _*_}
@@ -8,7 +8,7 @@ use native.Mathlib.Omega.{arith}
 use borrow.Author.Tests.{le-ltb, ltb-false, eq-eqb, eqb-true, not-false}
 use lib.Dec.{ltb, eqb}
 use lib.ListN.{length, take}
-use Rattle.base.specs.Checks.{Check, _when_, firstOf, checked}
+use Rattle.base.specs.Checks.{Check, _when_, orElse, firstOf, checked}
 use Rattle.base.specs.Numbers.{strayIndex, unfitLab}
 use Rattle.base.proofs.First.{first-past, first-here, refused-first, past, past-both}
 use Rattle.base.specs.Lists.{some}
@@ -78,6 +78,14 @@ limited-bad s h = record { value = sym (by-tests s ∙ applies (some yes (tests 
 
     no : _≡_ {A = ℕ} 1 0 → ⊥
     no e = omega arith
+
+-- where they are followed by another number 1, the first is 1
+pub limits-one : (s : Sheet) → orElse (firstOf (limitChecks s)) 1 ≡ 1
+limits-one s = ap (λ (n : ℕ). orElse n 1) (by-tests s) ∙ either-way (some yes (tests s))
+  where
+    either-way : (b : Bool) → orElse (cond b 1 0) 1 ≡ 1
+    either-way true = refl
+    either-way false = refl
 
 -- ---- 1 to 3 in order
 module _ (s : Sheet) where

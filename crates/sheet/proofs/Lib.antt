@@ -1,5 +1,6 @@
 pub mod Strays
 pub mod Judging
+pub mod Marks
 pub mod Places
 pub mod Front
 pub mod Pixels

@@ -1,4 +1,5 @@
--- Checks 1 to 3, in document 01's order. Every call on a sheet begins with these. Definitions only. Assumes nothing.
+-- Checks 1 to 3, in document 01's order. Every call on a sheet begins with these; one that takes the entries' lock marks, too (document 02, E5), holds
+-- them to number 1. Definitions only. Assumes nothing.
 use mathlib.Core.Path.{_≡_}
 use Prim.Native.Nat.{ℕ, _*_, _%_, _≤_}
 use mathlib.Core.Bool.{Bool, false, not, _&&_, _||_}
@@ -28,6 +29,10 @@ unfoldable pub permittedChecks : Bool → List ℕ → List Check
 permittedChecks limited colours =
     badSheet when (limited && (not (eqb (length colours % 3) 0) || ltb (3 * maxPermitted) (length colours)))
     ∷ []
+
+-- 1: "Each entry has a lock mark" (document 02, E5): a mark for each of the 255 that storage has room for
+unfoldable pub markChecks : List Bool → List Check
+markChecks locks = badSheet when not (eqb (length locks) maxEntries) ∷ []
 
 -- 2: "an index outside -1..k-1"
 unfoldable pub indexChecks : Sheet → List Check
@@ -65,3 +70,12 @@ pub record Limited (s : Sheet) (n : ℕ) : Type 0 where
 pub record Judged (s : Sheet) (n : ℕ) : Type 0 where
   pub value : n ≡ firstOf (sheetChecks [] s)
   pub fine : n ≡ 0 → WellFormed s
+
+-- the same of a sheet and its marks
+pub record Marked (s : Sheet) (locks : List Bool) : Type 0 where
+  pub formed : WellFormed s
+  pub marks : length locks ≡ 255
+
+pub record MarkedJudged (s : Sheet) (locks : List Bool) (n : ℕ) : Type 0 where
+  pub value : n ≡ firstOf (sheetChecks (markChecks locks) s)
+  pub fine : n ≡ 0 → Marked s locks

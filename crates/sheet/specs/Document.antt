@@ -6,7 +6,7 @@ use mathlib.Core.Option.{Option, none, some}
 use lib.Dec.{ltb}
 use lib.IntN.{ℤ, pos, negsuc}
 use lib.Ieee.{Float}
-use lib.ListN.{getD, take}
+use lib.ListN.{getD, take, replicate}
 use Rattle.base.specs.Numbers.{tooFar}
 use Rattle.base.specs.Checks.{_when_, checked}
 use Rattle.base.specs.declared.Answer.{Answer}
@@ -16,13 +16,27 @@ use Rattle.base.specs.Lists.{over}
 use Rattle.base.specs.Ints.{far}
 use Rattle.color_lab.specs.Convert.{labOf}
 use Rattle.sheet.specs.Sheet.{Sheet}
-use Rattle.sheet.specs.Checks.{limitChecks, indexChecks, sheetChecks}
+use Rattle.sheet.specs.Checks.{limitChecks, markChecks, indexChecks, sheetChecks}
 
--- ---- `with_lab`: the checks
-unfoldable pub withLabOf : Sheet → Told (Unit {0})
-withLabOf s = checked (sheetChecks [] s) alone Done
+-- ---- an opening: "Each entry has a lock mark, false at opening" (document 02, E5); the marks past the k entries keep
+unfoldable pub clearedMarks : ℕ → List Bool → List Bool
+clearedMarks k locks = over (replicate k false) locks
 
--- ---- `new`: LAB is not read; that of the k entries is worked out from their bytes, and the rest keeps
+-- ---- `with_lab`: the checks, then the marks
+pub record Opened : Type 0 where
+  pub answer : Told (Unit {0})
+  pub locks : List Bool
+
+abbrev pub opening : Told (Unit {0}) → List Bool → Opened
+opening told locks = record { answer = told; locks = locks }
+
+abbrev pub opened : Answer → List Bool → Opened
+opened a locks = opening (answerTold a) locks
+
+unfoldable pub withLabOf : Sheet → List Bool → Opened
+withLabOf s locks = checked (sheetChecks (markChecks locks) s) (λ n. opening (alone n) locks) (opening Done (clearedMarks (s .k) locks))
+
+-- ---- `new`: LAB is not read; that of the k entries is worked out from their bytes, and the rest keeps; then the marks
 -- the LAB of colours that stand one after the other, three bytes each
 unfoldable pub labsOf : List ℕ → List Float
 labsOf (r ∷ g ∷ b ∷ rest) = let x = labOf (record { r = r; g = g; b = b }) in x .l ∷ x .a ∷ x .b ∷ labsOf rest
@@ -36,18 +50,19 @@ newLab s = over (labsOf (take (3 * s .k) (s .palette))) (s .lab)
 pub record New : Type 0 where
   pub answer : Told (Unit {0})
   pub lab : List Float
+  pub locks : List Bool
 
-abbrev pub newLeaving : Told (Unit {0}) → List Float → New
-newLeaving told lab = record { answer = told; lab = lab }
+abbrev pub newLeaving : Told (Unit {0}) → List Float → List Bool → New
+newLeaving told lab locks = record { answer = told; lab = lab; locks = locks }
 
-abbrev pub newMade : Answer → List Float → New
-newMade a lab = newLeaving (answerTold a) lab
+abbrev pub newMade : Answer → List Float → List Bool → New
+newMade a lab locks = newLeaving (answerTold a) lab locks
 
-unfoldable pub newOf : Sheet → New
-newOf s =
-    checked (limitChecks s ++ indexChecks s)
-    (λ n. newLeaving (alone n) (s .lab))
-    (newLeaving Done (newLab s))
+unfoldable pub newOf : Sheet → List Bool → New
+newOf s locks =
+    checked (limitChecks s ++ (markChecks locks ++ indexChecks s))
+    (λ n. newLeaving (alone n) (s .lab) locks)
+    (newLeaving Done (newLab s) (clearedMarks (s .k) locks))
 
 -- ---- `get_at`: "The index at a pointer position, or `None` outside the image"
 unfoldable pub indexAt : ℕ → ℕ → List ℤ → ℤ → ℤ → Option ℤ

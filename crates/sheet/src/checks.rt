@@ -14,7 +14,7 @@ ghost use Prim.Native.Nat.{_≤_};
 ghost use Rattle.base.specs.Lists.{some};
 ghost use Rattle.base.specs.Checks.{firstOf};
 ghost use Rattle.sheet.specs.Sheet.{sheetOf, stray, strayZ};
-ghost use Rattle.sheet.specs.Checks.{permittedChecks, Limited, Judged};
+ghost use Rattle.sheet.specs.Checks.{permittedChecks, Limited, Judged, MarkedJudged};
 
 // Whether an index lies outside -1..k-1. The bound has the index's width, so that a scan stays narrow.
 fn is_stray(z: i16, k: i16) -> bool
@@ -92,6 +92,27 @@ pub fn check(w: usize, h: usize, k: usize, palette: &[u8], lab: &[f64], indices:
         return UNFIT_LAB;
     }
     0
+}
+
+// The same of a sheet and the lock marks of its entries: marks that are not 255 are number 1, too.
+pub fn check_marked(
+    w: usize,
+    h: usize,
+    k: usize,
+    palette: &[u8],
+    lab: &[f64],
+    indices: &[i16],
+    locks: &[bool],
+) -> u8
+    ensures { λ r. ⌜ (
+        let sheet = sheetOf w h k (now (palette .entry)) (now (lab .entry)) (now (indices .entry)) in
+        MarkedJudged sheet (now (locks .entry)) r
+        ) ⌝ }
+{
+    if locks.len() != MAX_ENTRIES {
+        return BAD_SHEET;
+    }
+    check(w, h, k, palette, lab, indices)
 }
 
 // Number 1 of the permitted colours, or 0: present, they are at most 4,096 of three bytes each.

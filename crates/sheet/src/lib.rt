@@ -2,13 +2,15 @@
 // document.rs.
 //
 // A sheet is lent as its size, its palette count and three slices: palette storage, LAB storage and the
-// indices in rows.
+// indices in rows. A call that looks at the entries' lock marks or writes them is lent these, too: 255 of them.
 mod checks;
 mod document;
 mod labs;
+mod locks;
 
 pub use checks::any_stray_below;
 pub use checks::check;
+pub use checks::check_marked;
 pub use checks::permitted_no;
 pub use document::get_at;
 pub use document::new;

@@ -3,8 +3,8 @@ use base::Answer;
 use base::Handle;
 ghost use mathlib.Core.Path.{_≡_};
 ghost use lib.ListN.{length};
-ghost use Rattle.sheet.specs.Sheet.{sheetOf};
 ghost use Rattle.history_ledger.specs.Journal.{undoOf, redoOf, markOf};
+ghost use Rattle.history_model.specs.Document.{documentOf};
 ghost use Rattle.history_model.specs.Editing.{editing};
 ghost use Rattle.history_model.specs.Calls.{stateOf};
 ghost use Rattle.history_model.specs.Calls.{outcomeOf};
@@ -18,17 +18,20 @@ pub fn undo(
     palette: &mut [u8],
     lab: &mut [f64],
     indices: &mut [i16],
+    locks: &mut [bool],
     journal: &[u8],
     handle: &mut Handle,
 ) -> Answer
     ensures { λ r. ⌜ (
-        let sheet = sheetOf w h (now (k .entry)) (now (palette .entry)) (now (lab .entry)) (now (indices .entry)) in
+        let document =
+        documentOf w h (now (k .entry)) (now (palette .entry)) (now (lab .entry)) (now (indices .entry))
+        (now (locks .entry)) in
         leavesLent r w h (now (k .exit)) (now (palette .exit)) (now (lab .exit)) (now (indices .exit))
-        (now (journal .entry)) (now (handle .exit))
-        ≡ undoOf editing (stateOf sheet (now (journal .entry)) (now (handle .entry)))
+        (now (locks .exit)) (now (journal .entry)) (now (handle .exit))
+        ≡ undoOf editing (stateOf document (now (journal .entry)) (now (handle .entry)))
         ) ⌝ }
 {
-    let undone = history::undo(w, h, *k, palette, lab, indices, journal, *handle);
+    let undone = history::undo(w, h, *k, palette, lab, indices, locks, journal, *handle);
     *k = undone.k;
     *handle = undone.handle;
     undone.answer
@@ -42,19 +45,33 @@ pub fn redo(
     palette: &mut [u8],
     lab: &mut [f64],
     indices: &mut [i16],
+    locks: &mut [bool],
     journal: &[u8],
     handle: &mut Handle,
     scratch: &mut [u8],
 ) -> Answer
     ensures { λ r. ⌜ (
-        let sheet = sheetOf w h (now (k .entry)) (now (palette .entry)) (now (lab .entry)) (now (indices .entry)) in
+        let document =
+        documentOf w h (now (k .entry)) (now (palette .entry)) (now (lab .entry)) (now (indices .entry))
+        (now (locks .entry)) in
         (leavesLent r w h (now (k .exit)) (now (palette .exit)) (now (lab .exit)) (now (indices .exit))
-        (now (journal .entry)) (now (handle .exit))
-        ≡ redoOf editing (length (now (scratch .entry))) (stateOf sheet (now (journal .entry)) (now (handle .entry))))
+        (now (locks .exit)) (now (journal .entry)) (now (handle .exit))
+        ≡ redoOf editing (length (now (scratch .entry))) (stateOf document (now (journal .entry)) (now (handle .entry))))
         × (length (now (scratch .exit)) ≡ length (now (scratch .entry)))
         ) ⌝ }
 {
-    let redone = history::redo(w, h, *k, palette, lab, indices, journal, *handle, scratch);
+    let redone = history::redo(
+        w,
+        h,
+        *k,
+        palette,
+        lab,
+        indices,
+        locks,
+        journal,
+        *handle,
+        scratch,
+    );
     *k = redone.k;
     *handle = redone.handle;
     redone.answer

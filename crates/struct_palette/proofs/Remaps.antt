@@ -1,5 +1,6 @@
 -- `remove_entry` and `merge_entries` with scratch: what they list, that it is no more than the sheet has pixels, and what they answer. Assumes nothing.
 use mathlib.Core.Path.{_≡_, refl, sym, ap, _∙_}
+use mathlib.Core.Bool.{Bool}
 use mathlib.Core.List.{List, _++_, map}
 use Prim.Native.Nat.{ℕ, _<_, _≤_, min}
 use native.Mathlib.Omega.{arith}
@@ -19,7 +20,7 @@ use Rattle.edit_pixels.proofs.Places.{places-few}
 use Rattle.base.specs.Answer.{Told, Op, op, replacement}
 use Rattle.base.specs.Answer.Told.{result, alone}
 use Rattle.edit_entries.specs.Unfilled.{noLab}
-use Rattle.palette_nearest.specs.Nearest.{otherChecks, substitute}
+use Rattle.palette_nearest.specs.Nearest.{removalChecks, substitute}
 use Rattle.palette_remove.specs.Removal.{remapOf, WithList, remapping, removeTo, removeEntryOf, mergeChecks, mergeEntriesOf}
 use Rattle.palette_remove.proofs.Answers.{remap-length, remove-refused, remove-past, remove-short, remove-done}
 use Rattle.struct_palette.specs.Scratch.{noRemoval, needingRemap}
@@ -78,10 +79,10 @@ module _ {R : Type 0} (handed : Op → R) (count : Told R → ℕ) (count-alone 
           (λ z. omega (arith, long, places-few (pos i) 0 l)) (rw is at d))
           (λ out after j p. rw (le-ltb room (length l) h, is) p)
 
-pub remove-is : (s : Sheet) (i : ℕ) → let into = substitute (s .lab) (s .k) i in removeEntryOf s i ≡ removeTo (λ made. replacement made into) (otherChecks s i) (s .w) (s .palette) (s .indices) i (into .index)
+pub remove-is : (s : Sheet) (locks : List Bool) (i : ℕ) → let into = substitute (s .lab) (s .k) i in removeEntryOf s locks i ≡ removeTo (λ made. replacement made into) (removalChecks s locks i) (s .w) (s .palette) (s .indices) i (into .index)
 unfolding removeEntryOf
-remove-is s i = refl
+remove-is s locks i = refl
 
-pub merge-is : (s : Sheet) (from into : ℕ) → mergeEntriesOf s from into ≡ removeTo (λ made. made) (mergeChecks s from into) (s .w) (s .palette) (s .indices) from into
+pub merge-is : (s : Sheet) (locks : List Bool) (from into : ℕ) → mergeEntriesOf s locks from into ≡ removeTo (λ made. made) (mergeChecks s locks from into) (s .w) (s .palette) (s .indices) from into
 unfolding mergeEntriesOf
-merge-is s from into = refl
+merge-is s locks from into = refl

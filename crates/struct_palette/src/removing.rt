@@ -53,6 +53,7 @@ fn remove_entry_in(
     palette: &[u8],
     lab: &[f64],
     indices: &[i16],
+    locks: &[bool],
     index: usize,
     scratch: &mut [u64],
     room: usize,
@@ -60,7 +61,7 @@ fn remove_entry_in(
     ensures { λ r. ⌜ (
         let sheet = sheetOf w h k (now (palette .entry)) (now (lab .entry)) (now (indices .entry)) in
         InScratch (removedCount r) room (now (scratch .exit)) (replaced r)
-        (needingRemap (length (now (scratch .entry))) (length (now (indices .entry))) (removeEntryOf sheet index))
+        (needingRemap (length (now (scratch .entry))) (length (now (indices .entry))) (removeEntryOf sheet (now (locks .entry)) index))
         ) ⌝ }
 {
     if scratch.len() < indices.len() {
@@ -71,13 +72,24 @@ fn remove_entry_in(
             palette,
             lab,
             indices,
+            locks,
             index,
             &mut scratch[..0],
         );
         return none_removed(r);
     }
     let m = min_usize(room, scratch.len());
-    palette_remove::remove_entry(w, h, k, palette, lab, indices, index, &mut scratch[..m])
+    palette_remove::remove_entry(
+        w,
+        h,
+        k,
+        palette,
+        lab,
+        indices,
+        locks,
+        index,
+        &mut scratch[..m],
+    )
 }
 
 // `palette::remove_entry`: an entry removed, its pixels moved to the nearest other, which is handed back with its
@@ -89,6 +101,7 @@ pub fn remove_entry(
     palette: &[u8],
     lab: &[f64],
     indices: &[i16],
+    locks: &[bool],
     index: usize,
     scratch: &mut [u64],
     out: &mut [Change],
@@ -96,11 +109,22 @@ pub fn remove_entry(
     ensures { λ r. ⌜ (
         let sheet = sheetOf w h k (now (palette .entry)) (now (lab .entry)) (now (indices .entry)) in
         (replaced r (map packedOf (now (out .exit)))
-        ≡ needingRemap (length (now (scratch .entry))) (length (now (indices .entry))) (removeEntryOf sheet index)
+        ≡ needingRemap (length (now (scratch .entry))) (length (now (indices .entry))) (removeEntryOf sheet (now (locks .entry)) index)
         (map packedOf (now (out .entry)))) × (length (now (scratch .exit)) ≡ length (now (scratch .entry)))
         ) ⌝ }
 {
-    let r = remove_entry_in(w, h, k, palette, lab, indices, index, scratch, out.len());
+    let r = remove_entry_in(
+        w,
+        h,
+        k,
+        palette,
+        lab,
+        indices,
+        locks,
+        index,
+        scratch,
+        out.len(),
+    );
     let n = removed_count(r);
     unpack(scratch, n, out);
     r
@@ -134,6 +158,7 @@ fn merge_entries_in(
     palette: &[u8],
     lab: &[f64],
     indices: &[i16],
+    locks: &[bool],
     from: usize,
     into: usize,
     scratch: &mut [u64],
@@ -142,7 +167,7 @@ fn merge_entries_in(
     ensures { λ r. ⌜ (
         let sheet = sheetOf w h k (now (palette .entry)) (now (lab .entry)) (now (indices .entry)) in
         InScratch (removalCount r) room (now (scratch .exit)) (remapped r)
-        (needingRemap (length (now (scratch .entry))) (length (now (indices .entry))) (mergeEntriesOf sheet from into))
+        (needingRemap (length (now (scratch .entry))) (length (now (indices .entry))) (mergeEntriesOf sheet (now (locks .entry)) from into))
         ) ⌝ }
 {
     if scratch.len() < indices.len() {
@@ -153,6 +178,7 @@ fn merge_entries_in(
             palette,
             lab,
             indices,
+            locks,
             from,
             into,
             &mut scratch[..0],
@@ -167,6 +193,7 @@ fn merge_entries_in(
         palette,
         lab,
         indices,
+        locks,
         from,
         into,
         &mut scratch[..m],
@@ -181,6 +208,7 @@ pub fn merge_entries(
     palette: &[u8],
     lab: &[f64],
     indices: &[i16],
+    locks: &[bool],
     from: usize,
     into: usize,
     scratch: &mut [u64],
@@ -189,7 +217,7 @@ pub fn merge_entries(
     ensures { λ r. ⌜ (
         let sheet = sheetOf w h k (now (palette .entry)) (now (lab .entry)) (now (indices .entry)) in
         (remapped r (map packedOf (now (out .exit)))
-        ≡ needingRemap (length (now (scratch .entry))) (length (now (indices .entry))) (mergeEntriesOf sheet from into)
+        ≡ needingRemap (length (now (scratch .entry))) (length (now (indices .entry))) (mergeEntriesOf sheet (now (locks .entry)) from into)
         (map packedOf (now (out .entry)))) × (length (now (scratch .exit)) ≡ length (now (scratch .entry)))
         ) ⌝ }
 {
@@ -200,6 +228,7 @@ pub fn merge_entries(
         palette,
         lab,
         indices,
+        locks,
         from,
         into,
         scratch,

@@ -8,7 +8,6 @@ use lib.IntN.{ℤ}
 use lib.Ieee.{Float}
 use lib.ListN.{length, length-map}
 use Rattle.base.specs.Checks.{refusedOr}
-use Rattle.sheet.specs.Sheet.{Sheet, sheetOf}
 use Rattle.base.specs.declared.Edit.{Edit}
 use Rattle.base.specs.declared.Handle.{Handle}
 use Rattle.edit.specs.declared.ListKind.{ListKind}
@@ -16,6 +15,7 @@ use Rattle.edit.specs.List.{listOf, emptyPixels}
 use Rattle.edit_list.specs.Paintable.{Paintable}
 use Rattle.journal_write.specs.List.{Puttable}
 use Rattle.history_ledger.specs.Journal.{State, pushed}
+use Rattle.history_model.specs.Document.{Document, documentOf}
 use Rattle.history_model.specs.Editing.{Given, givenOf, editing}
 use Rattle.history_model.specs.Calls.{stateOf, Standing, Acceptable}
 use Rattle.history_push_checks.specs.Steps.{isStill, pushedOr}
@@ -27,17 +27,17 @@ use Rattle.struct_edit.specs.Walk.{packedAll, flatAll, walkedOf, putUpto, paint
 use Rattle.struct_edit.proofs.Whole.{painted-all, walked-all, walked-zero}
 use Rattle.struct_edit.proofs.Journaled.{put-all}
 
-module _ (w h k : ℕ) (palette : List ℕ) (lab : List Float) (indices : List ℤ) (journal : List ℕ) (handle : Handle) (e : Edit) (list : List Change) (kind : ListKind) (same : kind ≡ listOf e)
+module _ (w h k : ℕ) (palette : List ℕ) (lab : List Float) (indices : List ℤ) (locks : List Bool) (journal : List ℕ) (handle : Handle) (e : Edit) (list : List Change) (kind : ListKind) (same : kind ≡ listOf e)
     (n m : ℕ) (many : m ≡ walkedOf n (length list)) where
-  abbrev st : State Sheet
-  st = stateOf (sheetOf w h k palette lab indices) journal handle
+  abbrev st : State Document
+  st = stateOf (documentOf w h k palette lab indices locks) journal handle
 
   abbrev long : length (packedAll list) ≡ length list
   long = length-map list packedOf
 
   module _ (stands : n ≡ 0 → Standing st) (fine : n ≡ 0 → emptyPixels (listOf e) (length (flatAll list)) ≡ false → Acceptable st e (flatAll list)) where
     puts : n ≡ 0 → Puttable (listOf e) w (length indices) (length journal - handle .offset) (flatAll list)
-    puts z = carry-puts w h k palette lab indices journal handle e (packedAll list) (length list) long (stands z) (fine z)
+    puts z = carry-puts w h k palette lab indices locks journal handle e (packedAll list) (length list) long (stands z) (fine z)
 
     pub puts-ask : (m ≤ length list) × (0 < m → Puttable kind w (length indices) (length journal - handle .offset) (flatAll list))
     puts-ask = (walked-all n (length list) m many, λ some. rw same (puts (walked-zero n (length list) m many some)))
@@ -45,15 +45,15 @@ module _ (w h k : ℕ) (palette : List ℕ) (lab : List Float) (indices : List �
     pub paints-ask : (m ≤ length list) × (0 < m → Paintable kind w (length indices) (flatAll list))
     paints-ask = (
       walked-all n (length list) m many,
-      λ some. let z = walked-zero n (length list) m many some in rw same (carry-paints w h k palette lab indices journal handle e (packedAll list) (length list) long (stands z) (fine z)),
+      λ some. let z = walked-zero n (length list) m many some in rw same (carry-paints w h k palette lab indices locks journal handle e (packedAll list) (length list) long (stands z) (fine z)),
     )
 
-    pub finish-asks : (after : List ℕ) → length after ≡ length journal → n ≡ 0 → emptyPixels (listOf e) (length list) ≡ false → Finishes k palette lab after handle e (length list)
-    finish-asks after q z = carry-finishes w h k palette lab indices journal handle e (packedAll list) (length list) long (stands z) (fine z) after q
+    pub finish-asks : (after : List ℕ) → length after ≡ length journal → n ≡ 0 → emptyPixels (listOf e) (length list) ≡ false → Finishes k palette lab locks after handle e (length list)
+    finish-asks after q z = carry-finishes w h k palette lab indices locks journal handle e (packedAll list) (length list) long (stands z) (fine z) after q
 
     module _ (limited : Bool) (permitted : List ℕ) (l : List ℤ) (j : List ℕ) (p : l ≡ paintUpto kind w list indices m) (q : j ≡ putUpto kind (handle .offset) w indices list journal m) where
-      abbrev left : State Sheet
-      left = stateOf (sheetOf w h k palette lab l) j handle
+      abbrev left : State Document
+      left = stateOf (documentOf w h k palette lab l locks) j handle
 
       abbrev g : Given
       g = givenOf limited permitted e (packedAll list)
@@ -66,7 +66,7 @@ module _ (w h k : ℕ) (palette : List ℕ) (lab : List Float) (indices : List �
           by zero z =
               let all : m ≡ length list = many ∙ ap (λ (a : ℕ). walkedOf a (length list)) z in
               rw z
-              (carried w h k palette lab indices journal handle e (packedAll list) (length list) long limited permitted l j
+              (carried w h k palette lab indices locks journal handle e (packedAll list) (length list) long limited permitted l j
               (rw (same, all) at p ∙ painted-all (listOf e) w list indices)
               (rw (same, all) at q ∙ put-all (handle .offset) w indices list journal (listOf e) (puts z))
               (fine z))

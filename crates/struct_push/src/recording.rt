@@ -16,9 +16,9 @@ ghost use mathlib.Core.Bool.{Bool, false};
 ghost use mathlib.Core.List.{List};
 ghost use Prim.Native.Nat.{ℕ};
 ghost use lib.ListN.{length};
-ghost use Rattle.sheet.specs.Sheet.{sheetOf};
 ghost use Rattle.struct_edit.specs.Walk.{packedAll, flatAll};
 ghost use Rattle.history_ledger.specs.Journal.{pushOf, pushed};
+ghost use Rattle.history_model.specs.Document.{documentOf};
 ghost use Rattle.history_model.specs.Editing.{editing, givenOf};
 ghost use Rattle.history_model.specs.Calls.{stateOf, leaves, Standing, Acceptable};
 ghost use Rattle.history_push_checks.specs.Steps.{isStill, pushedOr};
@@ -34,25 +34,26 @@ fn carry_out(
     palette: &mut [u8],
     lab: &mut [f64],
     indices: &mut [i16],
+    locks: &mut [bool],
     edit: Edit,
     list: &[Change],
     journal: &mut [u8],
     handle: Handle,
 ) -> Moved
     requires { ⌜
-        (no ≡ 0 → Standing (stateOf (sheetOf w h k (now palette) (now lab) (now indices)) (now journal) handle))
+        (no ≡ 0 → Standing (stateOf (documentOf w h k (now palette) (now lab) (now indices) (now locks)) (now journal) handle))
         × (no ≡ 0 → emptyPixels (listOf edit) (length (flatAll (now list))) ≡ false
-        → Acceptable (stateOf (sheetOf w h k (now palette) (now lab) (now indices)) (now journal) handle) edit
+        → Acceptable (stateOf (documentOf w h k (now palette) (now lab) (now indices) (now locks)) (now journal) handle) edit
         (flatAll (now list)))
         ⌝ }
     ensures { λ r. ⌜
         ((limited : Bool) (permitted : List ℕ)
-        → leaves r w h (now (palette .exit)) (now (lab .exit)) (now (indices .exit)) (now (journal .exit))
+        → leaves r w h (now (palette .exit)) (now (lab .exit)) (now (indices .exit)) (now (locks .exit)) (now (journal .exit))
         ≡ pushedOr no (isStill (givenOf limited permitted edit (packedAll (now (list .entry)))))
-        (stateOf (sheetOf w h k (now (palette .entry)) (now (lab .entry)) (now (indices .entry))) (now (journal .entry))
-        handle) (pushed editing
-        (stateOf (sheetOf w h k (now (palette .entry)) (now (lab .entry)) (now (indices .entry))) (now (journal .entry))
-        handle) (givenOf limited permitted edit (packedAll (now (list .entry))))))
+        (stateOf (documentOf w h k (now (palette .entry)) (now (lab .entry)) (now (indices .entry)) (now (locks .entry)))
+        (now (journal .entry)) handle) (pushed editing
+        (stateOf (documentOf w h k (now (palette .entry)) (now (lab .entry)) (now (indices .entry)) (now (locks .entry)))
+        (now (journal .entry)) handle) (givenOf limited permitted edit (packedAll (now (list .entry))))))
         ⌝ }
 {
     let n = list.len();
@@ -61,7 +62,18 @@ fn carry_out(
     let m = walked(no, n);
     put_list(kind, journal, offset, indices, w, list, m);
     paint_list(kind, indices, w, list, m);
-    finish(no, k, palette, lab, indices, edit, n, journal, handle)
+    finish(
+        no,
+        k,
+        palette,
+        lab,
+        indices,
+        locks,
+        edit,
+        n,
+        journal,
+        handle,
+    )
 }
 
 // `history::push`, with palette count and handle lent and the list as structs. The list is read where it lies;
@@ -73,6 +85,7 @@ pub fn push(
     palette: &mut [u8],
     lab: &mut [f64],
     indices: &mut [i16],
+    locks: &mut [bool],
     limited: bool,
     permitted: &[u8],
     edit: Edit,
@@ -82,10 +95,12 @@ pub fn push(
     scratch: &mut [u8],
 ) -> Answer
     ensures { λ r. ⌜ (
-        let sheet = sheetOf w h (now (k .entry)) (now (palette .entry)) (now (lab .entry)) (now (indices .entry)) in
+        let document =
+        documentOf w h (now (k .entry)) (now (palette .entry)) (now (lab .entry)) (now (indices .entry))
+        (now (locks .entry)) in
         (leavesLent r w h (now (k .exit)) (now (palette .exit)) (now (lab .exit)) (now (indices .exit))
-        (now (journal .exit)) (now (handle .exit))
-        ≡ pushOf editing (length (now (scratch .entry))) (stateOf sheet (now (journal .entry)) (now (handle .entry)))
+        (now (locks .exit)) (now (journal .exit)) (now (handle .exit))
+        ≡ pushOf editing (length (now (scratch .entry))) (stateOf document (now (journal .entry)) (now (handle .entry)))
         (givenOf limited (now (permitted .entry)) edit (packedAll (now (list .entry)))))
         × (length (now (scratch .exit)) ≡ length (now (scratch .entry)))
         ) ⌝ }
@@ -99,6 +114,7 @@ pub fn push(
         palette,
         lab,
         indices,
+        locks,
         limited,
         permitted,
         edit,
@@ -115,6 +131,7 @@ pub fn push(
         palette,
         lab,
         indices,
+        locks,
         edit,
         list,
         journal,

@@ -8,8 +8,8 @@ use history_push_checks::begin;
 use history_push_checks::settle;
 use struct_edit::check_list;
 ghost use lib.ListN.{length};
-ghost use Rattle.sheet.specs.Sheet.{sheetOf};
 ghost use Rattle.struct_edit.specs.Walk.{packedAll};
+ghost use Rattle.history_model.specs.Document.{documentOf};
 ghost use Rattle.history_model.specs.Editing.{givenOf};
 ghost use Rattle.history_model.specs.Calls.{stateOf};
 ghost use Rattle.history_push_checks.specs.Steps.{PushNumbered};
@@ -22,6 +22,7 @@ pub fn push_no(
     palette: &[u8],
     lab: &[f64],
     indices: &[i16],
+    locks: &[bool],
     limited: bool,
     permitted: &[u8],
     edit: Edit,
@@ -31,8 +32,9 @@ pub fn push_no(
     marks: &mut [u8],
 ) -> u8
     ensures { λ r. ⌜ (
-        let sheet = sheetOf w h k (now (palette .entry)) (now (lab .entry)) (now (indices .entry)) in
-        PushNumbered (length (now (marks .entry))) (stateOf sheet (now (journal .entry)) handle)
+        let document =
+        documentOf w h k (now (palette .entry)) (now (lab .entry)) (now (indices .entry)) (now (locks .entry)) in
+        PushNumbered (length (now (marks .entry))) (stateOf document (now (journal .entry)) handle)
         (givenOf limited (now (permitted .entry)) edit (packedAll (now (list .entry)))) r
         ) ⌝ }
 {
@@ -47,6 +49,7 @@ pub fn push_no(
         palette,
         lab,
         indices,
+        locks,
         limited,
         permitted,
         edit,

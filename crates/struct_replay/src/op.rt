@@ -15,11 +15,13 @@ ghost use Prim.Native.Nat.{ℕ};
 ghost use lib.ListN.{length};
 ghost use Rattle.base.specs.Checks.{firstOf};
 ghost use Rattle.color_lab.specs.Convert.{labOf};
-ghost use Rattle.sheet.specs.Sheet.{sheetOf};
 ghost use Rattle.edit.specs.Checks.{permittedOf};
-ghost use Rattle.edit.specs.Apply.{redone};
-ghost use Rattle.edit_apply.specs.Redoable.{Redoable};
+ghost use Rattle.edit.specs.List.{listOf};
+ghost use Rattle.edit_locks.specs.Movable.{Redoable};
+ghost use Rattle.edit_list.specs.Paintable.{Paintable};
+ghost use Rattle.edit_apply.specs.Redoable.{Finishable};
 ghost use Rattle.struct_edit.specs.Walk.{flatAll};
+ghost use Rattle.history_model.specs.Document.{documentOf, documentDone};
 ghost use Rattle.history_model.specs.Replay.{replayChecks, replayed, replayOf};
 ghost use Rattle.history_replay.specs.Steps.{doneOr};
 
@@ -31,6 +33,7 @@ fn replay_no(
     palette: &[u8],
     lab: &[f64],
     indices: &[i16],
+    locks: &[bool],
     limited: bool,
     permitted: &[u8],
     edit: Edit,
@@ -38,9 +41,10 @@ fn replay_no(
     marks: &mut [u8],
 ) -> u8
     ensures { λ r. ⌜ (
-        let sheet = sheetOf w h k (now (palette .entry)) (now (lab .entry)) (now (indices .entry)) in
+        let document =
+        documentOf w h k (now (palette .entry)) (now (lab .entry)) (now (indices .entry)) (now (locks .entry)) in
         r
-        ≡ firstOf (replayChecks (length (now (marks .entry))) sheet (permittedOf limited (now (permitted .entry))) edit
+        ≡ firstOf (replayChecks (length (now (marks .entry))) document (permittedOf limited (now (permitted .entry))) edit
         (flatAll (now (list .entry))))
         ) ⌝ }
 {
@@ -53,6 +57,7 @@ fn replay_no(
         palette,
         lab,
         indices,
+        locks,
         limited,
         permitted,
         edit,
@@ -71,15 +76,20 @@ fn redo_list(
     palette: &mut [u8],
     lab: &mut [f64],
     indices: &mut [i16],
+    locks: &mut [bool],
     edit: Edit,
     list: &[Change],
 ) -> Replayed
-    requires { ⌜ (no ≡ 0 → Redoable w k (now palette) (now lab) (now indices) edit (flatAll (now list))) ⌝ }
+    requires { ⌜
+        (no ≡ 0 → Paintable (listOf edit) w (length (now indices)) (flatAll (now list)))
+        × (no ≡ 0 → Finishable k (length (now palette)) (length (now lab)) edit × Redoable k (length (now locks)) edit)
+        ⌝ }
     ensures { λ r. ⌜
         ((h : ℕ)
-        → replayed (r .answer) (sheetOf w h (r .k) (now (palette .exit)) (now (lab .exit)) (now (indices .exit)))
-        ≡ doneOr no (sheetOf w h k (now (palette .entry)) (now (lab .entry)) (now (indices .entry)))
-        (redone labOf (sheetOf w h k (now (palette .entry)) (now (lab .entry)) (now (indices .entry))) edit
+        → replayed (r .answer)
+        (documentOf w h (r .k) (now (palette .exit)) (now (lab .exit)) (now (indices .exit)) (now (locks .exit)))
+        ≡ doneOr no (documentOf w h k (now (palette .entry)) (now (lab .entry)) (now (indices .entry)) (now (locks .entry)))
+        (documentDone labOf (documentOf w h k (now (palette .entry)) (now (lab .entry)) (now (indices .entry)) (now (locks .entry))) edit
         (flatAll (now (list .entry)))))
         ⌝ }
 {
@@ -87,7 +97,7 @@ fn redo_list(
     let kind = list_of(edit);
     let m = walked(no, n);
     paint_list(kind, indices, w, list, m);
-    finish_replay(no, k, palette, lab, indices, edit)
+    finish_replay(no, k, palette, lab, indices, locks, edit)
 }
 
 // `history::replay`, with the palette count lent and the list as structs. The list is read where it lies; the
@@ -99,6 +109,7 @@ pub fn replay(
     palette: &mut [u8],
     lab: &mut [f64],
     indices: &mut [i16],
+    locks: &mut [bool],
     limited: bool,
     permitted: &[u8],
     edit: Edit,
@@ -106,9 +117,12 @@ pub fn replay(
     scratch: &mut [u8],
 ) -> Answer
     ensures { λ r. ⌜ (
-        let sheet = sheetOf w h (now (k .entry)) (now (palette .entry)) (now (lab .entry)) (now (indices .entry)) in
-        (replayed r (sheetOf w h (now (k .exit)) (now (palette .exit)) (now (lab .exit)) (now (indices .exit)))
-        ≡ replayOf (length (now (scratch .entry))) sheet (permittedOf limited (now (permitted .entry))) edit
+        let document =
+        documentOf w h (now (k .entry)) (now (palette .entry)) (now (lab .entry)) (now (indices .entry))
+        (now (locks .entry)) in
+        (replayed r
+        (documentOf w h (now (k .exit)) (now (palette .exit)) (now (lab .exit)) (now (indices .exit)) (now (locks .exit)))
+        ≡ replayOf (length (now (scratch .entry))) document (permittedOf limited (now (permitted .entry))) edit
         (flatAll (now (list .entry)))) × (length (now (scratch .exit)) ≡ length (now (scratch .entry)))
         ) ⌝ }
 {
@@ -120,13 +134,14 @@ pub fn replay(
         palette,
         lab,
         indices,
+        locks,
         limited,
         permitted,
         edit,
         list,
         scratch,
     );
-    let s = redo_list(no, w, count, palette, lab, indices, edit, list);
+    let s = redo_list(no, w, count, palette, lab, indices, locks, edit, list);
     *k = s.k;
     s.answer
 }

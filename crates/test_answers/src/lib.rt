@@ -145,11 +145,16 @@ pub fn of_shifted(s: Shifted) -> Outcome {
     }
 }
 
-// An edit as numbers: its index; its kind, its tool, its old colour and its new one; its LAB.
+// An edit as numbers: its index; its kind, its tool, its old colour and its new one; its LAB. A lock's marks stand where the
+// colours' reds do.
 struct Plain {
     index: usize,
     bytes: [u8; 8],
     doubles: [f64; 3],
+}
+
+fn byte_of(mark: bool) -> u8 {
+    if mark { 1 } else { 0 }
 }
 
 fn numbers_of(e: Edit) -> Plain {
@@ -178,6 +183,11 @@ fn numbers_of(e: Edit) -> Plain {
             index,
             bytes: [4, 0x5a, rgb.r, rgb.g, rgb.b, 0x5a, 0x5a, 0x5a],
             doubles: [lab.l, lab.a, lab.b],
+        },
+        Edit::PaletteLock { index, old, new } => Plain {
+            index,
+            bytes: [5, 0x5a, byte_of(old), 0x5a, 0x5a, byte_of(new), 0x5a, 0x5a],
+            doubles: [1.5, 1.5, 1.5],
         },
     }
 }

@@ -141,7 +141,7 @@ fn made(a: Hand) -> Outcome {
     told(t.number, mix_words(t.print, &out))
 }
 
-// An edit of the kind, with the tool, the entry and the colours that are dealt.
+// An edit of the kind, with the tool, the entry, the colours or the marks that are dealt.
 pub(crate) fn edit(a: Hand) -> Edit {
     let kind = a.choice.kind;
     let index = a.choice.from;
@@ -167,10 +167,15 @@ pub(crate) fn edit(a: Hand) -> Edit {
             old_lab: zero,
         },
         3 => Edit::PaletteAdd { rgb: new },
-        _ => Edit::PaletteRemove {
+        4 => Edit::PaletteRemove {
             index,
             rgb: old,
             lab: zero,
+        },
+        _ => Edit::PaletteLock {
+            index,
+            old: a.choice.even,
+            new: a.choice.lock,
         },
     }
 }

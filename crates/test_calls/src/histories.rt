@@ -13,6 +13,7 @@ use test_inputs::fill_list;
 use test_inputs::mix_bytes;
 use test_inputs::mix_doubles;
 use test_inputs::mix_indices;
+use test_inputs::mix_locks;
 use test_inputs::mix_number;
 use test_inputs::mix_sizes;
 use test_inputs::told;
@@ -36,6 +37,7 @@ pub fn told_change(
     palette: &[u8],
     lab: &[f64],
     indices: &[i16],
+    locks: &[bool],
     journal: &[u8],
 ) -> Outcome {
     let answer = m.answer;
@@ -44,7 +46,7 @@ pub fn told_change(
         return t;
     }
     let sheet = mix_indices(mix_doubles(mix_bytes(t.print, palette), lab), indices);
-    told(t.number, mix_bytes(sheet, journal))
+    told(t.number, mix_bytes(mix_locks(sheet, locks), journal))
 }
 
 fn removal_count(r: Removal) -> usize {
@@ -63,10 +65,11 @@ fn fill_edit(
     palette: &[u8],
     lab: &[f64],
     indices: &[i16],
+    locks: &[bool],
     list: &mut [u64],
 ) -> usize {
     if a.choice.kind == 4 {
-        return removal_count(merge(a, w, h, k, palette, lab, indices, list));
+        return removal_count(merge(a, w, h, k, palette, lab, indices, locks, list));
     }
     fill_list(a.seeds.seed, list);
     a.choice.size
@@ -85,12 +88,13 @@ fn pushed(
     palette: &mut [u8],
     lab: &mut [f64],
     indices: &mut [i16],
+    locks: &mut [bool],
     journal: &mut [u8],
 ) -> Moved {
     let mut list = [0u64; 6];
     let mut scratch = [0u8; 6];
     let permitted = colours(a.seeds.listed);
-    let n = fill_edit(a, w, h, m.k, palette, lab, indices, &mut list);
+    let n = fill_edit(a, w, h, m.k, palette, lab, indices, locks, &mut list);
     push(
         w,
         h,
@@ -98,6 +102,7 @@ fn pushed(
         palette,
         lab,
         indices,
+        locks,
         a.choice.limited,
         &permitted,
         edit(a),
@@ -115,6 +120,7 @@ fn redone(
     palette: &mut [u8],
     lab: &mut [f64],
     indices: &mut [i16],
+    locks: &mut [bool],
     journal: &[u8],
 ) -> Moved {
     let mut scratch = [0u8; 6];
@@ -125,6 +131,7 @@ fn redone(
         palette,
         lab,
         indices,
+        locks,
         journal,
         m.handle,
         &mut scratch,
@@ -151,6 +158,7 @@ fn replayed(
     palette: &mut [u8],
     lab: &mut [f64],
     indices: &mut [i16],
+    locks: &mut [bool],
 ) -> Moved {
     let mut list = [0u64; 2];
     let mut scratch = [0u8; 6];
@@ -163,6 +171,7 @@ fn replayed(
         palette,
         lab,
         indices,
+        locks,
         a.choice.limited,
         &permitted,
         edit(a),
@@ -188,14 +197,15 @@ pub fn change(
     palette: &mut [u8],
     lab: &mut [f64],
     indices: &mut [i16],
+    locks: &mut [bool],
     journal: &mut [u8],
 ) -> Moved {
     match c {
-        45 => pushed(a, w, h, m, palette, lab, indices, journal),
-        46 => undo(w, h, m.k, palette, lab, indices, journal, m.handle),
-        47 => redone(w, h, m, palette, lab, indices, journal),
+        45 => pushed(a, w, h, m, palette, lab, indices, locks, journal),
+        46 => undo(w, h, m.k, palette, lab, indices, locks, journal, m.handle),
+        47 => redone(w, h, m, palette, lab, indices, locks, journal),
         48 => marked(m, journal),
-        _ => replayed(a, w, h, m, palette, lab, indices),
+        _ => replayed(a, w, h, m, palette, lab, indices, locks),
     }
 }
 

@@ -105,13 +105,14 @@ pub fn side(x: u64) -> usize {
     }
 }
 
-// The kind of an edit, 1 to 4.
+// The kind of an edit, 1 to 5.
 pub fn kind(x: u64) -> u8 {
-    match pick(x, 4) {
+    match pick(x, 5) {
         0 => 1,
         1 => 2,
         2 => 3,
-        _ => 4,
+        3 => 4,
+        _ => 5,
     }
 }
 
@@ -192,6 +193,19 @@ pub fn fill_indices(seed: u64, k: usize, out: &mut [i16])
     while i < out.len() {
         x = next(x);
         out[i] = before(pick(x, values(k)));
+        i += 1;
+    }
+}
+
+// Lock marks, half of them true.
+pub fn fill_locks(seed: u64, out: &mut [bool])
+    ensures { λ _. ⌜ length (now (out .exit)) ≡ length (now (out .entry)) ⌝ }
+{
+    let mut x = seed;
+    let mut i: usize = 0;
+    while i < out.len() {
+        x = next(x);
+        out[i] = once_in(x, 2);
         i += 1;
     }
 }

@@ -28,7 +28,8 @@ pub struct Spot {
     pub area: Area,
 }
 
-// Two indices, two entries and a brush; whether there is a list of colours; an edit's kind, tool and byte; a radicand.
+// Two indices, two entries and a brush; whether there is a list of colours; an edit's kind, tool, byte and new mark; a
+// radicand.
 pub struct Choice {
     pub index: i16,
     pub other: i16,
@@ -40,6 +41,7 @@ pub struct Choice {
     pub kind: u8,
     pub tool: u8,
     pub byte: u8,
+    pub lock: bool,
     pub radicand: f64,
 }
 
@@ -152,6 +154,7 @@ fn deal_choice(d: &[u64; 32]) -> Choice {
         kind: kind(d[23]),
         tool: byte(d[24]),
         byte: byte(d[25]),
+        lock: once_in(d[27], 2),
         radicand: radicand(d[12]),
     }
 }
@@ -173,7 +176,7 @@ fn deal_sides(d: &[u64; 32]) -> Sides {
 fn deal_seeds(d: &[u64; 32]) -> Seeds {
     Seeds {
         number: pick(d[21], 4),
-        hit: once_in(d[29], 40),
+        hit: once_in(d[29], 12),
         place: pick(d[30], 120),
         first: d[12],
         seed: d[25],

@@ -108,6 +108,20 @@ pub fn mix_indices(h: u64, s: &[i16]) -> u64 {
     p
 }
 
+fn word_bool(x: bool) -> u64 {
+    if x { 1 } else { 0 }
+}
+
+pub fn mix_locks(h: u64, s: &[bool]) -> u64 {
+    let mut p = h;
+    let mut i: usize = 0;
+    while i < s.len() {
+        p = mix(p, word_bool(s[i]));
+        i += 1;
+    }
+    p
+}
+
 pub fn mix_points(h: u64, s: &[i32]) -> u64 {
     let mut p = h;
     let mut i: usize = 0;

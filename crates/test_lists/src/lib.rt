@@ -199,9 +199,10 @@ pub fn remove(
     palette: &[u8],
     lab: &[f64],
     indices: &[i16],
+    locks: &[bool],
     out: &mut [u64],
 ) -> Removed {
-    editor::remove_entry(w, h, k, palette, lab, indices, a.choice.from, out)
+    editor::remove_entry(w, h, k, palette, lab, indices, locks, a.choice.from, out)
 }
 
 pub fn merge(
@@ -212,8 +213,10 @@ pub fn merge(
     palette: &[u8],
     lab: &[f64],
     indices: &[i16],
+    locks: &[bool],
     out: &mut [u64],
 ) -> Removal {
     let from = a.choice.from;
-    editor::merge_entries(w, h, k, palette, lab, indices, from, a.choice.into, out)
+    let into = a.choice.into;
+    editor::merge_entries(w, h, k, palette, lab, indices, locks, from, into, out)
 }

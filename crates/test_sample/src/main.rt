@@ -20,6 +20,7 @@ use test_inputs::deal;
 use test_inputs::deck;
 use test_inputs::fill_bytes;
 use test_inputs::fill_indices;
+use test_inputs::fill_locks;
 use test_inputs::pick;
 use test_sheets::open;
 use test_sheets::over_sheet;
@@ -110,6 +111,7 @@ fn print_step(
     palette: &mut [u8],
     lab: &mut [f64],
     indices: &mut [i16],
+    locks: &mut [bool],
     journal: &mut [u8],
 ) -> Moved {
     damage(a, journal);
@@ -119,8 +121,8 @@ fn print_step(
             return m;
         }
     }
-    let n = change(c, a, w, h, m, palette, lab, indices, journal);
-    print_line(c, told_change(c, n, palette, lab, indices, journal));
+    let n = change(c, a, w, h, m, palette, lab, indices, locks, journal);
+    print_line(c, told_change(c, n, palette, lab, indices, locks, journal));
     n
 }
 
@@ -133,11 +135,12 @@ fn print_next(
     palette: &mut [u8],
     lab: &mut [f64],
     indices: &mut [i16],
+    locks: &mut [bool],
     journal: &mut [u8],
 ) -> Moved {
     let d = deck(seed);
     let c = call_of(d[8]);
-    print_step(c, deal(&d), w, h, m, palette, lab, indices, journal)
+    print_step(c, deal(&d), w, h, m, palette, lab, indices, locks, journal)
 }
 
 // The calls of a history after its first.
@@ -149,13 +152,14 @@ fn print_steps(
     palette: &mut [u8],
     lab: &mut [f64],
     indices: &mut [i16],
+    locks: &mut [bool],
     journal: &mut [u8],
 ) {
     let mut m = first;
     let mut i: u64 = 1;
     while i < STEPS {
         let next = std::num::wrapping_add_u64(seed, i);
-        m = print_next(next, w, h, m, palette, lab, indices, journal);
+        m = print_next(next, w, h, m, palette, lab, indices, locks, journal);
         i += 1;
     }
 }
@@ -169,11 +173,13 @@ fn print_history(seed: u64) {
     let mut palette = [0u8; 765];
     let mut lab = [0.0f64; 765];
     let mut indices = [0i16; 6];
+    let mut locks = [false; 255];
     let mut journal = [0u8; 120];
     fill_bytes(d[12], &mut palette);
     fill_indices(d[13], k, &mut indices);
     fill_bytes(d[14], &mut journal);
-    let answer = open(w, h, k, &palette, &mut lab, &indices);
+    fill_locks(d[9], &mut locks);
+    let answer = open(w, h, k, &palette, &mut lab, &indices, &mut locks);
     let handle = fresh();
     print_line(44, told_state(0, 1, handle));
     print_steps(
@@ -184,6 +190,7 @@ fn print_history(seed: u64) {
         &mut palette,
         &mut lab,
         &mut indices,
+        &mut locks,
         &mut journal,
     );
 }

@@ -56,9 +56,10 @@ fn removed(
     palette: &[u8],
     lab: &[f64],
     indices: &[i16],
+    locks: &[bool],
 ) -> Outcome {
     let mut out = [FREE; 3];
-    let t = of_removed(remove(a, w, h, k, palette, lab, indices, &mut out));
+    let t = of_removed(remove(a, w, h, k, palette, lab, indices, locks, &mut out));
     told(t.number, mix_words(t.print, &out))
 }
 
@@ -70,9 +71,10 @@ fn merged(
     palette: &[u8],
     lab: &[f64],
     indices: &[i16],
+    locks: &[bool],
 ) -> Outcome {
     let mut out = [FREE; 3];
-    let t = of_removal(merge(a, w, h, k, palette, lab, indices, &mut out));
+    let t = of_removal(merge(a, w, h, k, palette, lab, indices, locks, &mut out));
     told(t.number, mix_words(t.print, &out))
 }
 
@@ -85,11 +87,12 @@ pub(crate) fn list_answer(
     palette: &[u8],
     lab: &[f64],
     indices: &[i16],
+    locks: &[bool],
 ) -> Outcome {
     match c {
         15 | 16 => shifted(c, a, w, h, k, palette, lab, indices),
-        24 => removed(a, w, h, k, palette, lab, indices),
-        25 => merged(a, w, h, k, palette, lab, indices),
+        24 => removed(a, w, h, k, palette, lab, indices, locks),
+        25 => merged(a, w, h, k, palette, lab, indices, locks),
         _ => drawn(c, a, w, h, k, palette, lab, indices),
     }
 }

@@ -18,11 +18,13 @@ use test_inputs::colours;
 use test_inputs::deal;
 use test_inputs::fill_bytes;
 use test_inputs::fill_indices;
+use test_inputs::fill_locks;
 use test_inputs::height;
 use test_inputs::mix_bytes;
 use test_inputs::mix_counts;
 use test_inputs::mix_doubles;
 use test_inputs::mix_indices;
+use test_inputs::mix_locks;
 use test_inputs::mix_number;
 use test_inputs::pick;
 use test_inputs::told;
@@ -36,14 +38,35 @@ pub fn open(
     palette: &[u8],
     lab: &mut [f64],
     indices: &[i16],
+    locks: &mut [bool],
 ) -> Answer {
-    editor::new(w, h, k, palette, lab, indices)
+    editor::new(w, h, k, palette, lab, indices, locks)
 }
 
-fn new_sheet(w: usize, h: usize, k: usize, palette: &[u8], indices: &[i16]) -> Outcome {
+fn with_lab(
+    w: usize,
+    h: usize,
+    k: usize,
+    palette: &[u8],
+    lab: &[f64],
+    indices: &[i16],
+    locks: &mut [bool],
+) -> Outcome {
+    let no = editor::with_lab(w, h, k, palette, lab, indices, locks).number();
+    told(no, mix_locks(mix_number(no), locks))
+}
+
+fn new_sheet(
+    w: usize,
+    h: usize,
+    k: usize,
+    palette: &[u8],
+    indices: &[i16],
+    locks: &mut [bool],
+) -> Outcome {
     let mut lab = [1.5f64; 765];
-    let no = open(w, h, k, palette, &mut lab, indices).number();
-    told(no, mix_doubles(mix_number(no), &lab))
+    let no = open(w, h, k, palette, &mut lab, indices, locks).number();
+    told(no, mix_locks(mix_doubles(mix_number(no), &lab), locks))
 }
 
 fn counts(w: usize, h: usize, k: usize, palette: &[u8], lab: &[f64], indices: &[i16]) -> Outcome {
@@ -183,13 +206,26 @@ fn coloured(
     palette: &[u8],
     lab: &[f64],
     indices: &[i16],
+    locks: &[bool],
 ) -> MadeEdit {
     let index = a.choice.from;
     let limited = a.choice.limited;
     let list = colours(a.seeds.listed);
     let rgb = colour(a.seeds.colour);
     match c {
-        21 => editor::set_color(w, h, k, palette, lab, indices, limited, &list, index, rgb),
+        21 => editor::set_color(
+            w,
+            h,
+            k,
+            palette,
+            lab,
+            indices,
+            locks,
+            limited,
+            &list,
+            index,
+            rgb,
+        ),
         _ => editor::add_color(w, h, k, palette, lab, indices, limited, &list, rgb),
     }
 }
@@ -230,14 +266,15 @@ fn sheet_answer(
     palette: &[u8],
     lab: &[f64],
     indices: &[i16],
+    locks: &mut [bool],
 ) -> Outcome {
     let x = a.spot.x;
     let y = a.spot.far_y;
     let from = a.choice.from;
     match c {
         0 => of_number(editor::check(w, h, k, palette, lab, indices)),
-        1 => of_number(editor::with_lab(w, h, k, palette, lab, indices).number()),
-        2 => new_sheet(w, h, k, palette, indices),
+        1 => with_lab(w, h, k, palette, lab, indices, locks),
+        2 => new_sheet(w, h, k, palette, indices, locks),
         3 => of_got(editor::get_at(w, h, k, palette, lab, indices, x, y)),
         4 => counts(w, h, k, palette, lab, indices),
         5 => diff_mask(a, w, h, k, palette, lab, indices),
@@ -246,10 +283,10 @@ fn sheet_answer(
         17 | 19 => clipped(c, a, w, h, k, palette, lab, indices),
         18 => clip_rgba(a, w, h, k, palette, lab, indices),
         20 => fixed_choices(a, w, h, k, palette, lab, indices),
-        21 | 22 => of_made(coloured(c, a, w, h, k, palette, lab, indices)),
+        21 | 22 => of_made(coloured(c, a, w, h, k, palette, lab, indices, locks)),
         23 => of_found(editor::nearest_other(w, h, k, palette, lab, indices, from)),
         57 => extract(a, w, h, k, palette, lab, indices),
-        _ => list_answer(c, a, w, h, k, palette, lab, indices),
+        _ => list_answer(c, a, w, h, k, palette, lab, indices, locks),
     }
 }
 
@@ -276,7 +313,7 @@ fn entries(wrong: usize, k: usize) -> usize {
     if wrong == 2 { 256 } else { k }
 }
 
-// A call over a sheet of six pixels with up to 3 entries, which is now and then damaged.
+// A call over a sheet of six pixels with up to 3 entries and any marks, which is now and then damaged.
 pub fn over_sheet(c: usize, d: &[u64; 32]) -> Outcome {
     let a = deal(d);
     let w = width(d[8]);
@@ -287,10 +324,12 @@ pub fn over_sheet(c: usize, d: &[u64; 32]) -> Outcome {
     let mut palette = [0u8; 765];
     let mut lab = [0.0f64; 765];
     let mut indices = [0i16; 6];
+    let mut locks = [false; 255];
     fill_bytes(d[12], &mut palette);
     fill_indices(d[13], k, &mut indices);
-    open(w, h, k, &palette, &mut lab, &indices);
+    open(w, h, k, &palette, &mut lab, &indices, &mut locks);
+    fill_locks(d[9], &mut locks);
     spoil_index(wrong, &mut indices);
     spoil_lab(wrong, &mut lab);
-    sheet_answer(c, a, w, h, told_k, &palette, &lab, &indices)
+    sheet_answer(c, a, w, h, told_k, &palette, &lab, &indices, &mut locks)
 }

@@ -4,11 +4,12 @@ use mathlib.Core.Bool.{true}
 use native.Mathlib.Omega.{arith}
 use Rattle.base.specs.Checks.{firstOf}
 use Rattle.sheet.specs.Sheet.{sheetOf}
-use Rattle.sheet.specs.Checks.{permittedChecks, WellFormed}
+use Rattle.sheet.specs.Checks.{permittedChecks, Marked}
 use mathlib.Core.List.{List}
 use lib.ListN.{length}
 use Rattle.edit.specs.Change.{Change}
 use Rattle.edit.specs.Checks.{permittedOf, ownChecks}
+use Rattle.history_model.specs.Document.{documentOf}
 use Rattle.history_model.specs.Replay.{replayChecks}
 use Rattle.history_model.proofs.ReplayChecks.{given-refused, sheet-refused, too-long, no-space, own-decides}
 use Rattle.edit_list.proofs.Deciding.{head-decides}
@@ -23,34 +24,34 @@ permitted-no-requires c κs = search needs
 returns : tie.Need-returns
 returns c cs q = opened-refused _ (c .if1 .taken) (given-refused _ _ _ _ _ _ (c .before .permitted-no .ensures) (c .if1 .taken))
 
--- past the first test the permitted colours are, past the second the sheet is well-formed
-given : (c : tie.Else1) → let a = c .before .before .before .before .before .before .args in firstOf (permittedChecks (a .limited) (a .permitted .now)) ≡ 0
+-- past the first test the permitted colours are, past the second the sheet is well-formed and has its marks
+given : (c : tie.Else1) → let a = c .before .before .before .before .before .before .before .args in firstOf (permittedChecks (a .limited) (a .permitted .now)) ≡ 0
 given c = sym (c .before .permitted-no .ensures) ∙ c .if1 .left
 
-formed : (c : tie.Else2) → let a = c .before .before .before .before .before .before .before .before .args in WellFormed (sheetOf (a .w) (a .h) (a .k) (a .palette .now) (a .lab .now) (a .indices .now))
-formed c = c .before .check .ensures .fine (c .if2 .left)
+marked : (c : tie.Else2) → let a = c .before .before .before .before .before .before .before .before .before .args in Marked (sheetOf (a .w) (a .h) (a .k) (a .palette .now) (a .lab .now) (a .indices .now)) (a .locks .now)
+marked c = c .before .check-marked .ensures .fine (c .if2 .left)
 
-check-requires : tie.Need-check-requires
-check-requires c κs = search needs
+check-marked-requires : tie.Need-check-marked-requires
+check-marked-requires c κs = search needs
 
 returns-2 : tie.Need-returns-2
-returns-2 c cs q = opened-refused _ (c .if2 .taken) (sheet-refused _ _ _ _ _ (given (c .before .before)) _ (c .before .check .ensures) (c .if2 .taken))
+returns-2 c cs q = opened-refused _ (c .if2 .taken) (sheet-refused _ _ _ _ _ (given (c .before .before)) _ (c .before .check-marked .ensures) (c .if2 .taken))
 
 returns-3 : tie.Need-returns-3
-returns-3 c cs q = opened-refused _ (λ z. omega (arith, z)) (too-long _ _ _ _ _ (given (c .before .before .before)) (formed (c .before)) (rw q (c .if3 .taken)))
+returns-3 c cs q = opened-refused _ (λ z. omega (arith, z)) (too-long _ _ _ _ _ (given (c .before .before .before)) (marked (c .before)) (rw q (c .if3 .taken)))
 
 returns-4 : tie.Need-returns-4
-returns-4 c cs q = opened-refused _ (λ z. omega (arith, z)) (no-space _ _ _ _ _ (given (c .before .before .before .before)) (formed (c .before .before)) (rw q (c .before .if3 .left)) (rw (← formed (c .before .before) .limits .indices-length) (c .if4 .taken)))
+returns-4 c cs q = opened-refused _ (λ z. omega (arith, z)) (no-space _ _ _ _ _ (given (c .before .before .before .before)) (marked (c .before .before)) (rw q (c .before .if3 .left)) (rw (← marked (c .before .before) .formed .limits .indices-length) (c .if4 .taken)))
 
 -- past the fourth the edit's own checks decide
-decided : (c : tie.Else4) → let a = c .before .before .before .before .before .before .before .before .before .before .args in (cs : List Change) → length cs ≡ a .n → firstOf (ownChecks true (sheetOf (a .w) (a .h) (a .k) (a .palette .now) (a .lab .now) (a .indices .now)) (permittedOf (a .limited) (a .permitted .now)) (a .edit) cs) ≡ firstOf (replayChecks (length (a .marks .now)) (sheetOf (a .w) (a .h) (a .k) (a .palette .now) (a .lab .now) (a .indices .now)) (permittedOf (a .limited) (a .permitted .now)) (a .edit) cs)
-decided c cs q = own-decides _ _ _ _ _ (given (c .before .before .before .before)) (formed (c .before .before)) (rw q (c .before .if3 .left)) (rw (← formed (c .before .before) .limits .indices-length) (c .if4 .left))
+decided : (c : tie.Else4) → let a = c .before .before .before .before .before .before .before .before .before .before .before .args in (cs : List Change) → length cs ≡ a .n → firstOf (ownChecks true (sheetOf (a .w) (a .h) (a .k) (a .palette .now) (a .lab .now) (a .indices .now)) (a .locks .now) (permittedOf (a .limited) (a .permitted .now)) (a .edit) cs) ≡ firstOf (replayChecks (length (a .marks .now)) (documentOf (a .w) (a .h) (a .k) (a .palette .now) (a .lab .now) (a .indices .now) (a .locks .now)) (permittedOf (a .limited) (a .permitted .now)) (a .edit) cs)
+decided c cs q = own-decides _ _ _ _ _ (given (c .before .before .before .before)) (marked (c .before .before)) (rw q (c .before .if3 .left)) (rw (← marked (c .before .before) .formed .limits .indices-length) (c .if4 .left))
 
 head-no-requires : tie.Need-head-no-requires
-head-no-requires c κs = let l = formed (c .before .before) .limits in (l .k-small, l .palette-length)
+head-no-requires c κs = let m = marked (c .before .before) in (m .formed .limits .k-small, m .formed .limits .palette-length, m .marks)
 
 returns-5 : tie.Need-returns-5
-returns-5 c cs q = opened-refused _ (c .if5 .taken) (head-decides true _ _ _ cs _ (c .before .head-no .ensures _ _ (c .before .before .before .before .before .before .before .before .before .before .before .before .args .lab .now) _) (c .if5 .taken) ∙ decided (c .before .before) cs q)
+returns-5 c cs q = opened-refused _ (c .if5 .taken) (head-decides true _ _ _ _ cs _ (c .before .head-no .ensures _ _ (c .before .before .before .before .before .before .before .before .before .before .before .before .before .args .lab .now) _) (c .if5 .taken) ∙ decided (c .before .before) cs q)
 
 list-of-requires : tie.Need-list-of-requires
 list-of-requires c κs = search needs
@@ -63,16 +64,16 @@ same-length c = search needs
 
 returns-6 : tie.Need-returns-6
 returns-6 c cs q =
-    let f = formed (c .before .before .before .before .before .before .before .before .before) in
+    let f = marked (c .before .before .before .before .before .before .before .before .before) in
     record {
       refuses = λ h. absurd (h refl);
       ready = λ _.
           record {
-            formed = f;
-            enough = rw (← f .limits .indices-length) (c .before .before .before .before .before .before .before .if4 .left);
-            head = sym (c .before .before .before .before .before .before .head-no .ensures _ _ (c .before .before .before .before .before .before .before .before .before .before .before .before .before .before .before .before .before .args .lab .now) _) ∙ c .before .before .before .before .before .if5 .left;
+            marked = f;
+            enough = rw (← f .formed .limits .indices-length) (c .before .before .before .before .before .before .before .if4 .left);
+            head = sym (c .before .before .before .before .before .before .head-no .ensures _ _ (c .before .before .before .before .before .before .before .before .before .before .before .before .before .before .before .before .before .before .args .lab .now) _) ∙ c .before .before .before .before .before .if5 .left;
             decides = decided (c .before .before .before .before .before .before .before) cs q;
-            clear = rw (c .before .before .before .before .list-of .ensures, f .limits .indices-length) at (c .before .before .clear-marks .ensures);
+            clear = rw (c .before .before .before .before .list-of .ensures, f .formed .limits .indices-length) at (c .before .before .clear-marks .ensures);
           };
     }
 
@@ -82,7 +83,7 @@ open-replay-spec =
     (tie.spec
     permitted-no-requires
     returns
-    check-requires
+    check-marked-requires
     returns-2
     returns-3
     returns-4

@@ -13,7 +13,7 @@ use Rattle.panel_session.proofs.step.Reads as step-reads
 
 slice-aggregate-step : tie.Need-slice-aggregate-step
 slice-aggregate-step c =
-    let start = c .before .before .before .before .before .before .before .before .before .before .before .before .before in
+    let start = c .before .before .before .before .before .before .before .before .before .before .before .before .before .before .before in
     sym (length-take-le _ _ (omega (arith, start .pre .1 .0 .line-length, start .pre .1 .0 .within)))
 
 step-requires : tie.Need-step-requires
@@ -40,18 +40,21 @@ same-length-6 c = search needs
 same-length-7 : tie.Need-same-length-7
 same-length-7 c = search needs
 
+same-length-8 : tie.Need-same-length-8
+same-length-8 c = search needs
+
 returns : tie.Need-returns
 returns c =
-    let at-step = c .before .before .before .before .before .before .before .before .before .before .before .before .before in
-    let start = c .before .before .before .before .before .before .before .before .before .before .before .before .before .before .before .before .before .before .before .before .before .before .before .before .before .before .before .before .before .before in
+    let at-step = c .before .before .before .before .before .before .before .before .before .before .before .before .before .before .before in
+    let start = c .before .before .before .before .before .before .before .before .before .before .before .before .before .before .before .before .before .before .before .before .before .before .before .before .before .before .before .before .before .before .before .before .before .before in
     let a = start .args in
-    some-held (at-step .step .result) (panelIn (a .t .core) (a .palette .now) (a .lab .now) (a .indices .now) (a .journal .now)) _ (a .line .now) (a .out .now) _ (a .t .len) (at-step .step .ensures) (omega (arith, c .before .before .before .before .before .before .before .before .before .before .before .before .before .before .before .before .before .before .before .before .before .before .if1 .taken)) (omega (arith, start .pre .1 .0 .line-length, start .pre .1 .0 .within))
+    some-held (at-step .step .result) (panelIn (a .t .core) (a .palette .now) (a .lab .now) (a .indices .now) (a .locks .now) (a .journal .now)) _ (a .line .now) (a .out .now) _ (a .t .len) (at-step .step .ensures) (omega (arith, c .before .before .before .before .before .before .before .before .before .before .before .before .before .before .before .before .before .before .before .before .before .before .before .before .before .if1 .taken)) (omega (arith, start .pre .1 .0 .line-length, start .pre .1 .0 .within))
 
 returns-2 : tie.Need-returns-2
 returns-2 c =
-    let start = c .before .before .before .before .before .before .before .before in
+    let start = c .before .before .before .before .before .before .before .before .before in
     let a = start .args in
-    none-held (panelIn (a .t .core) (a .palette .now) (a .lab .now) (a .indices .now) (a .journal .now)) (a .line .now) (a .out .now) (a .t .len) (c .if1 .left)
+    none-held (panelIn (a .t .core) (a .palette .now) (a .lab .now) (a .indices .now) (a .locks .now) (a .journal .now)) (a .line .now) (a .out .now) (a .t .len) (c .if1 .left)
 
 pub answer-held-spec : {M : Type 1} → statement M
 answer-held-spec =
@@ -66,5 +69,6 @@ answer-held-spec =
     same-length-5
     same-length-6
     same-length-7
+    same-length-8
     returns
     returns-2)

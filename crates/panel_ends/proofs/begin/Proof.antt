@@ -11,7 +11,7 @@ fresh-requires c κs = search needs
 
 returns : tie.Need-returns
 unfolding panelIn
-returns c = record { unopened = λ palette lab indices journal. refl; nothing-held = refl; small = omega arith }
+returns c = record { unopened = λ palette lab indices locks journal. refl; nothing-held = refl; small = omega arith }
 
 pub begin-spec : {M : Type 1} → statement M
 begin-spec = tie.close (tie.spec fresh-requires returns)

@@ -7,10 +7,10 @@ use Rattle.test_sample.proofs.print_steps.Statement.{statement}
 use Rattle.test_sample.proofs.print_steps.Tie as tie
 
 abbrev Inv-loop : tie.InvT-loop
-Inv-loop seed w h palette₀ lab₀ indices₀ journal₀ m₀ i₀ palette lab indices journal m i = (i ≤ 60) × (length palette ≡ length palette₀) × (length lab ≡ length lab₀) × (length indices ≡ length indices₀) × (length journal ≡ length journal₀)
+Inv-loop seed w h palette₀ lab₀ indices₀ locks₀ journal₀ m₀ i₀ palette lab indices locks journal m i = (i ≤ 60) × (length palette ≡ length palette₀) × (length lab ≡ length lab₀) × (length indices ≡ length indices₀) × (length locks ≡ length locks₀) × (length journal ≡ length journal₀)
 
 abbrev μ-loop : tie.MeasureT-loop
-μ-loop seed w h palette₀ lab₀ indices₀ journal₀ m₀ i₀ palette lab indices journal m i = 60 - i
+μ-loop seed w h palette₀ lab₀ indices₀ locks₀ journal₀ m₀ i₀ palette lab indices locks journal m i = 60 - i
 
 loop-holds : tie.Need-loop-holds Inv-loop μ-loop
 loop-holds c = search needs
@@ -42,6 +42,9 @@ same-length-3 c = search needs
 same-length-4 : tie.Need-same-length-4 Inv-loop μ-loop
 same-length-4 c = search needs
 
+same-length-5 : tie.Need-same-length-5 Inv-loop μ-loop
+same-length-5 c = search needs
+
 returns : tie.Need-returns Inv-loop μ-loop
 returns c = search needs
 
@@ -61,4 +64,5 @@ print-steps-spec =
     same-length-2
     same-length-3
     same-length-4
+    same-length-5
     returns)

@@ -47,6 +47,9 @@ sub-result : tie.Need-sub-result
 unfolding Finishable
 sub-result c = let f = rw (c .before .before .before .before .before .before .before .before .before .before .before .before .edit3 .given .1) at (c .before .before .before .before .before .before .before .before .before .before .before .before .before .before .before .before .pre) in omega (arith, f .0)
 
+enum-told-2 : tie.Need-enum-told-2
+enum-told-2 c = search needs
+
 returns : tie.Need-returns
 unfolding restDone
 returns c w h = rw (c .enum-told .given .1)
@@ -84,6 +87,10 @@ returns-4 : tie.Need-returns-4
 unfolding restDone
 returns-4 c w h = rw (c .before .before .before .before .before .before .before .before .before .before .before .before .edit3 .given .1, ← c .before .before .before .before .before .before .close-palette-gap .ensures, ← c .before .before .close-lab-gap .ensures, ← c .before .before .before .before .before .before .before .before .before .lower-above .ensures)
 
+returns-5 : tie.Need-returns-5
+unfolding restDone
+returns-5 c w h = rw (c .enum-told2 .given .1)
+
 pub finish-edit-spec : {M : Type 1} → statement M
 finish-edit-spec =
     tie.close
@@ -99,6 +106,7 @@ finish-edit-spec =
     close-palette-gap-requires
     close-lab-gap-requires
     sub-result
+    enum-told-2
     returns
     same-length
     same-length-2
@@ -109,4 +117,5 @@ finish-edit-spec =
     same-length-5
     same-length-6
     same-length-7
-    returns-4)
+    returns-4
+    returns-5)

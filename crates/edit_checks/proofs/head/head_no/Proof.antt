@@ -1,4 +1,5 @@
 -- `head_no`: by kinds. Assumes nothing.
+use mathlib.Core.Path.{refl}
 use mathlib.Core.Bool.{false}
 use mathlib.Core.List.{[]}
 use Rattle.base.specs.Checks.{firstOf}
@@ -29,6 +30,12 @@ enum-known-edit-3 c = search needs
 entry-no-requires : tie.Need-entry-no-requires
 entry-no-requires c κs = search needs
 
+enum-known-edit-4 : tie.Need-enum-known-edit-4
+enum-known-edit-4 c = search needs
+
+lock-no-requires : tie.Need-lock-no-requires
+lock-no-requires c κs = search needs
+
 returns : tie.Need-returns
 unfolding headChecks firstOf
 returns c w h lab indices = rw (c .enum-told .given .1)
@@ -38,10 +45,13 @@ returns-2 c w h lab indices = rw (c .before .before .edit .given .1) (c .set-no 
 
 returns-3 : tie.Need-returns-3
 unfolding headChecks
-returns-3 c w h lab indices = rw (c .before .before .edit2 .given .1) (c .add-no .ensures w h [] lab indices false)
+returns-3 c w h lab indices = rw (c .before .before .edit2 .given .1) (c .add-no .ensures w h [] lab indices [] false)
 
 returns-4 : tie.Need-returns-4
 returns-4 c w h lab indices = rw (c .before .before .edit3 .given .1) (c .entry-no .ensures w h lab indices _ _)
+
+returns-5 : tie.Need-returns-5
+returns-5 c w h lab indices = rw (c .before .before .edit4 .given .1) (c .lock-no .ensures _ _ _ refl)
 
 pub head-no-spec : {M : Type 1} → statement M
 head-no-spec =
@@ -54,7 +64,10 @@ head-no-spec =
     add-no-requires
     enum-known-edit-3
     entry-no-requires
+    enum-known-edit-4
+    lock-no-requires
     returns
     returns-2
     returns-3
-    returns-4)
+    returns-4
+    returns-5)

@@ -10,25 +10,59 @@ returns : tie.Need-returns
 unfolding headChecks firstOf
 returns c w h lab indices x = rw (le-leb _ _ (c .if1 .taken))
 
-is-stale-requires : tie.Need-is-stale-requires
-is-stale-requires c κs = search needs
+is-locked-requires : tie.Need-is-locked-requires
+is-locked-requires c κs = search needs
 
 returns-2 : tie.Need-returns-2
 unfolding headChecks firstOf
-returns-2 c w h lab indices x = rw (lt-leb _ _ (c .before .before .if1 .left), ← c .before .is-stale .ensures, c .if2 .taken)
+returns-2 c w h lab indices x = rw (lt-leb _ _ (c .before .before .if1 .left), ← c .before .is-locked .ensures, c .if2 .taken)
+
+is-stale-requires : tie.Need-is-stale-requires
+is-stale-requires c κs = search needs
+
+returns-3 : tie.Need-returns-3
+unfolding headChecks firstOf
+returns-3 c w h lab indices x =
+    rw (lt-leb _ _ (c .before .before .before .before .if1 .left), ← c .before .before .before .is-locked .ensures, c .before .before .if2 .left, ← c .before .is-stale .ensures, c .if3 .taken)
 
 check-color-requires : tie.Need-check-color-requires
 check-color-requires c κs = search needs
 
-returns-3 : tie.Need-returns-3
-unfolding headChecks firstOf
-returns-3 c w h lab indices x = rw (lt-leb _ _ (c .before .before .before .before .if1 .left), ← c .before .before .before .is-stale .ensures, c .before .before .if2 .left, ← c .before .check-color .ensures, c .if3 .taken)
-
 returns-4 : tie.Need-returns-4
 unfolding headChecks firstOf
-returns-4 c w h lab indices x = rw (lt-leb _ _ (c .before .before .before .before .if1 .left), ← c .before .before .before .is-stale .ensures, c .before .before .if2 .left, ← c .before .check-color .ensures, c .if3 .left)
+returns-4 c w h lab indices x =
+    rw (
+      lt-leb _ _ (c .before .before .before .before .before .before .if1 .left),
+      ← c .before .before .before .before .before .is-locked .ensures,
+      c .before .before .before .before .if2 .left,
+      ← c .before .before .before .is-stale .ensures,
+      c .before .before .if3 .left,
+      ← c .before .check-color .ensures,
+      c .if4 .taken,
+    )
+
+returns-5 : tie.Need-returns-5
+unfolding headChecks firstOf
+returns-5 c w h lab indices x =
+    rw (
+      lt-leb _ _ (c .before .before .before .before .before .before .if1 .left),
+      ← c .before .before .before .before .before .is-locked .ensures,
+      c .before .before .before .before .if2 .left,
+      ← c .before .before .before .is-stale .ensures,
+      c .before .before .if3 .left,
+      ← c .before .check-color .ensures,
+      c .if4 .left,
+    )
 
 pub set-no-spec : {M : Type 1} → statement M
 set-no-spec =
     tie.close
-    (tie.spec returns is-stale-requires returns-2 check-color-requires returns-3 returns-4)
+    (tie.spec
+    returns
+    is-locked-requires
+    returns-2
+    is-stale-requires
+    returns-3
+    check-color-requires
+    returns-4
+    returns-5)

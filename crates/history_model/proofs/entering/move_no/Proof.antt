@@ -10,21 +10,21 @@ use Rattle.history_model.proofs.entering.move_no.Tie as tie
 returns : tie.Need-returns
 returns c = moves-long _ (c .if1 .taken)
 
-check-requires : tie.Need-check-requires
-check-requires c κs = search needs
+check-marked-requires : tie.Need-check-marked-requires
+check-marked-requires c κs = search needs
 
 returns-2 : tie.Need-returns-2
-returns-2 c = moves-sheet _ (omega arith) _ (c .before .check .ensures) (c .if2 .taken)
+returns-2 c = moves-sheet _ (omega arith) _ (c .before .check-marked .ensures) (c .if2 .taken)
 
 sound-requires : tie.Need-sound-requires
 sound-requires c κs = search needs
 
 returns-3 : tie.Need-returns-3
-returns-3 c = moves-unsound _ (omega arith) _ (c .before .before .before .check .ensures) (c .before .before .if2 .left) (sym (c .before .sound .ensures) ∙ not-true _ (c .if3 .taken))
+returns-3 c = moves-unsound _ (omega arith) _ (c .before .before .before .check-marked .ensures) (c .before .before .if2 .left) (sym (c .before .sound .ensures) ∙ not-true _ (c .if3 .taken))
 
 returns-4 : tie.Need-returns-4
-returns-4 c = moves-fine _ (omega arith) _ (c .before .before .before .check .ensures) (c .before .before .if2 .left) (sym (c .before .sound .ensures) ∙ not-false _ (c .if3 .left))
+returns-4 c = moves-fine _ (omega arith) _ (c .before .before .before .check-marked .ensures) (c .before .before .if2 .left) (sym (c .before .sound .ensures) ∙ not-false _ (c .if3 .left))
 
 pub move-no-spec : {M : Type 1} → statement M
 move-no-spec =
-    tie.close (tie.spec returns check-requires returns-2 sound-requires returns-3 returns-4)
+    tie.close (tie.spec returns check-marked-requires returns-2 sound-requires returns-3 returns-4)

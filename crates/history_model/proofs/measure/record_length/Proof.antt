@@ -28,6 +28,9 @@ mul-result-2 c = search needs
 add-result-2 : tie.Need-add-result-2
 add-result-2 c = search needs
 
+enum-told-5 : tie.Need-enum-told-5
+enum-told-5 c = search needs
+
 returns : tie.Need-returns
 unfolding recordLength
 returns c = rw (c .enum-told .given .1)
@@ -44,6 +47,10 @@ returns-4 : tie.Need-returns-4
 unfolding recordLength
 returns-4 c = rw (c .enum-told4 .given .1)
 
+returns-5 : tie.Need-returns-5
+unfolding recordLength
+returns-5 c = rw (c .enum-told5 .given .1)
+
 pub record-length-spec : {M : Type 1} → statement M
 record-length-spec =
     tie.close
@@ -56,7 +63,9 @@ record-length-spec =
     enum-told-4
     mul-result-2
     add-result-2
+    enum-told-5
     returns
     returns-2
     returns-3
-    returns-4)
+    returns-4
+    returns-5)

@@ -21,14 +21,14 @@ same-length-2 c = search needs
 same-length-3 : tie.Need-same-length-3
 same-length-3 c = search needs
 
+same-length-4 : tie.Need-same-length-4
+same-length-4 c = search needs
+
 returns : tie.Need-returns
-returns c = (leaves-refused _ _ _ _ _ _ _ _ _ _ (c .refused .ensures) ∙ redo-refused _ _ _ (c .before .before .move-no .ensures) (c .before .if1 .taken), search needs)
+returns c = (leaves-refused _ _ _ _ _ _ _ _ _ _ _ (c .refused .ensures) ∙ redo-refused _ _ _ (c .before .before .move-no .ensures) (c .before .if1 .taken), search needs)
 
 still-requires : tie.Need-still-requires
 still-requires c κs = search needs
-
-same-length-4 : tie.Need-same-length-4
-same-length-4 c = search needs
 
 same-length-5 : tie.Need-same-length-5
 same-length-5 c = search needs
@@ -36,29 +36,20 @@ same-length-5 c = search needs
 same-length-6 : tie.Need-same-length-6
 same-length-6 c = search needs
 
-returns-2 : tie.Need-returns-2
-returns-2 c = (leaves-still _ _ _ _ _ _ _ _ _ (c .still .ensures) ∙ redo-still _ _ (c .before .before .before .before .move-no .ensures) (c .before .before .before .if1 .left) _ (c .before .if2 .taken), search needs)
-
-refused-requires-2 : tie.Need-refused-requires-2
-refused-requires-2 c κs = search needs
-
 same-length-7 : tie.Need-same-length-7
 same-length-7 c = search needs
 
 same-length-8 : tie.Need-same-length-8
 same-length-8 c = search needs
 
+returns-2 : tie.Need-returns-2
+returns-2 c = (leaves-still _ _ _ _ _ _ _ _ _ _ (c .still .ensures) ∙ redo-still _ _ (c .before .before .before .before .move-no .ensures) (c .before .before .before .if1 .left) _ (c .before .if2 .taken), search needs)
+
+refused-requires-2 : tie.Need-refused-requires-2
+refused-requires-2 c κs = search needs
+
 same-length-9 : tie.Need-same-length-9
 same-length-9 c = search needs
-
-returns-3 : tie.Need-returns-3
-returns-3 c = (leaves-refused _ _ _ _ _ _ _ _ _ _ (c .refused2 .ensures) ∙ redo-scratch _ _ (c .before .before .before .before .before .move-no .ensures) (c .before .before .before .before .if1 .left) _ (c .before .before .if2 .left) (c .before .if3 .taken), search needs)
-
-find-forth-requires : tie.Need-find-forth-requires
-find-forth-requires c κs = used-inside _ (c .before .before .before .before .move-no .ensures .fine (c .before .before .before .if1 .left))
-
-redo-found-requires : tie.Need-redo-found-requires
-redo-found-requires c κs = (c .before .before .before .before .before .before .before .before .before .move-no .ensures .fine (c .before .before .before .before .before .before .before .before .if1 .left), ((not-last _ (c .before .before .before .before .before .before .before .before .before .move-no .ensures .fine (c .before .before .before .before .before .before .before .before .if1 .left)) (c .before .before .before .before .before .before .if2 .left), c .before .before .before .before .before .if3 .left), c .before .before .before .before .find-forth .ensures))
 
 same-length-10 : tie.Need-same-length-10
 same-length-10 c = search needs
@@ -69,11 +60,32 @@ same-length-11 c = search needs
 same-length-12 : tie.Need-same-length-12
 same-length-12 c = search needs
 
+returns-3 : tie.Need-returns-3
+returns-3 c = (leaves-refused _ _ _ _ _ _ _ _ _ _ _ (c .refused2 .ensures) ∙ redo-scratch _ _ (c .before .before .before .before .before .move-no .ensures) (c .before .before .before .before .if1 .left) _ (c .before .before .if2 .left) (c .before .if3 .taken), search needs)
+
+find-forth-requires : tie.Need-find-forth-requires
+find-forth-requires c κs = used-inside _ (c .before .before .before .before .move-no .ensures .fine (c .before .before .before .if1 .left))
+
+redo-found-requires : tie.Need-redo-found-requires
+redo-found-requires c κs = (c .before .before .before .before .before .before .before .before .before .before .move-no .ensures .fine (c .before .before .before .before .before .before .before .before .before .if1 .left), ((not-last _ (c .before .before .before .before .before .before .before .before .before .before .move-no .ensures .fine (c .before .before .before .before .before .before .before .before .before .if1 .left)) (c .before .before .before .before .before .before .before .if2 .left), c .before .before .before .before .before .before .if3 .left), c .before .before .before .before .before .find-forth .ensures))
+
 same-length-13 : tie.Need-same-length-13
 same-length-13 c = search needs
 
+same-length-14 : tie.Need-same-length-14
+same-length-14 c = search needs
+
+same-length-15 : tie.Need-same-length-15
+same-length-15 c = search needs
+
+same-length-16 : tie.Need-same-length-16
+same-length-16 c = search needs
+
+same-length-17 : tie.Need-same-length-17
+same-length-17 c = search needs
+
 returns-4 : tie.Need-returns-4
-returns-4 c = (c .before .before .before .before .before .before .before .redo-found .ensures ∙ redo-over _ _ (c .before .before .before .before .before .before .before .before .before .before .before .before .before .before .before .before .before .move-no .ensures) (c .before .before .before .before .before .before .before .before .before .before .before .before .before .before .before .before .if1 .left) _ (c .before .before .before .before .before .before .before .before .before .before .before .before .before .before .if2 .left) (c .before .before .before .before .before .before .before .before .before .before .before .before .before .if3 .left), search needs)
+returns-4 c = (c .before .before .before .before .before .before .before .before .before .redo-found .ensures ∙ redo-over _ _ (c .before .before .before .before .before .before .before .before .before .before .before .before .before .before .before .before .before .before .before .before .move-no .ensures) (c .before .before .before .before .before .before .before .before .before .before .before .before .before .before .before .before .before .before .before .if1 .left) _ (c .before .before .before .before .before .before .before .before .before .before .before .before .before .before .before .before .before .if2 .left) (c .before .before .before .before .before .before .before .before .before .before .before .before .before .before .before .before .if3 .left), search needs)
 
 pub redo-spec : {M : Type 1} → statement M
 redo-spec =
@@ -84,21 +96,25 @@ redo-spec =
     same-length
     same-length-2
     same-length-3
+    same-length-4
     returns
     still-requires
-    same-length-4
     same-length-5
     same-length-6
-    returns-2
-    refused-requires-2
     same-length-7
     same-length-8
+    returns-2
+    refused-requires-2
     same-length-9
-    returns-3
-    find-forth-requires
-    redo-found-requires
     same-length-10
     same-length-11
     same-length-12
+    returns-3
+    find-forth-requires
+    redo-found-requires
     same-length-13
+    same-length-14
+    same-length-15
+    same-length-16
+    same-length-17
     returns-4)

@@ -11,7 +11,7 @@ enum-known-found : tie.Need-enum-known-found
 enum-known-found c = search needs
 
 undo-at-requires : tie.Need-undo-at-requires
-undo-at-requires c κs = (c .before .before .before .before .before .before .before .before .before .pre .0, (c .before .before .before .before .before .before .before .before .before .pre .1 .0, sym (c .before .before .before .before .before .before .before .before .before .pre .1 .1) ∙ c .before .before .before .before .found .given .1))
+undo-at-requires c κs = (c .before .before .before .before .before .before .before .before .before .before .before .pre .0, (c .before .before .before .before .before .before .before .before .before .before .before .pre .1 .0, sym (c .before .before .before .before .before .before .before .before .before .before .before .pre .1 .1) ∙ c .before .before .before .before .before .found .given .1))
 
 enum-told : tie.Need-enum-told
 enum-told c = search needs
@@ -28,11 +28,14 @@ same-length-2 c = search needs
 same-length-3 : tie.Need-same-length-3
 same-length-3 c = search needs
 
+same-length-4 : tie.Need-same-length-4
+same-length-4 c = search needs
+
 returns : tie.Need-returns
-returns c = c .before .before .before .before .before .undo-at .ensures
+returns c = c .before .before .before .before .before .before .before .undo-at .ensures
 
 returns-2 : tie.Need-returns-2
-returns-2 c = leaves-refused _ _ _ _ _ _ _ _ _ _ (c .refused .ensures) ∙ step-none (back (c .before .before .before .before .before .before .pre .0)) (sym (c .before .before .before .before .before .before .pre .1 .1) ∙ c .before .enum-told .given .1)
+returns-2 c = leaves-refused _ _ _ _ _ _ _ _ _ _ _ (c .refused .ensures) ∙ step-none (back (c .before .before .before .before .before .before .before .pre .0)) (sym (c .before .before .before .before .before .before .before .pre .1 .1) ∙ c .before .enum-told .given .1)
 
 pub undo-found-spec : {M : Type 1} → statement M
 undo-found-spec =
@@ -45,5 +48,6 @@ undo-found-spec =
     same-length
     same-length-2
     same-length-3
+    same-length-4
     returns
     returns-2)

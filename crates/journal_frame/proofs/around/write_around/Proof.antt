@@ -33,6 +33,13 @@ around-remove-requires : tie.Need-around-remove-requires
 unfolding recordLength Framed
 around-remove-requires c κs = rw (c .before .before .edit4 .given .1) at (c .before .before .before .before .before .pre)
 
+enum-known-edit-5 : tie.Need-enum-known-edit-5
+enum-known-edit-5 c = search needs
+
+write-lock-requires : tie.Need-write-lock-requires
+unfolding recordLength Framed
+write-lock-requires c κs = let h = rw (c .before .before .edit5 .given .1) at (c .before .before .before .before .before .pre) in (h .0, h .1 .1)
+
 same-length : tie.Need-same-length
 same-length c = search needs
 
@@ -59,6 +66,13 @@ same-length-4 c = search needs
 returns-4 : tie.Need-returns-4
 returns-4 c = rw (c .before .before .before .before .before .edit4 .given .1) (c .before .before .around-remove .ensures)
 
+same-length-5 : tie.Need-same-length-5
+same-length-5 c = search needs
+
+returns-5 : tie.Need-returns-5
+unfolding around
+returns-5 c = rw (c .before .before .before .before .before .edit5 .given .1) (c .before .before .write-lock .ensures)
+
 pub write-around-spec : {M : Type 1} → statement M
 write-around-spec =
     tie.close
@@ -71,6 +85,8 @@ write-around-spec =
     write-add-requires
     enum-known-edit-4
     around-remove-requires
+    enum-known-edit-5
+    write-lock-requires
     same-length
     returns
     same-length-2
@@ -78,4 +94,6 @@ write-around-spec =
     same-length-3
     returns-3
     same-length-4
-    returns-4)
+    returns-4
+    same-length-5
+    returns-5)

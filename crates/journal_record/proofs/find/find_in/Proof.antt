@@ -1,6 +1,6 @@
 -- `find::find_in` meets its contract: by kinds, in the order of the definition. Assumes nothing.
 use mathlib.Core.Path.{_∙_}
-use Rattle.journal_record.proofs.Finding.{found-none, found-pixels, found-set, found-add, found-remove, found-other}
+use Rattle.journal_record.proofs.Finding.{found-none, found-pixels, found-set, found-add, found-remove, found-lock, found-other}
 use borrow.Author.Needs.{needs}
 use Rattle.journal_record.proofs.find.find_in.Statement.{statement}
 use Rattle.journal_record.proofs.find.find_in.Tie as tie
@@ -35,8 +35,15 @@ counted-requires-2 c κs = search needs
 returns-5 : tie.Need-returns-5
 returns-5 c = c .counted2 .ensures ∙ found-remove _ _ (c .before .if5 .taken)
 
+locked-requires : tie.Need-locked-requires
+locked-requires c κs = search needs
+
 returns-6 : tie.Need-returns-6
-returns-6 c = found-other _ _ (c .before .before .before .if2 .left) (c .before .before .if3 .left) (c .before .if4 .left) (c .if5 .left)
+returns-6 c = c .locked .ensures ∙ found-lock _ _ (c .before .if6 .taken)
+
+returns-7 : tie.Need-returns-7
+returns-7 c =
+    found-other _ _ (c .before .before .before .before .if2 .left) (c .before .before .before .if3 .left) (c .before .before .if4 .left) (c .before .if5 .left) (c .if6 .left)
 
 pub find-in-spec : {M : Type 1} → statement M
 find-in-spec =
@@ -52,4 +59,6 @@ find-in-spec =
     returns-4
     counted-requires-2
     returns-5
-    returns-6)
+    locked-requires
+    returns-6
+    returns-7)

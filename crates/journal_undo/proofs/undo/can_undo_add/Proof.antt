@@ -3,13 +3,14 @@ use borrow.Author.Needs.{needs}
 use native.Mathlib.Omega.{arith}
 use borrow.Author.Tests.{lt-ltb, le-ltb}
 use Rattle.edit.specs.Apply.{reverted, canRevert}
+use Rattle.edit.specs.Locks.{bears}
 use Rattle.journal_read.specs.Sound.{undoable}
 use Rattle.journal_undo.proofs.undo.can_undo_add.Statement.{statement}
 use Rattle.journal_undo.proofs.undo.can_undo_add.Tie as tie
 
 returns : tie.Need-returns
-unfolding undoable canRevert
-returns c colour = rw (le-ltb 0 (c .before .before .before .args .k) (omega (arith, c .if1 .taken)))
+unfolding undoable canRevert bears
+returns c locks colour = rw (le-ltb 0 (c .before .before .before .args .k) (omega (arith, c .if1 .taken)))
 
 sub-check : tie.Need-sub-check
 sub-check c = search needs
@@ -18,8 +19,8 @@ check-requires : tie.Need-check-requires
 check-requires c κs = search needs
 
 returns-2 : tie.Need-returns-2
-unfolding undoable canRevert reverted
-returns-2 c colour = rw (lt-ltb 0 (c .before .before .before .before .args .k) (omega (arith, c .before .if1 .left)), ← c .check .ensures .value)
+unfolding undoable canRevert bears reverted
+returns-2 c locks colour = rw (lt-ltb 0 (c .before .before .before .before .args .k) (omega (arith, c .before .if1 .left)), ← c .check .ensures .value)
 
 pub can-undo-add-spec : {M : Type 1} → statement M
 can-undo-add-spec = tie.close (tie.spec returns sub-check check-requires returns-2)

@@ -1,6 +1,6 @@
 -- `add_color`: 1 to 3, 8, 10. Assumes nothing.
 use mathlib.Core.Path.{_≡_}
-use mathlib.Core.List.{List, _++_}
+use mathlib.Core.List.{List, [], _++_}
 use borrow.Author.Tests.{le-leb, lt-leb}
 use borrow.Author.Needs.{needs}
 use Rattle.base.specs.Checks.{Check, firstOf, refusedOr}
@@ -16,11 +16,11 @@ opened-no-requires c κs = search needs
 
 returns : tie.Need-returns
 unfolding addColorOf
-returns c = refused-opened _ _ _ _ _ _ (c .before .opened-no .ensures) (c .if1 .taken)
+returns c = refused-opened _ _ _ _ _ _ _ _ (c .before .opened-no .ensures) (c .if1 .taken)
 
 -- past the first test a call's own checks are left
-past : (c : tie.Else1) → let a = c .before .before .before .before .before .args in (ds : List Check) → firstOf (paletteChecks (sheetOf (a .w) (a .h) (a .k) (a .palette .now) (a .lab .now) (a .indices .now)) (permittedOf (a .limited) (a .permitted .now)) ++ ds) ≡ firstOf ds
-past c = past-opened _ _ _ (c .before .opened-no .ensures) (c .if1 .left)
+past : (c : tie.Else1) → let a = c .before .before .before .before .before .args in (ds : List Check) → firstOf (paletteChecks [] (sheetOf (a .w) (a .h) (a .k) (a .palette .now) (a .lab .now) (a .indices .now)) (permittedOf (a .limited) (a .permitted .now)) ++ ds) ≡ firstOf ds
+past c = past-opened _ _ _ _ _ (c .before .opened-no .ensures) (c .if1 .left)
 
 returns-2 : tie.Need-returns-2
 unfolding addColorOf firstOf refusedOr

@@ -1,6 +1,6 @@
 -- `merge`: what `merge_entries` answers decides. Assumes nothing.
 use Rattle.panel_calls.proofs.Merging.{merge-made, merge-refused, merge-room}
-use Rattle.sheet.specs.Sheet.{sheetOf}
+use Rattle.history_model.specs.Document.{documentOf}
 use Rattle.history_model.specs.Calls.{stateOf}
 use Rattle.history_model.proofs.Answers.{leaves-refused}
 use native.Mathlib.Omega.{arith}
@@ -17,11 +17,11 @@ enum-known-made c = search needs
 
 push-edit-requires : tie.Need-push-edit-requires
 push-edit-requires c κs =
-    let at-made = c .before .before .before .before .before .before .before in
+    let at-made = c .before .before .before .before .before .before .before .before in
     let at-merge-entries = at-made .before .before .before .before in
-    let start = at-merge-entries .before .before .before .before .before .before .before .before .before .before in
+    let start = at-merge-entries .before .before .before .before .before .before .before .before .before .before .before .before in
     let a = start .args in
-    (omega (arith, merge-room (stateOf (sheetOf (a .w) (a .h) (a .k) (a .palette .now) (a .lab .now) (a .indices .now)) (a .journal .now) (a .handle)) (a .from) (a .into) (a .list .now) (start .pre .0) _ _ _ (rw (at-made .made .given .1) at (at-merge-entries .merge-entries .ensures)), at-merge-entries .merge-entries .kept .1 .1 .1 .1 .1 .1 .1 .1 .0), search needs)
+    (omega (arith, merge-room (stateOf (documentOf (a .w) (a .h) (a .k) (a .palette .now) (a .lab .now) (a .indices .now) (a .locks .now)) (a .journal .now) (a .handle)) (a .from) (a .into) (a .list .now) (start .pre .0) _ _ _ (rw (at-made .made .given .1) at (at-merge-entries .merge-entries .ensures)), at-merge-entries .merge-entries .kept .1 .1 .1 .1 .1 .1 .1 .1 .1 .0), search needs)
 
 enum-known-made-2 : tie.Need-enum-known-made-2
 enum-known-made-2 c = search needs
@@ -47,17 +47,17 @@ same-length-5 c = search needs
 same-length-6 : tie.Need-same-length-6
 same-length-6 c = search needs
 
-returns : tie.Need-returns
-returns c =
-    let at-push-edit = c .before .before .before .before .before .before .before .before .before in
-    let at-made = at-push-edit .before .before .before .before .before .before .before .before in
-    let at-merge-entries = at-made .before .before .before .before in
-    let start = at-merge-entries .before .before .before .before .before .before .before .before .before .before in
-    let a = start .args in
-    at-push-edit .push-edit .ensures ∙ merge-made (stateOf (sheetOf (a .w) (a .h) (a .k) (a .palette .now) (a .lab .now) (a .indices .now)) (a .journal .now) (a .handle)) (a .from) (a .into) (a .list .now) (start .pre .0) _ _ _ (rw (at-made .made .given .1) at (at-merge-entries .merge-entries .ensures))
-
 same-length-7 : tie.Need-same-length-7
 same-length-7 c = search needs
+
+returns : tie.Need-returns
+returns c =
+    let at-push-edit = c .before .before .before .before .before .before .before .before .before .before .before in
+    let at-made = at-push-edit .before .before .before .before .before .before .before .before .before in
+    let at-merge-entries = at-made .before .before .before .before in
+    let start = at-merge-entries .before .before .before .before .before .before .before .before .before .before .before .before in
+    let a = start .args in
+    at-push-edit .push-edit .ensures ∙ merge-made (stateOf (documentOf (a .w) (a .h) (a .k) (a .palette .now) (a .lab .now) (a .indices .now) (a .locks .now)) (a .journal .now) (a .handle)) (a .from) (a .into) (a .list .now) (start .pre .0) _ _ _ (rw (at-made .made .given .1) at (at-merge-entries .merge-entries .ensures))
 
 same-length-8 : tie.Need-same-length-8
 same-length-8 c = search needs
@@ -68,13 +68,19 @@ same-length-9 c = search needs
 same-length-10 : tie.Need-same-length-10
 same-length-10 c = search needs
 
+same-length-11 : tie.Need-same-length-11
+same-length-11 c = search needs
+
+same-length-12 : tie.Need-same-length-12
+same-length-12 c = search needs
+
 returns-2 : tie.Need-returns-2
 returns-2 c =
     let at-made2 = c .before .before in
     let at-merge-entries = at-made2 .before .before .before .before in
-    let start = at-merge-entries .before .before .before .before .before .before .before .before .before .before in
+    let start = at-merge-entries .before .before .before .before .before .before .before .before .before .before .before .before in
     let a = start .args in
-    leaves-refused _ _ _ _ _ _ _ _ _ _ (c .refused .ensures) ∙ merge-refused (stateOf (sheetOf (a .w) (a .h) (a .k) (a .palette .now) (a .lab .now) (a .indices .now)) (a .journal .now) (a .handle)) (a .from) (a .into) (a .list .now) (start .pre .0) _ _ (rw (at-made2 .made2 .given .1) at (at-merge-entries .merge-entries .ensures))
+    leaves-refused _ _ _ _ _ _ _ _ _ _ _ (c .refused .ensures) ∙ merge-refused (stateOf (documentOf (a .w) (a .h) (a .k) (a .palette .now) (a .lab .now) (a .indices .now) (a .locks .now)) (a .journal .now) (a .handle)) (a .from) (a .into) (a .list .now) (start .pre .0) _ _ (rw (at-made2 .made2 .given .1) at (at-merge-entries .merge-entries .ensures))
 
 pub merge-spec : {M : Type 1} → statement M
 merge-spec =
@@ -91,9 +97,11 @@ merge-spec =
     same-length-4
     same-length-5
     same-length-6
-    returns
     same-length-7
+    returns
     same-length-8
     same-length-9
     same-length-10
+    same-length-11
+    same-length-12
     returns-2)

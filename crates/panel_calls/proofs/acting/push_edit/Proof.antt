@@ -10,7 +10,7 @@ slice-aggregate-push c = search needs
 
 slice-aggregate-push-2 : tie.Need-slice-aggregate-push-2
 slice-aggregate-push-2 c =
-    let start = c .before .before .before .before .before .before .before .before .before .before in
+    let start = c .before .before .before .before .before .before .before .before .before .before .before .before in
     sym (length-take-le _ _ (start .pre .0))
 
 push-requires : tie.Need-push-requires
@@ -31,10 +31,13 @@ same-length-4 c = search needs
 same-length-5 : tie.Need-same-length-5
 same-length-5 c = search needs
 
+same-length-6 : tie.Need-same-length-6
+same-length-6 c = search needs
+
 returns : tie.Need-returns
 returns c =
-    let at-push = c .before .before .before .before .before .before .before .before .before in
-    let start = at-push .before .before .before .before .before .before .before .before .before .before .before .before .before in
+    let at-push = c .before .before .before .before .before .before .before .before .before .before .before in
+    let start = at-push .before .before .before .before .before .before .before .before .before .before .before .before .before .before .before in
     rw (start .pre .1) at (at-push .push .ensures .0)
 
 pub push-edit-spec : {M : Type 1} → statement M
@@ -49,4 +52,5 @@ push-edit-spec =
     same-length-3
     same-length-4
     same-length-5
+    same-length-6
     returns)

@@ -28,11 +28,14 @@ same-length-5 c = search needs
 same-length-6 : tie.Need-same-length-6
 same-length-6 c = search needs
 
+same-length-7 : tie.Need-same-length-7
+same-length-7 c = search needs
+
 returns : tie.Need-returns
 returns c =
-    let at-push-edit = c .before .before .before .before .before .before .before .before .before in
-    let at-take-changes = at-push-edit .before .before .before .before .before .before .before .before .before in
-    let start = at-take-changes .before .before .before .before .before .before .before .before in
+    let at-push-edit = c .before .before .before .before .before .before .before .before .before .before .before in
+    let at-take-changes = at-push-edit .before .before .before .before .before .before .before .before .before .before in
+    let start = at-take-changes .before .before .before .before .before .before .before .before .before in
     rw (changes-front (start .args .bytes .now) (start .args .n) (start .args .list .now) (at-take-changes .take-changes .last .1 .1 .0) (at-take-changes .take-changes .ensures)) at (at-push-edit .push-edit .ensures)
 
 pub push-pixels-spec : {M : Type 1} → statement M
@@ -47,4 +50,5 @@ push-pixels-spec =
     same-length-4
     same-length-5
     same-length-6
+    same-length-7
     returns)

@@ -14,8 +14,8 @@ enum-known-frame c = search needs
 open-sheet-requires : tie.Need-open-sheet-requires
 unfolding sizeOf
 open-sheet-requires c κs =
-    let at-frame = c .before .before .before .before .before .before in
-    let start = at-frame .before .before .before .before .before .before .before in
+    let at-frame = c .before .before .before .before .before .before .before in
+    let start = at-frame .before .before .before .before .before .before .before .before in
     (start .pre .0, (start .pre .1 .0, (rw (at-frame .frame .given .1) at (start .pre .1 .1 .0), start .pre .1 .1 .1)))
 
 number-requires : tie.Need-number-requires
@@ -36,23 +36,26 @@ same-length-4 c = search needs
 same-length-5 : tie.Need-same-length-5
 same-length-5 c = search needs
 
+same-length-6 : tie.Need-same-length-6
+same-length-6 c = search needs
+
 returns : tie.Need-returns
 unfolding unopenedOf sheetIn
 returns c =
-    let at-open-sheet = c .before .before .before .before .before .before .before .before .before in
-    let at-frame = at-open-sheet .before .before .before .before .before .before .before in
+    let at-open-sheet = c .before .before .before .before .before .before .before .before .before .before .before in
+    let at-frame = at-open-sheet .before .before .before .before .before .before .before .before in
     rw (at-frame .frame .given .1) (at-open-sheet .open-sheet .ensures)
 
-same-length-6 : tie.Need-same-length-6
-same-length-6 c = search needs
+same-length-7 : tie.Need-same-length-7
+same-length-7 c = search needs
 
 returns-2 : tie.Need-returns-2
 returns-2 c =
     let at-number = c .before .before in
     let at-match = at-number .before .before in
-    let start = at-match .before .before .before .before .before .before in
+    let start = at-match .before .before .before .before .before .before .before in
     let a = start .args in
-    told-failed _ _ _ _ _ _ _ _ _ _ _ (at-number .number .ensures) (start .pre .0) (unopened-call (a .frame) (a .bytes .now) (at-match .match .keys2)) (start .pre .1 .0 .small)
+    told-failed _ _ _ _ _ _ _ _ _ _ _ _ (at-number .number .ensures) (start .pre .0) (unopened-call (a .frame) (a .bytes .now) (at-match .match .keys2)) (start .pre .1 .0 .small)
 
 pub unopened-spec : {M : Type 1} → statement M
 unopened-spec =
@@ -66,6 +69,7 @@ unopened-spec =
     same-length-3
     same-length-4
     same-length-5
-    returns
     same-length-6
+    returns
+    same-length-7
     returns-2)

@@ -1,21 +1,35 @@
--- `with_lab`: what `check` finds. Assumes nothing.
-use mathlib.Core.Path.{sym, _∙_}
+-- `with_lab`: what `check_marked` finds, then the marks. Assumes nothing.
+use native.Mathlib.Omega.{arith}
 use borrow.Author.Needs.{needs}
-use Rattle.base.proofs.First.{refused-first, result-first}
-use Rattle.sheet.specs.Document.{withLabOf}
+use Rattle.sheet.proofs.Answers.{lab-refused, lab-done}
 use Rattle.sheet.proofs.document.with_lab.Statement.{statement}
 use Rattle.sheet.proofs.document.with_lab.Tie as tie
 
-check-requires : tie.Need-check-requires
-check-requires c κs = search needs
+check-marked-requires : tie.Need-check-marked-requires
+check-marked-requires c κs = search needs
+
+same-length : tie.Need-same-length
+same-length c = search needs
 
 returns : tie.Need-returns
-unfolding withLabOf
-returns c = refused-first _ _ _ _ (c .before .check .ensures .value) (c .if1 .taken)
+returns c = lab-refused _ _ _ (c .before .check-marked .ensures) (c .if1 .taken)
+
+clear-locks-requires : tie.Need-clear-locks-requires
+clear-locks-requires c κs = let m = c .before .before .check-marked .ensures .fine (c .before .if1 .left) in omega (arith, m .marks, m .formed .limits .k-small)
+
+same-length-2 : tie.Need-same-length-2
+same-length-2 c = search needs
 
 returns-2 : tie.Need-returns-2
-unfolding withLabOf
-returns-2 c = result-first _ _ _ (sym (c .before .check .ensures .value) ∙ c .if1 .left)
+returns-2 c = lab-done _ _ _ (c .before .before .before .before .before .check-marked .ensures) (c .before .before .before .before .if1 .left) _ (c .before .before .clear-locks .ensures)
 
 pub with-lab-spec : {M : Type 1} → statement M
-with-lab-spec = tie.close (tie.spec check-requires returns returns-2)
+with-lab-spec =
+    tie.close
+    (tie.spec
+    check-marked-requires
+    same-length
+    returns
+    clear-locks-requires
+    same-length-2
+    returns-2)

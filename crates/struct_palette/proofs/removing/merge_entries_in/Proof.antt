@@ -30,9 +30,9 @@ same-length c = search needs
 
 returns : tie.Need-returns
 returns c =
-    let a = c .before .before .before .before .before .before .before .before .before .args in
-    let s = sheet (c .before .before .before .before .before .before .before .before .before) in
-    short-remap _ opCount (λ n. refl) (λ o. refl) _ _ _ _ _ _ (merge-is s (a .from) (a .into)) _ (c .before .before .before .before .before .if1 .taken) (c .before .before .before .merge-entries .ensures) (c .no-removal .ensures)
+    let a = c .before .before .before .before .before .before .before .before .before .before .args in
+    let s = sheet (c .before .before .before .before .before .before .before .before .before .before) in
+    short-remap _ opCount (λ n. refl) (λ o. refl) _ _ _ _ _ _ (merge-is s (a .locks .now) (a .from) (a .into)) _ (c .before .before .before .before .before .if1 .taken) (c .before .before .before .merge-entries .ensures) (c .no-removal .ensures)
 
 min-usize-requires : tie.Need-min-usize-requires
 min-usize-requires c κs = search needs
@@ -51,9 +51,9 @@ same-length-2 c = search needs
 
 returns-2 : tie.Need-returns-2
 returns-2 c =
-    let a = c .before .before .before .before .before .before .before .before .before .args in
-    let s = sheet (c .before .before .before .before .before .before .before .before .before) in
-    remap-in _ opCount (λ n. refl) (λ o. refl) _ _ _ _ _ _ (merge-is s (a .from) (a .into)) _ (a .scratch .now) _ _ (c .before .before .before .before .before .if1 .left) refl (c .before .before .before .before .min-usize .ensures) (c .before .before .merge-entries2 .ensures)
+    let a = c .before .before .before .before .before .before .before .before .before .before .args in
+    let s = sheet (c .before .before .before .before .before .before .before .before .before .before) in
+    remap-in _ opCount (λ n. refl) (λ o. refl) _ _ _ _ _ _ (merge-is s (a .locks .now) (a .from) (a .into)) _ (a .scratch .now) _ _ (c .before .before .before .before .before .if1 .left) refl (c .before .before .before .before .min-usize .ensures) (c .before .before .merge-entries2 .ensures)
 
 pub merge-entries-in-spec : {M : Type 1} → statement M
 merge-entries-in-spec =

@@ -30,9 +30,9 @@ same-length c = search needs
 
 returns : tie.Need-returns
 returns c =
-    let a = c .before .before .before .before .before .before .before .before .before .args in
-    let s = sheet (c .before .before .before .before .before .before .before .before .before) in
-    short-remap _ replacementCount (λ n. refl) (λ o. refl) _ _ _ _ _ _ (remove-is s (a .index)) _ (c .before .before .before .before .before .if1 .taken) (c .before .before .before .remove-entry .ensures) (c .none-removed .ensures)
+    let a = c .before .before .before .before .before .before .before .before .before .before .args in
+    let s = sheet (c .before .before .before .before .before .before .before .before .before .before) in
+    short-remap _ replacementCount (λ n. refl) (λ o. refl) _ _ _ _ _ _ (remove-is s (a .locks .now) (a .index)) _ (c .before .before .before .before .before .if1 .taken) (c .before .before .before .remove-entry .ensures) (c .none-removed .ensures)
 
 min-usize-requires : tie.Need-min-usize-requires
 min-usize-requires c κs = search needs
@@ -51,9 +51,9 @@ same-length-2 c = search needs
 
 returns-2 : tie.Need-returns-2
 returns-2 c =
-    let a = c .before .before .before .before .before .before .before .before .before .args in
-    let s = sheet (c .before .before .before .before .before .before .before .before .before) in
-    remap-in _ replacementCount (λ n. refl) (λ o. refl) _ _ _ _ _ _ (remove-is s (a .index)) _ (a .scratch .now) _ _ (c .before .before .before .before .before .if1 .left) refl (c .before .before .before .before .min-usize .ensures) (c .before .before .remove-entry2 .ensures)
+    let a = c .before .before .before .before .before .before .before .before .before .before .args in
+    let s = sheet (c .before .before .before .before .before .before .before .before .before .before) in
+    remap-in _ replacementCount (λ n. refl) (λ o. refl) _ _ _ _ _ _ (remove-is s (a .locks .now) (a .index)) _ (a .scratch .now) _ _ (c .before .before .before .before .before .if1 .left) refl (c .before .before .before .before .min-usize .ensures) (c .before .before .remove-entry2 .ensures)
 
 pub remove-entry-in-spec : {M : Type 1} → statement M
 remove-entry-in-spec =
