@@ -124,7 +124,7 @@ fn main() {
     let rgb: Vec<u8> = (0..MANY as u32).flat_map(colour).collect();
     one_colour_rows(&rgb);
     let (lab, colours) = bulk_rows(&rgb);
-    sheets::new_row();
+    sheets::opening_rows();
     let roots = root_row();
     for k in [16, 64, 255] {
         search_rows(k, &lab);

@@ -1,9 +1,35 @@
-//! A stand-in for the crate `libm` that color.rs names: document 01's rules for pow and cbrt.
+//! A stand-in for the crate `libm` that color.rs names: document 01's rules for pow and cbrt, and the curve of the
+//! moment.
 //!
 //! Both answer the double nearest to an exact value. The platform's function only gives a place to start
 //! from: whole numbers decide, and step to the next double until the answer is right.
 
+use std::cell::RefCell;
 use std::cmp::Ordering;
+
+thread_local! {
+    static CURVE: RefCell<Option<Vec<f64>>> = const { RefCell::new(None) };
+}
+
+/// What `rust` answers where a maker's own curve is loaded (document 02, E6), one value a byte, or where none is.
+pub fn under<T>(curve: Option<&[f64]>, rust: impl FnOnce() -> T) -> T {
+    let before = CURVE.replace(curve.map(<[f64]>::to_vec));
+    let answer = rust();
+    CURVE.set(before);
+    answer
+}
+
+/// The loaded curve's value of a byte, given as c/255 in doubles; none where no curve is loaded.
+pub fn of_curve(unit: f64) -> Option<f64> {
+    CURVE.with_borrow(|curve| {
+        let c = (255.0 * unit).round();
+        assert!(
+            (0.0..=255.0).contains(&c) && c / 255.0 == unit,
+            "of_curve: not a byte"
+        );
+        curve.as_ref().map(|values| values[c as usize])
+    })
+}
 
 /// x to the 2.4 for the arguments that the sRGB curve has: x is (c/255 + 0.055)/1.055 in doubles, for a byte c
 /// from 11 on, and stands for n/10761 with n = 40c + 561. The answer is the double nearest to (n/10761)^(12/5).

@@ -3,7 +3,9 @@
 //! Ours makes checks 1 to 3 in every call, and writes where its caller says; the Rust checks when a document is
 //! made, and answers in a new Vec. An index has two bytes in ours and eight in the Rust.
 
-use crate::calls::{call_check, call_counts, call_diff_mask, call_new};
+use crate::calls::{
+    call_check, call_counts, call_diff_mask, call_linear, call_load_curve, call_new,
+};
 use crate::{colour, differing, row, timed, Side, STORAGE};
 use pixelforge::config::Config;
 use pixelforge::editor::{Document, Origin};
@@ -13,7 +15,7 @@ use std::hint::black_box;
 
 /// A round makes so many calls that they go over so many pixels.
 const PIXELS: usize = 1 << 22;
-/// A round makes so many calls of `new`.
+/// A round makes so many calls of `new` or `load_curve`.
 const NEWS: usize = 100;
 pub const ENTRIES: usize = STORAGE / 3;
 
@@ -60,6 +62,20 @@ impl Sheet {
             &mut self.lab,
             &self.indices,
             &mut self.locks,
+        )
+    }
+
+    /// Loads sRGB's own values as a curve, on a history with no records.
+    fn load_curve(&mut self, values: &[f64]) -> u8 {
+        call_load_curve(
+            self.side,
+            self.side,
+            &self.palette,
+            &mut self.lab,
+            &self.indices,
+            &[],
+            &[self.k, 0, 0, 0, 0, 0],
+            values,
         )
     }
 
@@ -255,8 +271,22 @@ fn diff_row(side: usize, picture_name: &str, picture: Picture) {
     assert!(mask == theirs, "{name}: not the Rust's mask");
 }
 
-/// A row of the driver's first table: `new` on a small sheet beside color.rs's conversion of as many colours in one call.
-pub fn new_row() {
+/// sRGB's values as a maker's own curve: the LAB by them is that of the exact build.
+pub fn srgb_curve() -> Vec<f64> {
+    (0..=255).map(call_linear).collect()
+}
+
+/// Rows of the driver's first table: `new` and `load_curve` on a small sheet.
+pub fn opening_rows() {
+    let values = srgb_curve();
+    opening_row("LAB of 255 a call; ours is new, 8 × 8", |s| s.new());
+    opening_row("LAB of 255; ours is load_curve, 8 × 8", |s| {
+        s.load_curve(&values)
+    });
+}
+
+/// A call of ours on all entries beside color.rs's conversion of as many colours in one call.
+fn opening_row(name: &str, call: impl Fn(&mut Sheet) -> u8) {
     let mut sheet = Sheet::of(8, ENTRIES, random);
     let colours = sheet.palette.clone();
     let exact = sheet.lab.clone();
@@ -265,7 +295,7 @@ pub fn new_row() {
     let ns = timed([
         Side(NEWS * ENTRIES, &mut || {
             for _ in 0..NEWS {
-                number = sheet.new();
+                number = call(&mut sheet);
             }
         }),
         Side(NEWS * ENTRIES, &mut || {
@@ -279,7 +309,6 @@ pub fn new_row() {
             }
         }),
     ]);
-    let name = "LAB of 255 a call; ours is new, 8 × 8";
     row(name, ns);
     assert_eq!(number, 0, "{name}");
     assert_eq!(

@@ -296,7 +296,7 @@ fn snap() {
         row(
             &name,
             &mut [
-                &mut || assert_eq!(calls::call_snap_rgba(s.side, s.side, s.k, &s.palette, &s.lab, &s.indices, &rgba, 256, 256, &mut out, &mut r), 0),
+                &mut || assert_eq!(calls::call_snap_rgba(s.side, s.side, s.k, &s.palette, &s.lab, &s.indices, false, &[], &rgba, 256, 256, &mut out, &mut r), 0),
                 &mut || {
                     assert!(black_box(stray(black_box(&document))).is_none());
                     black_box(tools::snap_rgba(black_box(&document), &rgba, 256, 256));

@@ -91,7 +91,7 @@ ours! {
     call_paste(sheet, clip_w: usize, clip_h: usize, clip: [i16], x: i32, y: i32, scratch: mut [u64], out: mut [u64], placed: &mut [u16; 4], r: R,) -> u8;
     call_copy(sheet, whole: bool, s: S, out: mut [i16], r: R,) -> u8;
     call_clip_rgba(sheet, clip_w: usize, clip_h: usize, clip: [i16], out: mut [u8], r: R,) -> u8;
-    call_snap_rgba(sheet, rgba: [u8], image_w: usize, image_h: usize, out: mut [i16], r: R,) -> u8;
+    call_snap_rgba(sheet, loaded: bool, curve: [f64], rgba: [u8], image_w: usize, image_h: usize, out: mut [i16], r: R,) -> u8;
     call_eyedropper(sheet, x: i32, y: i32, got: &mut [i16; 1],) -> u8;
 
     call_flip(tile: [i16], t: usize, flip_h: bool, flip_v: bool, out: mut [i16], r: R,) -> u8;
@@ -107,13 +107,16 @@ ours! {
     call_merge_entries(sheet, locks: [bool], from: usize, into: usize, list: mut [u64], bytes: &mut [u8; 8], doubles: &mut [f64; 3], r: R,) -> u8;
 
     call_fresh(state: State,) -> ();
-    call_push(w: usize, h: usize, palette: mut [u8], lab: mut [f64], indices: mut [i16], locks: mut [bool], limited: bool, permitted: [u8], bytes: &[u8; 8], index: usize, doubles: &[f64; 3], list: [u64], journal: mut [u8], scratch: mut [u8], state: State,) -> u8;
+    call_push(w: usize, h: usize, palette: mut [u8], lab: mut [f64], indices: mut [i16], locks: mut [bool], limited: bool, permitted: [u8], loaded: bool, curve: [f64], bytes: &[u8; 8], index: usize, doubles: &[f64; 3], list: [u64], journal: mut [u8], scratch: mut [u8], state: State,) -> u8;
     call_undo(w: usize, h: usize, palette: mut [u8], lab: mut [f64], indices: mut [i16], locks: mut [bool], journal: [u8], state: State,) -> u8;
-    call_redo(w: usize, h: usize, palette: mut [u8], lab: mut [f64], indices: mut [i16], locks: mut [bool], journal: [u8], scratch: mut [u8], state: State,) -> u8;
+    call_redo(w: usize, h: usize, palette: mut [u8], lab: mut [f64], indices: mut [i16], locks: mut [bool], loaded: bool, curve: [f64], journal: [u8], scratch: mut [u8], state: State,) -> u8;
     call_mark_saved(journal: [u8], state: State,) -> u8;
     call_asked(question: u8, journal: [u8], state: &[usize; 6], r: R,) -> u8;
     call_next(question: u8, journal: [u8], state: &[usize; 6], number: usize, bytes: &mut [u8; 8], doubles: &mut [f64; 3], r: R,) -> u8;
-    call_replay(w: usize, h: usize, palette: mut [u8], lab: mut [f64], indices: mut [i16], locks: mut [bool], limited: bool, permitted: [u8], bytes: &[u8; 8], index: usize, doubles: &[f64; 3], list: [u64], scratch: mut [u8], state: State,) -> u8;
+    call_replay(w: usize, h: usize, palette: mut [u8], lab: mut [f64], indices: mut [i16], locks: mut [bool], limited: bool, permitted: [u8], loaded: bool, curve: [f64], bytes: &[u8; 8], index: usize, doubles: &[f64; 3], list: [u64], scratch: mut [u8], state: State,) -> u8;
+
+    call_load_curve(w: usize, h: usize, palette: [u8], lab: mut [f64], indices: [i16], journal: [u8], state: &[usize; 6], curve: [f64],) -> u8;
+    call_rgb8_to_lab_by(loaded: bool, curve: [f64], rgb: &[u8; 3], out: &mut [f64; 3],) -> u8;
 
     call_flatten(sizes: [usize], palettes: [u8], labs: [f64], indices: [i16], out: mut [u8], r: R,) -> u8;
     call_repaint(sizes: [usize], palettes: [u8], labs: [f64], indices: [i16], edited: usize, w: usize, h: usize, k: usize, palette: [u8], lab: [f64], earlier: [i16], out: mut [u8], r: R,) -> u8;

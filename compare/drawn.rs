@@ -389,17 +389,27 @@ pub fn snap_rgba(c: &Case, rgba: &[u8], w: usize, h: usize, out: usize) -> Pair 
     let no = if c.no != 0 {
         c.no
     } else {
-        first(&[(17, wide)])
+        first(&[(25, s.curve.is_unfit()), (17, wide)])
     };
     let clip = if no == 0 {
-        tools::snap_rgba(c.doc(), rgba, w, h)
+        s.curve.under(|| tools::snap_rgba(c.doc(), rgba, w, h))
     } else {
         None
     };
     let no = if no == 0 && clip.is_none() { 19 } else { no };
     let expected = with_clip(no, out, || clip.unwrap());
     let (mut list, mut r) = (vec![INDEX; out], R);
-    let no = sheet!(call_snap_rgba, s, rgba, w, h, &mut list, &mut r);
+    let no = sheet!(
+        call_snap_rgba,
+        s,
+        s.curve.loaded,
+        &s.curve.values,
+        rgba,
+        w,
+        h,
+        &mut list,
+        &mut r
+    );
     [expected, clipped(no, &r, &list)]
 }
 

@@ -6,6 +6,8 @@
 //! the call.
 
 mod calls;
+mod curve;
+mod curves;
 mod damage;
 mod draw;
 mod drawn;
@@ -36,6 +38,7 @@ fn main() {
     tiled::run(&mut t);
     histories::run(&mut t);
     locks::run(&mut t);
+    curves::run(&mut t);
     layers::run(&mut t);
     panel::run(&mut t);
     spell::run(&mut t);

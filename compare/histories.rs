@@ -2,6 +2,7 @@
 //! ledger of whole pictures. Small journals, short scratch and damaged sheets are among them.
 
 use crate::calls::*;
+use crate::curve::Curve;
 use crate::draw::Draw;
 use crate::drawn::Pair;
 use crate::inputs::{any_edit, tell};
@@ -26,6 +27,8 @@ pub fn our_push(st: &mut State, p: &Permitted, e: &Flat, list: &[u64], scratch: 
         &mut s.locks,
         p.limited,
         &p.list,
+        s.curve.loaded,
+        &s.curve.values,
         &e.bytes,
         e.index,
         &e.lab,
@@ -65,6 +68,8 @@ pub fn our_redo(st: &mut State, scratch: usize) -> u8 {
         &mut s.lab,
         &mut s.indices,
         &mut s.locks,
+        s.curve.loaded,
+        &s.curve.values,
         &st.journal,
         &mut room,
         &mut n,
@@ -221,11 +226,14 @@ pub fn applied(st: &State, number: usize) -> Pair {
 
 // An edit on a sheet, by the Rust.
 
-/// The number of the sheet with a list of colours; then 4 of the handle.
+/// The number of the sheet with a list of colours; then 4 of the handle, then 25 of the curve.
 pub fn push_entry(st: &State, p: &Permitted) -> u8 {
     let bad = p.is_bad() || st.journal.len() > MAX_JOURNAL;
     match st.sheet.marked_number(bad) {
-        0 => first(&[(4, !st.handle.sound(st.journal.len()))]),
+        0 => first(&[
+            (4, !st.handle.sound(st.journal.len())),
+            (25, st.sheet.curve.is_unfit()),
+        ]),
         no => no,
     }
 }
@@ -268,7 +276,7 @@ pub fn push(
     doc.fixed = p.fixed();
     let record = match edit.clone() {
         Edit::Op(op) => {
-            match history.push(&mut doc, op) {
+            match st.sheet.curve.under(|| history.push(&mut doc, op)) {
                 Err(told) => return kept(refusal(&told.0)),
                 Ok(pushed) => assert!(pushed),
             }
@@ -309,7 +317,11 @@ pub fn push(
 pub fn replayed(s: &Sheet, p: &Permitted, e: &Flat, list: &[u64], scratch: usize) -> (u8, Sheet) {
     let mut no = s.marked_number(p.is_bad());
     if no == 0 {
-        no = first(&[(21, list.len() > MAX_CHANGES), (16, scratch < s.w * s.h)]);
+        no = first(&[
+            (25, s.curve.is_unfit()),
+            (21, list.len() > MAX_CHANGES),
+            (16, scratch < s.w * s.h),
+        ]);
     }
     if no != 0 {
         return (no, s.clone());
@@ -321,7 +333,10 @@ pub fn replayed(s: &Sheet, p: &Permitted, e: &Flat, list: &[u64], scratch: usize
     let mut doc = journal::document(s);
     doc.fixed = p.fixed();
     let no = match &edit {
-        Edit::Op(op) => doc.replay(op).err().map_or(0, |told| refusal(&told.0)),
+        Edit::Op(op) => {
+            let done = s.curve.under(|| doc.replay(op));
+            done.err().map_or(0, |told| refusal(&told.0))
+        }
         Edit::Lock { index, .. } if *index >= s.k => 7,
         Edit::Lock { index, old, .. } => first(&[(11, s.locks[*index] != *old)]),
     };
@@ -353,6 +368,8 @@ pub fn replay(s: &Sheet, p: &Permitted, e: &Flat, list: &[u64], scratch: usize) 
         &mut s.locks,
         p.limited,
         &p.list,
+        s.curve.loaded,
+        &s.curve.values,
         &e.bytes,
         e.index,
         &e.lab,
@@ -364,7 +381,8 @@ pub fn replay(s: &Sheet, p: &Permitted, e: &Flat, list: &[u64], scratch: usize) 
     [expected, words(no, &s)]
 }
 
-// Document 01's ledger, whose pictures include the marks: document 02, E5.
+// Document 01's ledger, whose pictures include the marks (document 02, E5), and which uses the session's curve
+// throughout (E6).
 
 #[derive(Clone, PartialEq)]
 struct Picture {
@@ -377,6 +395,7 @@ struct Picture {
 pub struct Ledger {
     w: usize,
     h: usize,
+    curve: Curve,
     pictures: Vec<Picture>,
     standing: usize,
     saved: Option<usize>,
@@ -392,8 +411,8 @@ fn picture(s: &Sheet) -> Picture {
     }
 }
 
-fn lab_bits(rgb: [u8; 3]) -> [u64; 3] {
-    let lab = pixelforge::color::rgb8_to_lab(&rgb);
+fn lab_bits(curve: &Curve, rgb: [u8; 3]) -> [u64; 3] {
+    let lab = curve.under(|| pixelforge::color::rgb8_to_lab(&rgb));
     [lab[0].to_bits(), lab[1].to_bits(), lab[2].to_bits()]
 }
 
@@ -403,6 +422,7 @@ impl Ledger {
         Ledger {
             w: s.w,
             h: s.h,
+            curve: s.curve.clone(),
             pictures: vec![picture(s)],
             standing: 0,
             saved: Some(0),
@@ -476,11 +496,11 @@ impl Ledger {
         match op {
             Op::Pixels { changes, .. } => paint(&mut p, changes),
             Op::PaletteSet { index, new, .. } => {
-                (p.palette[*index], p.lab[*index]) = (*new, lab_bits(*new))
+                (p.palette[*index], p.lab[*index]) = (*new, lab_bits(&self.curve, *new))
             }
             Op::PaletteAdd { rgb } => {
                 p.palette.push(*rgb);
-                p.lab.push(lab_bits(*rgb));
+                p.lab.push(lab_bits(&self.curve, *rgb));
                 p.locks.push(false);
             }
             Op::PaletteRemove { index, remap, .. } => {
@@ -1055,6 +1075,8 @@ fn limits(t: &mut Table, draw: &mut Draw) {
                     &mut s.locks,
                     false,
                     &[],
+                    s.curve.loaded,
+                    &s.curve.values,
                     &add,
                     0,
                     &[0.0; 3],
@@ -1086,6 +1108,8 @@ fn limits(t: &mut Table, draw: &mut Draw) {
                     &mut s.lab,
                     &mut s.indices,
                     &mut s.locks,
+                    s.curve.loaded,
+                    &s.curve.values,
                     &journal,
                     &mut room,
                     &mut n,

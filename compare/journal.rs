@@ -332,7 +332,7 @@ fn can_revert(doc: &Document, locks: &[bool], e: &Edit) -> bool {
     }
 }
 
-/// 1 to 4, as undo and redo have them.
+/// 1 to 4, as undo and redo have them. Undo takes no curve.
 fn entry_number(st: &State) -> u8 {
     match st.sheet.marked_number(st.journal.len() > MAX_JOURNAL) {
         0 => first(&[(4, !st.handle.sound(st.journal.len()))]),
@@ -375,24 +375,29 @@ pub fn undo(st: &State) -> (u8, State) {
     )
 }
 
-/// Whether an edit that was read passes push's checks, and if so what it does. The Rust's `apply` makes document 01's; 10
-/// is left out, since the document has no list of colours. Before it comes 24, and of a lock there is 7 alone.
+/// Whether an edit that was read passes push's checks, and if so what it does, under the session's curve. The Rust's
+/// `apply` makes document 01's; 10 is left out, since the document has no list of colours. Before it comes 24, and of
+/// a lock there is 7 alone.
 fn applies(doc: &mut Document, s: &Sheet, e: &mut Edit) -> bool {
     if e.recoloured().is_some_and(|index| s.is_locked(index)) {
         return false;
     }
     match e {
-        Edit::Op(op) => doc.apply(op).is_ok(),
+        Edit::Op(op) => s.curve.under(|| doc.apply(op).is_ok()),
         Edit::Lock { index, .. } => *index < s.k,
     }
 }
 
-/// What document 01 has redo answer with so much scratch, and what it leaves.
+/// What document 01 has redo answer with so much scratch, and what it leaves. "25 .. also in each later call that
+/// takes a curve", after 4 of the handle and before the record is read.
 pub fn redo(st: &State, scratch: usize) -> (u8, State) {
     let kept = |no: u8| (no, st.clone());
     let no = entry_number(st);
     if no != 0 {
         return kept(no);
+    }
+    if st.sheet.curve.is_unfit() {
+        return kept(25);
     }
     if st.handle.position == st.handle.count {
         return kept(255);

@@ -5,6 +5,7 @@
 //! own `diff_mask`. (`Document::rgba` says the same, through a file of pixelforge that is not given.)
 
 use crate::calls::*;
+use crate::curve::Curve;
 use crate::draw::Draw;
 use crate::drawn::{marked, Pair};
 use crate::histories::{any_permitted, any_push, push, Ledger};
@@ -54,6 +55,7 @@ impl Lent {
             lab: part(&mut labs, STORAGE, i + 1 == count),
             indices: part(&mut indices, c[0].saturating_mul(c[1]), i + 1 == count),
             locks: unlocked(c[2]),
+            curve: Curve::none(),
         };
         self.sizes.chunks_exact(3).enumerate().map(layer).collect()
     }
@@ -838,9 +840,25 @@ fn session(t: &mut Table, draw: &mut Draw) {
                         "the ledger's answer"
                     );
                 }
+                let curve = &twin.st.sheet.curve;
                 let told = call_push(
-                    w, h, palette, lab, indices, locks, p.limited, &p.list, &e.bytes, e.index,
-                    &e.lab, &list, journal, &mut room, state,
+                    w,
+                    h,
+                    palette,
+                    lab,
+                    indices,
+                    locks,
+                    p.limited,
+                    &p.list,
+                    curve.loaded,
+                    &curve.values,
+                    &e.bytes,
+                    e.index,
+                    &e.lab,
+                    &list,
+                    journal,
+                    &mut room,
+                    state,
                 );
                 (no, told)
             }
@@ -861,8 +879,19 @@ fn session(t: &mut Table, draw: &mut Draw) {
                     assert_eq!(twin.history.redo(&mut twin.doc), no == 0, "the Rust's redo");
                     assert_eq!(twin.ledger.redo(), no, "the ledger's redo");
                 }
+                let curve = &twin.st.sheet.curve;
                 let told = call_redo(
-                    w, h, palette, lab, indices, locks, journal, &mut room, state,
+                    w,
+                    h,
+                    palette,
+                    lab,
+                    indices,
+                    locks,
+                    curve.loaded,
+                    &curve.values,
+                    journal,
+                    &mut room,
+                    state,
                 );
                 (no, told)
             }

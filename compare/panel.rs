@@ -1,6 +1,7 @@
 //! The program `panel`, run as a process on sessions of lines, beside document 01's rules for frames, the Rust's document and
 //! history, and the journal of journal.rs.
 
+use crate::curve::Curve;
 use crate::draw::Draw;
 use crate::histories;
 use crate::journal::{self, Handle, State};
@@ -73,6 +74,7 @@ pub fn opened(b: &[u8]) -> Result<Open, u8> {
         lab: over(&pixelforge::color::rgb8_to_lab(colours), STORAGE, 0.0),
         indices: Vec::new(),
         locks: vec![false; MARKS],
+        curve: Curve::none(),
     };
     let index = |&i: &u8| if i == 0xff { -1 } else { i16::from(i) };
     sheet.indices = b[6 + 3 * k..].iter().map(index).collect();

@@ -1,9 +1,12 @@
-//! The lines that the program `test_sample` must print. Its inputs are dealt from seeds, here as in crates/test_inputs and crates/test_sample,
-//! and the answers are the ones that the comparison expects: document 01's checks, the Rust, E3's distances and E5's locks.
+//! The lines that the program `test_sample` must print. Its inputs are dealt from seeds, here as in
+//! crates/test_inputs and crates/test_sample, and the answers are the ones that the comparison expects: document 01's
+//! checks, the Rust, E3's distances, E5's locks, and the Rust under E6's curves.
 
+use crate::curve::{Curve, VALUES};
+use crate::curves;
 use crate::drawn;
 use crate::histories;
-use crate::journal::{self, Handle, State};
+use crate::journal::{self, Handle, State, NOWHERE};
 use crate::sheet::*;
 use crate::sheets::{self, Permitted};
 use crate::tiled;
@@ -14,7 +17,7 @@ use pixelforge::editor::History;
 const EACH: u64 = 60;
 const HISTORIES: u64 = 24;
 const STEPS: u64 = 60;
-const NAMES: [&str; 63] = [
+const NAMES: [&str; 65] = [
     "check",
     "with_lab",
     "new",
@@ -78,6 +81,8 @@ const NAMES: [&str; 63] = [
     "dist2",
     "permitted_no",
     "any_stray_below",
+    "load_curve",
+    "rgb8_to_lab_by",
 ];
 
 // As in crates/test_inputs.
@@ -174,6 +179,30 @@ fn locks_of(seed: u64) -> Vec<bool> {
     dealt(seed, MARKS, |x| once_in(x, 2))
 }
 
+/// A curve, loaded or not, of which a rule may be broken.
+fn curve(d: &Deck) -> Curve {
+    let rise = |x: u64| f64::powi(2.0, [-8, -9, -16, -30][pick(x, 4)]);
+    let rises = dealt(d[17], VALUES - 2, rise);
+    let mut values = vec![0.0];
+    rises
+        .iter()
+        .for_each(|x| values.push(values[values.len() - 1] + x));
+    values.push(1.0);
+    match pick(d[18], 12) {
+        0 => values[255] = 0.9999999999999999,
+        1 => values[128] = values[127],
+        2 => values[0] = -0.5,
+        3 => values[64] = f64::NAN,
+        4 => values[0] = -0.0,
+        5 => values.truncate(255),
+        _ => {}
+    }
+    Curve {
+        loaded: once_in(d[16], 3),
+        values: values.into(),
+    }
+}
+
 fn change(x: u64) -> u64 {
     let field = |n: u64| if n == 3 { 0xffff } else { n };
     (x >> 11 & 0x0003_0003) | field(x >> 31 & 3) << 32 | field(x >> 41 & 3) << 48
@@ -207,6 +236,7 @@ fn sheet(d: &Deck, (w, h): (usize, usize)) -> Sheet {
         lab,
         indices,
         locks: locks_of(d[9]),
+        curve: curve(d),
     }
 }
 
@@ -255,6 +285,9 @@ fn over_sheet(c: usize, d: &Deck) -> Vec<u64> {
     if c == 2 {
         s.lab = vec![REAL; STORAGE];
     }
+    if c == 63 {
+        return load_curve(s, d);
+    }
     let case = &Case::new(s);
     let a = Area {
         whole: once_in(d[14], 3),
@@ -282,6 +315,7 @@ fn over_sheet(c: usize, d: &Deck) -> Vec<u64> {
                 lab: Vec::new(),
                 indices: indices_of(d[25], k, 6),
                 locks: Vec::new(),
+                curve: Curve::none(),
             };
             sheets::diff_mask(case, &base, 7)
         }
@@ -341,6 +375,24 @@ fn over_sheet(c: usize, d: &Deck) -> Vec<u64> {
             4,
         ),
     };
+    expected
+}
+
+/// With no records, mostly; with two or with one that is undone, or with a handle that is not sound.
+fn load_curve(sheet: Sheet, d: &Deck) -> Vec<u64> {
+    let handle = Handle::of(match pick(d[19], 8) {
+        0 => [0, 8, 0, 1, 0],
+        1 => [16, 16, 2, 2, NOWHERE],
+        2 => [8, 8, 0, 0, 0],
+        3 => [0, 0, 0, 0, NOWHERE],
+        _ => [0; 5],
+    });
+    let st = State {
+        sheet,
+        journal: vec![0; 16],
+        handle,
+    };
+    let [expected, _] = curves::load_curve(&st, &st.sheet.curve.values);
     expected
 }
 
@@ -424,6 +476,7 @@ fn loose(c: usize, d: &Deck) -> Vec<u64> {
             sheets::permitted_no(list.limited, &list.list[..pick(d[24], 5)])
         }
         62 => sheets::any_stray_below(&indices_of(d[25], 3, 6), index(d[23])),
+        64 => curves::rgb8_to_lab_by(&curve(d), rgb),
         _ => {
             // any well-formed sheet: the call looks at none
             let case = Case::new(sheet(&deck(1), (3, 2)));
@@ -453,6 +506,7 @@ fn step(c: usize, d: &Deck, st: &mut State) -> Vec<u64> {
     if once_in(d[29], 12) {
         st.journal[pick(d[30], 120)] = d[25] as u8;
     }
+    st.sheet.curve = curve(d);
     let p = permitted(d, once_in(d[28], 3));
     let [expected, _] = match c {
         45 => {
@@ -535,13 +589,13 @@ fn flip(d: &Deck) -> Vec<u64> {
 }
 
 pub fn print() {
-    for c in 0..51 {
+    for c in 0..53 {
         for i in 0..EACH {
             let d = deck(1000 * c as u64 + i);
             match c {
                 26..=43 => line(c, &loose(c, &d)),
                 44 => line(56, &flip(&d)),
-                45 | 46 => line(c + 12, &over_sheet(c + 12, &d)),
+                45 | 46 | 51 => line(c + 12, &over_sheet(c + 12, &d)),
                 47.. => line(c + 12, &loose(c + 12, &d)),
                 _ => line(c, &over_sheet(c, &d)),
             }

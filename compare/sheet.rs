@@ -1,5 +1,6 @@
 //! A sheet as our calls are lent it, with document 01's checks of it and the Rust's document.
 
+use crate::curve::Curve;
 use crate::draw::Draw;
 use pixelforge::config::Config;
 use pixelforge::editor::{Document, Op, Origin, PixelChange, Selection};
@@ -31,6 +32,7 @@ pub fn first(checks: &[(u8, bool)]) -> u8 {
         .map_or(0, |(no, _)| *no)
 }
 
+/// A sheet with its marks and its session's curve.
 #[derive(Clone)]
 pub struct Sheet {
     pub w: usize,
@@ -40,6 +42,7 @@ pub struct Sheet {
     pub lab: Vec<f64>,
     pub indices: Vec<i16>,
     pub locks: Vec<bool>,
+    pub curve: Curve,
 }
 
 impl Sheet {
@@ -139,11 +142,12 @@ impl Sheet {
             .filter(|&i| self.locks[i])
             .collect();
         format!(
-            "{} x {}, k {}, lengths {lens:?}, indices {few:?}, locked {locked:?} of {}",
+            "{} x {}, k {}, lengths {lens:?}, indices {few:?}, locked {locked:?} of {}, {}",
             self.w,
             self.h,
             self.k,
-            self.locks.len()
+            self.locks.len(),
+            self.curve.about()
         )
     }
 }
@@ -495,6 +499,7 @@ fn sheets_of(past: usize) -> Vec<Sheet> {
                 lab,
                 indices,
                 locks: unlocked(k),
+                curve: Curve::none(),
             });
         }
     }
@@ -517,6 +522,7 @@ pub fn good(w: usize, h: usize, k: usize, draw: &mut Draw) -> Sheet {
         lab,
         indices,
         locks: unlocked(k),
+        curve: Curve::none(),
     }
 }
 

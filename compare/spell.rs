@@ -2,6 +2,7 @@
 //! its own: the bytes of the opening frame, two upper-case digits each, and one newline. What a line is read as is what
 //! panel.rs has of document 01's frames; LAB is the Rust's.
 
+use crate::curve::Curve;
 use crate::draw::Draw;
 use crate::panel;
 use crate::sheet::*;
@@ -202,6 +203,7 @@ fn sheet_of(w: usize, h: usize, k: usize, draw: &mut Draw) -> Sheet {
         lab: (0..STORAGE).map(|_| draw.number()).collect(),
         indices: (0..w * h).map(|_| draw.below(few) as i16 - 1).collect(),
         locks: unlocked(k),
+        curve: Curve::none(),
     };
     if w * h > 0 && k > 0 && k <= 255 {
         let at = draw.below(w * h);

@@ -19,7 +19,7 @@ TYPES = {
     'locks': 'bool',
     # an edit and the history
     'no': 'u8', 'edit': Enum('Edit'), 'kind': Enum('ListKind'), 'replay': Bool(), 'limited': Bool(), 'permitted': 'u8',
-    'list': 'Change', 'journal': 'u8', 'offset': 'usize', 'handle': Struct('Handle'), 'marks': 'u8',
+    'loaded': Bool(), 'curve': 'f64', 'list': 'Change', 'journal': 'u8', 'offset': 'usize', 'handle': Struct('Handle'), 'marks': 'u8',
     # the tools
     'area': Enum('Area'), 's': Struct('Selection'), 'points': 'i32', 'size': 'usize', 'index': 'i16', 'filled': Bool(),
     'ax': 'i32', 'ay': 'i32', 'bx': 'i32', 'b-y': 'i32', 'x': 'i32', 'y': 'i32', 'dx': 'i32', 'dy': 'i32',
@@ -29,7 +29,8 @@ TYPES = {
 SHEET = 'w, h, k, &[palette], &[lab], &[indices]'
 DOCUMENT = SHEET + ', &[locks]'
 LENT_DOCUMENT = 'w, h, &mut k, &mut [palette], &mut [lab], &mut [indices], &mut [locks]'
-EDIT = 'limited, &[permitted], edit, &[list]'
+CURVE = 'loaded, &[curve]'
+EDIT = 'limited, &[permitted], %s, edit, &[list]' % CURVE
 
 
 def parameters(*texts):
@@ -67,7 +68,7 @@ sheet specs Sheet sheetOf
 STATE_WORDS = words('''
 base specs Limits maxChanges maxJournal
 base specs Checks orElse firstOf
-color_lab specs Convert labOf
+color_curve specs Curve curveOf labBy CurveFits
 sheet specs Sheet sheetOf
 edit specs Change as flat
 edit specs List listOf emptyPixels
@@ -82,14 +83,15 @@ struct_change specs Struct packedOf
 struct_edit specs Walk packedAll flatAll walkedOf putUpto paintUpto checkUpto markUpto
 history_ledger specs Journal pushOf pushed undoOf redoOf markOf
 history_ledger specs Calls Outcome
-history_model specs Document documentOf documentDone
-history_model specs Editing givenOf editing
+history_model specs Document documentOf documentRest documentDone
+history_model specs Editing givenOf editingBy editing
 history_model specs Calls stateOf leaves Standing Acceptable outcomeOf
 history_model specs Replay replayChecks replayed replayOf
-history_model proofs ReplayChecks redoable
+history_model proofs ReplayChecks replayable
 history_push_checks specs Steps isStill Begun PushNumbered pushedOr fullNumber
 history_push specs Finish finished Finishes
 history_push proofs Pushed push-is
+history_push_checks proofs PushSteps number-fits
 struct_push specs Lent leavesLent
 ''')
 FUNCTIONS = []
@@ -468,20 +470,22 @@ def state(now, k='k', handle='handle', journal=None):
 
 
 GIVEN = '(givenOf limited permitted edit (packedAll list))'
+SESSION = '(curveOf loaded curve)'
 STATE, CALLED = state(''), state('-now', 'count', 'held')
 D, COUNT = document(''), document('-now', 'count')
 
 
-def stepping(name, path, own, said, end, also=None):
+def stepping(name, path, by, said, end, own='', curve='', also=None):
     """`undo` and `redo`: what the call by value leaves is stored."""
-    lends = ', give scratch' if 'scratch' in own else ''
-    function('struct_history::moving::' + name, parameters(LENT_DOCUMENT, '&[journal], &mut handle',
-        *([own] if own else [])), ANSWER,
-             said % ('leavesLent r w h k′ palette′ lab′ indices′ locks′ journal handle′ ≡ %s %s'
-                     % (('redoOf editing (length scratch)' if lends else 'undoOf editing'), STATE)),
-             [Call('Step', path, 'w, h, *k, give palette, give lab, give indices, give locks, journal, *handle' + lends, MOVED,
+    lends = [x for x in (own and 'give scratch',) if x]
+    function('struct_history::moving::' + name,
+             parameters(LENT_DOCUMENT, *([curve] if curve else []), '&[journal], &mut handle', *([own] if own else [])),
+             ANSWER, said % ('leavesLent r w h k′ palette′ lab′ indices′ locks′ journal handle′ ≡ %s %s' % (by, STATE)),
+             [Call('Step', path, ', '.join(
+                 ['w, h, *k, give palette, give lab, give indices, give locks', *(['loaded, curve'] if curve else []),
+                  'journal, *handle', *lends]), MOVED,
                    'leavesLent (r .answer) w h (r .k) palette′ lab′ indices′ locks′ journal (r .handle) ≡ %s %s'
-                   % (('redoOf editing (length scratch-now)' if lends else 'undoOf editing'),
+                   % (by.replace('(length scratch)', '(length scratch-now)'),
                       state('-now', 'k-now', 'handle-now', 'journal')),
                    to='s', also=also),
               Store('k', 'k'), Store('handle', 'handle'), Give('answer')], end, uses=STATE_WORDS,
@@ -489,9 +493,9 @@ def stepping(name, path, own, said, end, also=None):
              ' returned is stored, and the borrows are closed at it.' % path)
 
 
-stepping('undo', 'history_undo::undo', '', '%s', 'e₁')
-stepping('redo', 'history_redo::redo', '&mut [scratch: u8]', '(%s) × (length scratch′ ≡ length scratch)',
-         'e₁, l₁-scratch',
+stepping('undo', 'history_undo::undo', 'undoOf editing', '%s', 'e₁')
+stepping('redo', 'history_redo::redo', 'redoOf (editingBy %s) (length scratch)' % SESSION,
+         '(%s) × (length scratch′ ≡ length scratch)', 'e₁, l₁-scratch', own='&mut [scratch: u8]', curve=CURVE,
          also='length scratch′ ≡ length scratch-now')
 function('struct_history::moving::mark_saved', parameters('&[journal], &mut handle'), ANSWER,
          'outcomeOf r handle′ ≡ markOf (length journal) handle',
@@ -503,16 +507,16 @@ function('struct_history::moving::mark_saved', parameters('&[journal], &mut hand
 
 # ---- `replay`
 REPLAYED_AS = 'replayed (r .answer) (documentOf w h (r .k) palette′ lab′ indices′ locks′) ≡ doneOr %s %s %s'
-REDONE = '(documentDone labOf %s edit (flatAll list))'
+REDONE = '(documentDone (labBy %s) %%s edit (flatAll list))' % SESSION
 REPLAY_WORDS = STATE_WORDS + words('''
 edit_apply proofs Redoing redoable-paints
-history_replay specs Steps ReplayBegun restOf doneOr
+history_replay specs Steps ReplayBegun doneOr
 history_replay proofs Replaying replay-finishes replay-is
 struct_edit proofs Told told-length
 struct_replay proofs Listed list-asks left-asks numbered paints-ask redone-list
 ''')
 PERMITTED = '(permittedOf limited permitted)'
-NAMED_SHEET = parameters('no, w, k, &mut [palette], &mut [lab], &mut [indices], &mut [locks], edit, &[list]')
+NAMED_SHEET = parameters('no, w, k, &mut [palette], &mut [lab], &mut [indices], &mut [locks]', CURVE, 'edit, &[list]')
 
 
 def kind_of():
@@ -542,8 +546,8 @@ def checking(first, replay, why):
 
 
 def finishes(no, k, now):
-    return ('{0} ≡ 0 → Finishable {1} (length palette{2}) (length lab{2}) edit × Redoable {1} (length locks{2}) edit'
-            .format(no, k, now))
+    return ('{0} ≡ 0 → Finishable {1} (length palette{2}) (length lab{2}) edit × Redoable {1} (length locks{2}) edit ×'
+            ' CurveFits {3}'.format(no, k, now, SESSION))
 
 
 def redoes(no, k, now):
@@ -554,25 +558,25 @@ def redoes(no, k, now):
 function('struct_replay::op::redo_list', NAMED_SHEET, REPLAYED, '(h : ℕ) → ' + REPLAYED_AS
          % ('no', D, REDONE % D),
          [Len('n', 'list'), kind_of(), walked(),
-          painting('paints-ask w k palette lab indices locks edit list r₁ e₁ no r₂ e₂ (fit .0)'),
+          painting('paints-ask (labBy %s) w k palette lab indices locks edit list r₁ e₁ no r₂ e₂ (fit .0)' % SESSION),
           Call('Finishing', 'history_replay::finish_replay', 'no, k, give palette, give lab, give indices, give locks,'
-               ' edit', REPLAYED,
-               '(w h : ℕ) → ' + REPLAYED_AS % ('no', document('-now'), '(restOf %s edit)' % document('-now')),
+               ' loaded, curve, edit', REPLAYED,
+               '(w h : ℕ) → ' + REPLAYED_AS % ('no', document('-now'), '(documentRest (labBy %s) %s edit)' % (SESSION, document('-now'))),
                to='', asked=finishes('no', 'k', '-now'), why='fit .1')],
-         'λ (h : ℕ). e₄ w h ∙ redone-list w k palette lab indices locks edit list r₁ e₁ no r₂ e₂ h %s e₃' % last(3, 1),
+         'λ (h : ℕ). e₄ w h ∙ redone-list (labBy %s) w k palette lab indices locks edit list r₁ e₁ no r₂ e₂ h %s e₃' % (SESSION, last(3, 1)),
          fit=redoes('no', 'k', ''), uses=REPLAY_WORDS,
          story='The indices are lent to the loop, and then the storage is given to the last step.')
 
-ALL = ('(length marks) w h k palette lab indices locks %s edit list r₁ e₁ r₂ %s (e₂ (flatAll list) (told-length list))'
-       % (PERMITTED, last(2, 11)))
+ALL = ('%s (length marks) w h k palette lab indices locks %s edit list r₁ e₁ r₂ %s (e₂ (flatAll list) (told-length list))'
+       % (SESSION, PERMITTED, last(2, 13)))
 function('struct_replay::op::replay_no', parameters(DOCUMENT, EDIT, '&mut [marks]'), Uint('u8'),
-         'r ≡ firstOf (replayChecks (length marks) %s %s edit (flatAll list))' % (D, PERMITTED),
+         'r ≡ firstOf (replayChecks %s (length marks) %s %s edit (flatAll list))' % (SESSION, D, PERMITTED),
          [Len('n', 'list'), kind_of(),
           Call('Opening', 'history_replay::open_replay', 'w, h, k, palette, lab, indices, locks, limited, permitted,'
-               ' edit, n, lend marks', Uint('u8'),
-               '(cs : List flat.Change) → length cs ≡ n → ReplayBegun (length marks-now) %s %s edit cs r marks′'
-               % (D, PERMITTED), to='opened'),
-          checking('opened', 'true', 'list-asks %s (length %s) (l₂-marks)' % (ALL, last(2, 11))),
+               ' loaded, curve, edit, n, lend marks', Uint('u8'),
+               '(cs : List flat.Change) → length cs ≡ n → ReplayBegun %s (length marks-now) %s %s edit cs r marks′'
+               % (SESSION, D, PERMITTED), to='opened'),
+          checking('opened', 'true', 'list-asks %s (length %s) (l₂-marks)' % (ALL, last(2, 13))),
           Call('Leaving', 'history_replay::left_after', 'checked, edit, w, h, indices, share marks', Uint('u8'),
                '(cs : List flat.Change) → (checked ≡ 0 → MarksFor (listOf edit) w (w * h) cs marks-now) → r ≡ orElse'
                ' checked (firstOf (leftChecks (bare w h 0 indices) (listOf edit) cs))', to='',
@@ -582,23 +586,23 @@ function('struct_replay::op::replay_no', parameters(DOCUMENT, EDIT, '&mut [marks
          uses=REPLAY_WORDS, story='The marks are lent to each step.')
 
 function('struct_replay::op::replay', parameters(LENT_DOCUMENT, EDIT, '&mut [scratch: u8]'), ANSWER,
-         '(replayed r (documentOf w h k′ palette′ lab′ indices′ locks′) ≡ replayOf (length scratch) %s %s edit (flatAll'
-         ' list)) × (length scratch′ ≡ length scratch)' % (D, PERMITTED),
+         '(replayed r (documentOf w h k′ palette′ lab′ indices′ locks′) ≡ replayOf %s (length scratch) %s %s edit'
+         ' (flatAll list)) × (length scratch′ ≡ length scratch)' % (SESSION, D, PERMITTED),
          [Deref('count', 'k'),
           Call('Numbering', 'struct_replay::op::replay_no',
-               'w, h, count, share palette, share lab, share indices, share locks, limited, permitted, edit, list,'
-               ' lend scratch',
+               'w, h, count, share palette, share lab, share indices, share locks, limited, permitted, loaded,'
+               ' curve, edit, list, lend scratch',
                Uint('u8'),
-               'r ≡ firstOf (replayChecks (length scratch-now) %s %s edit (flatAll list))' % (COUNT, PERMITTED),
+               'r ≡ firstOf (replayChecks %s (length scratch-now) %s %s edit (flatAll list))' % (SESSION, COUNT, PERMITTED),
                to='number'),
           Call('Redoing', 'struct_replay::op::redo_list', 'number, w, count, give palette, give lab, give indices,'
-               ' give locks, edit, list', REPLAYED,
+               ' give locks, loaded, curve, edit, list', REPLAYED,
                '(h : ℕ) → ' + REPLAYED_AS % ('number', COUNT, REDONE % COUNT), to='s',
                asked=redoes('number', 'count', '-now'),
-               why='(λ z. redoable-paints edit (redoable {0} (sym e₁ ∙ z))), λ z. replay-finishes {0} (sym e₁ ∙ z)'
-               .format('(length scratch) w h k palette lab indices locks %s edit (flatAll list)' % PERMITTED)),
+               why='(λ z. redoable-paints edit (replayable {0} (sym e₁ ∙ z) .can)), λ z. replay-finishes {0} (sym e₁ ∙ z)'
+               .format(SESSION + ' (length scratch) w h k palette lab indices locks %s edit (flatAll list)' % PERMITTED)),
           Store('k', 'k'), Give('answer')],
-         '(e₂ h ∙ replay-is (length scratch) %s %s edit (flatAll list) r₁ e₁, l₁-scratch)' % (D, PERMITTED),
+         '(e₂ h ∙ replay-is %s (length scratch) %s %s edit (flatAll list) r₁ e₁, l₁-scratch)' % (SESSION, D, PERMITTED),
          uses=REPLAY_WORDS,
          story="The palette count's borrow is opened and the count copied out; sheet and marks are lent as `&`"
          " for the checks and then given.")
@@ -608,16 +612,16 @@ PUSH_WORDS = STATE_WORDS + words('''
 struct_push_checks proofs Listed list-asks settle-asks numbered
 struct_push proofs Carrying puts-ask paints-ask finish-asks carried-out
 ''')
-ALL = ('(length marks) w h k palette lab indices locks journal handle limited permitted edit list r₁ e₁ r₂ %s (e₂ (packedAll'
-       ' list) (length-map list packedOf))' % last(2, 13))
+ALL = ('%s (length marks) w h k palette lab indices locks journal handle limited permitted edit list r₁ e₁ r₂ %s (e₂'
+       ' (packedAll list) (length-map list packedOf))' % (SESSION, last(2, 15)))
 function('struct_push_checks::push_no', parameters(DOCUMENT, EDIT, '&[journal], handle, &mut [marks]'), Uint('u8'),
-         'PushNumbered (length marks) %s %s r' % (STATE, GIVEN),
+         'PushNumbered %s (length marks) %s %s r' % (SESSION, STATE, GIVEN),
          [Len('n', 'list'), Len('size', 'journal'), Field('offset', 'handle', 'offset'), kind_of(),
           Call('Beginning', 'history_push_checks::begin', 'w, h, k, palette, lab, indices, locks, limited, permitted,'
-               ' edit, n, journal, handle, lend marks',
-               Uint('u8'), '(ns : List ℕ) → length ns ≡ n → Begun (length marks-now) %s (givenOf limited permitted edit'
-               ' ns) r marks′' % STATE, to='begun'),
-          checking('begun', 'false', 'list-asks %s (length %s) (l₂-marks)' % (ALL, last(2, 13))),
+               ' loaded, curve, edit, n, journal, handle, lend marks',
+               Uint('u8'), '(ns : List ℕ) → length ns ≡ n → Begun %s (length marks-now) %s (givenOf limited permitted edit'
+               ' ns) r marks′' % (SESSION, STATE), to='begun'),
+          checking('begun', 'false', 'list-asks %s (length %s) (l₂-marks)' % (ALL, last(2, 15))),
           Call('Settling', 'history_push_checks::settle', 'checked, edit, n, w, h, indices, share marks, size, offset',
                Uint('u8'),
                '(cs : List flat.Change) → (checked ≡ 0 → MarksFor (listOf edit) w (w * h) cs marks-now) → r ≡ orElse'
@@ -632,18 +636,18 @@ function('struct_push_checks::push_no', parameters(DOCUMENT, EDIT, '&[journal], 
 
 def carried(no, at):
     return ('(limited : Bool) (permitted : List ℕ) → leaves r w h palette′ lab′ indices′ locks′ journal′ ≡ pushedOr {0}'
-            ' (isStill {2}) {1} (pushed editing {1} {2})'.format(no, at, GIVEN))
+            ' (isStill {2}) {1} (pushed (editingBy {3}) {1} {2})'.format(no, at, GIVEN, SESSION))
 
 
 def carries(no, at):
     return ('({0} ≡ 0 → Standing {1}) × ({0} ≡ 0 → emptyPixels (listOf edit) (length (flatAll list)) ≡ false → Acceptable'
-            ' {1} edit (flatAll list))'.format(no, at))
+            ' {1} edit (flatAll list)) × ({0} ≡ 0 → CurveFits {2})'.format(no, at, SESSION))
 
 
 EACH = 'w h k palette lab indices locks journal handle edit list r₁ e₁ no r₂ e₂ (fit .0) (fit .1)'
 function('struct_push::recording::carry_out',
-         parameters('no, w, h, k, &mut [palette], &mut [lab], &mut [indices], &mut [locks], edit, &[list], &mut [journal],'
-                    ' handle'),
+         parameters('no, w, h, k, &mut [palette], &mut [lab], &mut [indices], &mut [locks]', CURVE, 'edit, &[list],'
+                    ' &mut [journal], handle'),
          MOVED, carried('no', STATE),
          [Len('n', 'list'), Field('offset', 'handle', 'offset'), kind_of(), walked(),
           Call('Writing', 'struct_edit::put_list', 'kind, lend journal, offset, share indices, w, list, m', Unit(),
@@ -652,31 +656,34 @@ function('struct_push::recording::carry_out',
                ' (flatAll list))', why='puts-ask %s' % EACH),
           painting('paints-ask %s' % EACH),
           Call('Finishing', 'history_push::finish',
-               'no, k, give palette, give lab, give indices, give locks, edit, n, give journal, handle', MOVED,
+               'no, k, give palette, give lab, give indices, give locks, loaded, curve, edit, n, give journal, handle', MOVED,
                '(w h : ℕ) → leaves r w h palette′ lab′ indices′ locks′ journal′ ≡ pushedOr no (emptyPixels (listOf edit)'
-               ' n) {0} (finished {0} edit n)'.format(state('-now')),
-               to='', asked='no ≡ 0 → emptyPixels (listOf edit) n ≡ false → Finishes k palette-now lab-now locks-now'
-               ' journal-now handle edit n', why='finish-asks %s %s (l₃-journal)' % (EACH, last(3, 1)))],
-         'λ (limited : Bool) (permitted : List ℕ). e₅ w h ∙ carried-out %s limited permitted %s %s e₄ e₃'
-         % (EACH, last(4, 1), last(3, 1)),
+               ' n) {0} (finished (labBy {1}) {0} edit n)'.format(state('-now'), SESSION),
+               to='', asked='(no ≡ 0 → emptyPixels (listOf edit) n ≡ false → Finishes k palette-now lab-now locks-now'
+               ' journal-now handle edit n) × (no ≡ 0 → CurveFits %s)' % SESSION,
+               why='finish-asks %s %s (l₃-journal), fit .2' % (EACH, last(3, 1)))],
+         'λ (limited : Bool) (permitted : List ℕ). e₅ w h ∙ carried-out %s %s limited permitted %s %s e₄ e₃'
+         % (EACH, SESSION, last(4, 1), last(3, 1)),
          fit=carries('no', STATE), uses=PUSH_WORDS, story='Journal and indices are lent to the loops, and then given'
          ' to the last step.')
 
 function('struct_push::recording::push',
          parameters(LENT_DOCUMENT, EDIT, '&mut [journal], &mut handle, &mut [scratch: u8]'), ANSWER,
-         '(leavesLent r w h k′ palette′ lab′ indices′ locks′ journal′ handle′ ≡ pushOf editing (length scratch) %s %s) ×'
-         ' (length scratch′ ≡ length scratch)' % (STATE, GIVEN),
+         '(leavesLent r w h k′ palette′ lab′ indices′ locks′ journal′ handle′ ≡ pushOf (editingBy %s) (length scratch)'
+         ' %s %s) × (length scratch′ ≡ length scratch)' % (SESSION, STATE, GIVEN),
          [Deref('count', 'k'), Deref('held', 'handle'),
           Call('Numbering', 'struct_push_checks::push_no',
-               'w, h, count, share palette, share lab, share indices, share locks, limited, permitted, edit, list,'
-               ' share journal, held, lend scratch',
-               Uint('u8'), 'PushNumbered (length scratch-now) %s %s r' % (CALLED, GIVEN), to='number'),
+               'w, h, count, share palette, share lab, share indices, share locks, limited, permitted, loaded,'
+               ' curve, edit, list, share journal, held, lend scratch',
+               Uint('u8'), 'PushNumbered %s (length scratch-now) %s %s r' % (SESSION, CALLED, GIVEN), to='number'),
           Call('Carrying', 'struct_push::recording::carry_out',
-               'number, w, h, count, give palette, give lab, give indices, give locks, edit, list, give journal, held', MOVED,
+               'number, w, h, count, give palette, give lab, give indices, give locks, loaded, curve, edit, list, give journal,'
+               ' held', MOVED,
                carried('number', CALLED), to='s',
-               asked=carries('number', CALLED), why='(λ z. e₁ .stands z), λ z t. e₁ .fine z t'),
+               asked=carries('number', CALLED), why='(λ z. e₁ .stands z), (λ z t. e₁ .fine z t), λ z. number-fits %s (length scratch) %s %s r₁ (e₁ .value) z'
+               % (SESSION, STATE, GIVEN)),
           Store('k', 'k'), Store('handle', 'handle'), Give('answer')],
-         '(e₂ limited permitted ∙ push-is (length scratch) %s %s r₁ (e₁ .value), l₁-scratch)' % (STATE, GIVEN),
+         '(e₂ limited permitted ∙ push-is %s (length scratch) %s %s r₁ (e₁ .value), l₁-scratch)' % (SESSION, STATE, GIVEN),
          uses=PUSH_WORDS,
          story='The borrows of palette count and handle are opened and both copied out; sheet, marks and journal'
          ' are lent as `&` for the checks and then given.')
@@ -701,26 +708,27 @@ def marked(k, now=''):
 
 
 PENCIL = 'pencilCall %s area points 1 (pos 1) %s'
-PUSHED = 'pushOf editing (length marks) (stateOf %s journal handle) (givenOf false permitted edit %s)'
+UNLOADED = '(editingBy (curveOf false curve))'
+PUSHED = 'pushOf ' + UNLOADED + ' (length marks) (stateOf %s journal handle) (givenOf false permitted edit %s)'
 MAKING = 'r ≡ movedOf answer colors held'
 LEAVES = 'leaves r 6 4 palette′ lab′ indices′ locks′ journal′ ≡ '
 function(
     'example_structs::lent::recorded',
-    parameters('k, &mut [palette], &mut [lab], &mut [indices], &mut [locks], &[permitted], edit, &[list], &mut [journal],'
-               ' handle, &mut [marks]'), MOVED, LEAVES + PUSHED % (marked('k'), '(packedAll list)'),
+    parameters('k, &mut [palette], &mut [lab], &mut [indices], &mut [locks], &[permitted], &[curve], edit, &[list],'
+               ' &mut [journal], handle, &mut [marks]'), MOVED, LEAVES + PUSHED % (marked('k'), '(packedAll list)'),
     [Let('colors', 'k'), Let('held', 'handle'),
      Call('Pushing', 'editor::structs::push', '6usize, 4usize, &mut colors, give palette, give lab, give indices,'
-          ' give locks, false, permitted, edit, list, give journal, &mut held, give marks', ANSWER,
-          '(leavesLent r 6 4 colors′ palette′ lab′ indices′ locks′ journal′ held′ ≡ pushOf editing (length marks-now)'
+          ' give locks, false, permitted, false, curve, edit, list, give journal, &mut held, give marks', ANSWER,
+          '(leavesLent r 6 4 colors′ palette′ lab′ indices′ locks′ journal′ held′ ≡ pushOf %s (length marks-now)'
           ' (stateOf %s journal-now held-now) (givenOf false permitted edit (packedAll list))) × (length marks′ ≡'
-          ' length marks-now)' % marked('colors-now', '-now'), to='answer'),
+          ' length marks-now)' % (UNLOADED, marked('colors-now', '-now')), to='answer'),
      Call('Making', 'example_structs::lent::moved', 'answer, colors, held', MOVED, MAKING, to='')],
-    'ap (λ (m : Moved). leaves m 6 4 %s %s %s %s %s) e₂ ∙ e₁ .0' % tuple(last(1, i) for i in (3, 4, 5, 6, 11)),
+    'ap (λ (m : Moved). leaves m 6 4 %s %s %s %s %s) e₂ ∙ e₁ .0' % tuple(last(1, i) for i in (3, 4, 5, 6, 13)),
     uses=EXAMPLE, story='Palette count and handle are put into locals, which are lent to push.')
 function(
     'example_structs::lent::stroke',
     parameters('k, &mut [palette], &mut [lab], &mut [indices], &mut [locks], area, &[points], &mut [scratch],'
-               ' &[permitted], edit, &mut [journal], handle, &mut [marks]'), MOVED,
+               ' &[permitted], &[curve], edit, &mut [journal], handle, &mut [marks]'), MOVED,
     LEAVES + PUSHED % (marked('k'), '(changesOf (%s blanks))' % (PENCIL % (small('k'), '(length scratch)'))),
     [Call('Blank', 'example_structs::lent::blank', '', Array('Change', 24), 'r ≡ replicate 24 noChange', to='list'),
      Call('Drawing', 'editor::structs::pencil', '6usize, 4usize, k, share palette, share lab, share indices, area,'
@@ -729,8 +737,8 @@ function(
           % (PENCIL % (small('k', '-now'), '(length scratch-now)')), to='drawn'),
      Call('Counting', 'example_structs::lent::count', 'drawn', USIZE, 'r ≡ countOf drawn', to='n'),
      Call('Recording', 'example_structs::lent::recorded', 'k, give palette, give lab, give indices, give locks, permitted,'
-          ' edit, front list n, give journal, handle, give marks', MOVED,
-          LEAVES + 'pushOf editing (length marks-now) (stateOf %s journal-now handle) (givenOf false permitted edit'
+          ' curve, edit, front list n, give journal, handle, give marks', MOVED,
+          LEAVES + 'pushOf ' + UNLOADED + ' (length marks-now) (stateOf %s journal-now handle) (givenOf false permitted edit'
           ' (packedAll list-now))' % marked('k', '-now'), to='',
           fits='subst (λ (l : List Change). r₃ ≤ length l) e₁ (drawn-fits %s area points 1 (pos 1) (length scratch) r₂'
           ' (map packedOf %s) r₁ r₃ (e₂ .0) e₃)' % (small('k'), last(2, 11)))],
@@ -740,19 +748,19 @@ function(
     ' filled to `recorded`.')
 
 
-def lent(name, call, own, by, also=None):
+def lent(name, call, by, own=(), curve=(), also=None):
     """`undone` and `redone`: palette count and handle are lent for one call."""
     now = by.replace('(length marks)', '(length marks-now)')
     said = 'leavesLent r 6 4 colors′ palette′ lab′ indices′ locks′ journal held′ ≡ %s (stateOf %s journal held-now)' % (
         now, marked('colors-now', '-now'))
     function(
         'example_structs::lent::' + name,
-        parameters('k, &mut [palette], &mut [lab], &mut [indices], &mut [locks], &[journal], handle', *own), MOVED,
+        parameters('k, &mut [palette], &mut [lab], &mut [indices], &mut [locks]', *curve, '&[journal], handle', *own), MOVED,
         'leaves r 6 4 palette′ lab′ indices′ locks′ journal ≡ %s (stateOf %s journal handle)' % (by, marked('k')),
         [Let('colors', 'k'), Let('held', 'handle'),
          Call('Step', 'editor::structs::' + call,
-              '6usize, 4usize, &mut colors, give palette, give lab, give indices, give locks, journal, &mut held'
-              + (', give marks' if own else ''), ANSWER, '(%s)%s' % (said, also) if also else said, to='answer'),
+              ', '.join(['6usize, 4usize, &mut colors, give palette, give lab, give indices, give locks',
+                         *(['false, curve'] if curve else []), 'journal, &mut held', *(['give marks'] if own else [])]), ANSWER, '(%s)%s' % (said, also) if also else said, to='answer'),
          Call('Making', 'example_structs::lent::moved', 'answer, colors, held', MOVED, MAKING, to='')],
         'ap (λ (m : Moved). leaves m 6 4 {0} {1} {2} {3} journal) e₂ ∙ e₁{4}'
         .format(*(last(1, i) for i in (3, 4, 5, 6)), ' .0' if also else ''), uses=EXAMPLE,
@@ -760,8 +768,9 @@ def lent(name, call, own, by, also=None):
         ' returned.')
 
 
-lent('undone', 'undo', [], 'undoOf editing')
-lent('redone', 'redo', ['&mut [marks]'], 'redoOf editing (length marks)', ' × (length marks′ ≡ length marks-now)')
+lent('undone', 'undo', 'undoOf editing')
+lent('redone', 'redo', 'redoOf %s (length marks)' % UNLOADED, ['&mut [marks]'], ['&[curve]'],
+     ' × (length marks′ ≡ length marks-now)')
 function('example_structs::lent::saved', parameters('&[journal], handle'), HANDLE,
          'r ≡ markOf (length journal) handle .leaves',
          [Let('held', 'handle'),

@@ -8,6 +8,7 @@ use mathlib.Core.Option.{Option, none, some}
 use lib.IntN.{ℤ}
 use lib.Ieee.{Float}
 use Rattle.base.specs.declared.Edit.{Edit}
+use Rattle.base.specs.declared.Lab.{Lab}
 use Rattle.base.specs.declared.Answer.{Answer}
 use Rattle.base.specs.declared.Answer.the-variants as answer
 use Rattle.base.specs.declared.Counted.{Counted}
@@ -20,6 +21,8 @@ use Rattle.base.specs.declared.Got.{Got}
 use Rattle.base.specs.declared.Got.the-variants as got
 use Rattle.base.specs.declared.Root.{Root}
 use Rattle.base.specs.declared.Root.the-variants as root
+use Rattle.base.specs.declared.Triple.{Triple}
+use Rattle.base.specs.declared.Triple.the-variants as triple
 use Rattle.base.specs.declared.Found.{Found}
 use Rattle.base.specs.declared.Found.the-variants as found
 use Rattle.base.specs.declared.Choices.{Choices}
@@ -96,6 +99,10 @@ truthTold (truth.Refused n) = Told.alone n
 abbrev pub rootTold : Root → Told Float
 rootTold (root.Value x) = Told.result x
 rootTold (root.Refused n) = Told.alone n
+
+abbrev pub tripleTold : Triple → Told Lab
+tripleTold (triple.Value x) = Told.result x
+tripleTold (triple.Refused n) = Told.alone n
 
 abbrev pub madeEditTold : MadeEdit → Told Edit
 madeEditTold (made-edit.Edit e) = Told.result e

@@ -74,3 +74,10 @@ layersDiffer = 23
 -- document 02, E5
 abbrev pub entryLocked : ℕ
 entryLocked = 24
+
+-- document 02, E6
+abbrev pub unfitCurve : ℕ
+unfitCurve = 25
+
+abbrev pub journalInUse : ℕ
+journalInUse = 26

@@ -103,6 +103,11 @@ pub const LAYERS_DIFFER: u8 = 23;
 // Document 02, E5.
 pub const ENTRY_LOCKED: u8 = 24;
 
+// Document 02, E6.
+pub const UNFIT_CURVE: u8 = 25;
+
+pub const JOURNAL_IN_USE: u8 = 26;
+
 // A colour of the palette: three bytes of sRGB.
 pub struct Rgb {
     pub r: u8,
@@ -255,6 +260,12 @@ pub enum Got {
 // What `cbrt` answers.
 pub enum Root {
     Value(f64),
+    Refused(u8),
+}
+
+// What the LAB of a colour under a curve answers.
+pub enum Triple {
+    Value(Lab),
     Refused(u8),
 }
 

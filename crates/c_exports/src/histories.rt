@@ -6,18 +6,9 @@ use base::Truth;
 use c_flat::NO_EDIT;
 use c_flat::NONE;
 use c_flat::edit_of;
+use c_flat::handle_of;
 use c_flat::is_edit;
 use c_flat::tell_edit;
-
-fn handle_of(state: &[usize; 6]) -> Handle {
-    Handle {
-        offset: state[1],
-        end: state[2],
-        position: state[3],
-        count: state[4],
-        saved: state[5],
-    }
-}
 
 fn tell_handle(handle: Handle, state: &mut [usize; 6]) {
     state[1] = handle.offset;
@@ -50,6 +41,8 @@ pub extern "C" fn call_push(
     locks: &mut [bool],
     limited: bool,
     permitted: &[u8],
+    loaded: bool,
+    curve: &[f64],
     bytes: &[u8; 8],
     index: usize,
     doubles: &[f64; 3],
@@ -75,6 +68,8 @@ pub extern "C" fn call_push(
             locks,
             limited,
             permitted,
+            loaded,
+            curve,
             edit,
             list,
             journal,
@@ -112,6 +107,8 @@ pub extern "C" fn call_redo(
     lab: &mut [f64],
     indices: &mut [i16],
     locks: &mut [bool],
+    loaded: bool,
+    curve: &[f64],
     journal: &[u8],
     scratch: &mut [u8],
     state: &mut [usize; 6],
@@ -127,6 +124,8 @@ pub extern "C" fn call_redo(
             lab,
             indices,
             locks,
+            loaded,
+            curve,
             journal,
             handle,
             scratch,
@@ -225,6 +224,8 @@ pub extern "C" fn call_replay(
     locks: &mut [bool],
     limited: bool,
     permitted: &[u8],
+    loaded: bool,
+    curve: &[f64],
     bytes: &[u8; 8],
     index: usize,
     doubles: &[f64; 3],
@@ -247,6 +248,8 @@ pub extern "C" fn call_replay(
         locks,
         limited,
         permitted,
+        loaded,
+        curve,
         edit,
         list,
         scratch,

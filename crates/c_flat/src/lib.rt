@@ -1,8 +1,9 @@
-// Structs and enums as numbers in small arrays, and back, for `c_exports` and `c_tools`. Of these functions it is proved that
-// they are safe and end.
+// Structs and enums as numbers in small arrays, and back, for `c_exports`, `c_tools` and `c_curve`. Of these
+// functions it is proved that they are safe and end.
 use base::Counted;
 use base::Edit;
 use base::Got;
+use base::Handle;
 use base::Lab;
 use base::Rgb;
 use selection::Area;
@@ -25,6 +26,17 @@ pub fn lab_of(c: &[f64; 3]) -> Lab {
         l: c[0],
         a: c[1],
         b: c[2],
+    }
+}
+
+// The handle's five numbers stand behind the palette count.
+pub fn handle_of(state: &[usize; 6]) -> Handle {
+    Handle {
+        offset: state[1],
+        end: state[2],
+        position: state[3],
+        count: state[4],
+        saved: state[5],
     }
 }
 

@@ -303,6 +303,8 @@ pub extern "C" fn call_snap_rgba(
     palette: &[u8],
     lab: &[f64],
     indices: &[i16],
+    loaded: bool,
+    curve: &[f64],
     rgba: &[u8],
     image_w: usize,
     image_h: usize,
@@ -310,7 +312,20 @@ pub extern "C" fn call_snap_rgba(
     r: &mut [usize; 5],
 ) -> u8 {
     tell_copied(
-        tool_clip::snap_rgba(w, h, k, palette, lab, indices, rgba, image_w, image_h, out),
+        tool_clip::snap_rgba(
+            w,
+            h,
+            k,
+            palette,
+            lab,
+            indices,
+            loaded,
+            curve,
+            rgba,
+            image_w,
+            image_h,
+            out,
+        ),
         r,
     )
 }

@@ -8,10 +8,12 @@ use borrow.Author.Tests.{le-ltb}
 use lib.Dec.{T, lit≤}
 use lib.Ieee.{Float, binary64, toBits, lt, fits}
 use lib.Ieee.Fits.{sub-fits, mul-fits}
+use Rattle.base.specs.declared.Lab.{Lab}
 use Rattle.base.specs.declared.Rgb.{Rgb}
 use Rattle.color_doubles.specs.Arithmetic.{decimal, fraction}
 use Rattle.color_doubles.specs.NearestDouble.{unitsOf, aboveMiddle, nearestDouble}
 use Rattle.color_root.specs.CubeRoot.{inRootRange, rootOf, rootPattern}
+use Rattle.color_lab.specs.declared.LinearRgb.{LinearRgb}
 use Rattle.color_lab.specs.Curve.{linearRgb}
 use Rattle.color_doubles.specs.Range.{AtMost}
 use Rattle.color_lab.specs.Convert.{labF, labFrom, labOfLinear, labOf, LinearValues, FiniteLab}
@@ -48,23 +50,26 @@ f-small t h = go (lt (fraction 216 24389) t) refl
     go true e = rw e (root-small t (in-range t h (subst T (sym e) tt)))
     go false e = rw e (line-small t h)
 
+-- ---- for all linear values
+pub lab-of-values : (v : LinearRgb) → LinearValues v → FiniteLab (labOfLinear v)
+unfolding labOfLinear
+lab-of-values v h = lab-finite _ _ _ (f-small _ (x-small _ h)) (f-small _ (y-small _ h)) (f-small _ (z-small _ h))
+
 -- ---- for every colour of bytes
 linear-values : (c : Rgb) → c .r ≤ 255 → c .g ≤ 255 → c .b ≤ 255 → LinearValues (linearRgb c)
 unfolding linearRgb
 linear-values c r g b = record { r-linear = linear-linear (c .r) r; g-linear = linear-linear (c .g) g; b-linear = linear-linear (c .b) b }
 
 pub lab-of-bytes : (c : Rgb) → c .r ≤ 255 → c .g ≤ 255 → c .b ≤ 255 → FiniteLab (labOf c)
-unfolding labOf labOfLinear
-lab-of-bytes c r g b =
-    let v = linear-values c r g b in
-    lab-finite _ _ _ (f-small _ (x-small _ v)) (f-small _ (y-small _ v)) (f-small _ (z-small _ v))
+unfolding labOf
+lab-of-bytes c r g b = lab-of-values (linearRgb c) (linear-values c r g b)
 
--- ---- for every colour
-pub record FitsDouble (c : Rgb) : Type 0 where
-  pub l : T (fits binary64 (labOf c .l))
-  pub a : T (fits binary64 (labOf c .a))
-  pub b : T (fits binary64 (labOf c .b))
+-- ---- for all values
+pub record FitsDouble (x : Lab) : Type 0 where
+  pub l : T (fits binary64 (x .l))
+  pub a : T (fits binary64 (x .a))
+  pub b : T (fits binary64 (x .b))
 
-pub lab-fits : (c : Rgb) → FitsDouble c
-unfolding labOf labOfLinear labFrom
-lab-fits c = record { l = sub-fits binary64 _ _; a = mul-fits binary64 _ _; b = mul-fits binary64 _ _ }
+pub lab-fits : (v : LinearRgb) → FitsDouble (labOfLinear v)
+unfolding labOfLinear labFrom
+lab-fits v = record { l = sub-fits binary64 _ _; a = mul-fits binary64 _ _; b = mul-fits binary64 _ _ }

@@ -4,6 +4,7 @@ mod convert;
 mod curve;
 
 pub use convert::lab_in;
+pub use convert::lab_of_linear;
 pub use curve::linear_in;
 pub use curve::table;
 

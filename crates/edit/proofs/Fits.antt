@@ -1,23 +1,17 @@
 -- Well-formed sheets that edits make: of the same size as a well-formed one, or showing the same picture. Assumes nothing.
 use mathlib.Core.Path.{_≡_, refl, ap, _∙_}
-use mathlib.Core.Bool.{Bool, true, false, not}
+use mathlib.Core.Bool.{false}
 use mathlib.Core.List.{List}
 use Prim.Native.Nat.{ℕ, zero, suc, _*_, _≤_}
 use native.Mathlib.Omega.{arith}
 use borrow.Author.Tests.{leb-false, lt-leb}
-use lib.Dec.{T}
 use lib.IntN.{ℤ, pos, negsuc}
 use lib.Ieee.{Float}
-use lib.Ieee.Scale.{finite}
 use lib.ListN.{length, take}
-use Rattle.base.specs.declared.Lab.{Lab}
 use Rattle.base.specs.Lists.{some}
 use Rattle.color_doubles.specs.Finite.{unfit}
-use Rattle.color_lab.specs.Convert.{FiniteLab}
 use Rattle.sheet.specs.Sheet.{Sheet, sheetOf, view, stray}
 use Rattle.sheet.specs.Checks.{Limits, WellFormed}
-use Rattle.edit.specs.Storage.{numbersOf}
-use Rattle.base.proofs.Nowhere.{or-both}
 
 -- another palette count, palette, LAB and indices on a sheet of the same size
 pub same-limits : {s : Sheet} → Limits s → (k : ℕ) (palette : List ℕ) (lab : List Float) (l : List ℤ)
@@ -78,12 +72,3 @@ unfolding stray
 more-in-range k (pos n) e = lt-leb (suc k) n (omega (arith, leb-false k n e))
 more-in-range k (negsuc zero) e = refl
 more-in-range k (negsuc (suc n)) e = e
-
--- a finite LAB
-pub finite-numbers : {x : Lab} → FiniteLab x → some unfit (numbersOf x) ≡ false
-unfolding some unfit
-finite-numbers {x} f = or-both (go (finite (x .l)) (f .l-finite)) (or-both (go (finite (x .a)) (f .a-finite)) (or-both (go (finite (x .b)) (f .b-finite)) refl))
-  where
-    go : (b : Bool) → T b → not b ≡ false
-    go true h = refl
-    go false h = absurd h

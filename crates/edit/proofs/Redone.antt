@@ -19,12 +19,13 @@ use Rattle.edit.specs.List.{paintedList}
 use Rattle.edit.specs.Apply.{restDone, redone, nextPicture}
 use Rattle.edit.specs.Accepted.{NewBytes, Accepted, FiniteCurve}
 use Rattle.base.proofs.Nowhere.{nowhere-append, nowhere-weaker}
+use Rattle.sheet.proofs.FiniteLabs.{finite-numbers}
 use Rattle.edit.proofs.Painting.{painted-length, painted-nowhere}
 use Rattle.edit.proofs.Storage.{stored-nowhere, cut-nowhere}
 use Rattle.edit.proofs.Entries.{palette-store, lab-store, set-length, set-shows, add-length, add-shows, remove-length, remove-shows}
 use Rattle.edit.proofs.Passed.{Passed, passed}
 use Rattle.edit.proofs.Removing.{remove-in-range}
-use Rattle.edit.proofs.Fits.{same-size-fits, more-in-range, finite-numbers}
+use Rattle.edit.proofs.Fits.{same-size-fits, more-in-range}
 
 pub record SameSize (s t : Sheet) : Type 0 where
   pub w : t .w ≡ s .w

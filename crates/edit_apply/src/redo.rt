@@ -4,7 +4,7 @@ use base::Rgb;
 use base::lab_at;
 use base::put_lab;
 use base::rgb_at;
-use color::rgb8_to_lab;
+use color_curve::lab_by;
 use edit_entries::close_lab_gap;
 use edit_entries::close_palette_gap;
 use edit_entries::store_rgb;
@@ -15,7 +15,7 @@ ghost use mathlib.Core.List.{List};
 ghost use Prim.Native.Nat.{ℕ, _+_, _*_, _≤_};
 ghost use lib.IntN.{ℤ};
 ghost use lib.ListN.{length};
-ghost use Rattle.color_lab.specs.Convert.{labOf};
+ghost use Rattle.color_curve.specs.Curve.{curveOf, labBy, CurveFits};
 ghost use Rattle.sheet.specs.Sheet.{sheetOf};
 ghost use Rattle.edit.specs.Storage.{bytesOf, numbersOf, stored};
 ghost use Rattle.edit.specs.Apply.{filledEdit, restDone};
@@ -68,14 +68,15 @@ pub fn fill_edit(palette: &[u8], lab: &[f64], locks: &[bool], edit: Edit) -> Edi
     }
 }
 
-// Gives entry i a colour, and the LAB of that colour.
-fn store_entry(palette: &mut [u8], lab: &mut [f64], i: usize, c: Rgb)
+// Gives entry i a colour, and the LAB of that colour by the session's curve.
+fn store_entry(palette: &mut [u8], lab: &mut [f64], loaded: bool, curve: &[f64], i: usize, c: Rgb)
     requires { ⌜ (3 * i + 3 ≤ length (now palette)) × (3 * i + 3 ≤ length (now lab)) ⌝ }
+    requires { ⌜ CurveFits (curveOf loaded (now curve)) ⌝ }
     ensures { λ _. ⌜ now (palette .exit) ≡ stored (3 * i) (bytesOf c) (now (palette .entry)) ⌝ }
-    ensures { λ _. ⌜ now (lab .exit) ≡ stored (3 * i) (numbersOf (labOf c)) (now (lab .entry)) ⌝ }
+    ensures { λ _. ⌜ now (lab .exit) ≡ stored (3 * i) (numbersOf (labBy (curveOf loaded (now (curve .entry))) c)) (now (lab .entry)) ⌝ }
 {
     store_rgb(palette, i, c);
-    put_lab(lab, i, rgb8_to_lab(c));
+    put_lab(lab, i, lab_by(loaded, curve, c));
 }
 
 // Does what an edit does beside its list, which is painted already, and answers the palette count after it.
@@ -84,12 +85,16 @@ pub fn finish_edit(
     palette: &mut [u8],
     lab: &mut [f64],
     indices: &mut [i16],
+    loaded: bool,
+    curve: &[f64],
     edit: Edit,
 ) -> usize
     requires { ⌜ Finishable k (length (now palette)) (length (now lab)) edit ⌝ }
+    requires { ⌜ CurveFits (curveOf loaded (now curve)) ⌝ }
     ensures { λ r. ⌜
         ((w h : ℕ) → sheetOf w h r (now (palette .exit)) (now (lab .exit)) (now (indices .exit))
-        ≡ restDone labOf (sheetOf w h k (now (palette .entry)) (now (lab .entry)) (now (indices .entry))) edit)
+        ≡ restDone (labBy (curveOf loaded (now (curve .entry))))
+        (sheetOf w h k (now (palette .entry)) (now (lab .entry)) (now (indices .entry))) edit)
         ⌝ }
 {
     match edit {
@@ -100,11 +105,11 @@ pub fn finish_edit(
             new,
             old_lab: _,
         } => {
-            store_entry(palette, lab, index, new);
+            store_entry(palette, lab, loaded, curve, index, new);
             k
         }
         Edit::PaletteAdd { rgb } => {
-            store_entry(palette, lab, k, rgb);
+            store_entry(palette, lab, loaded, curve, k, rgb);
             k + 1
         }
         Edit::PaletteRemove {

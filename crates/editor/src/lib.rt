@@ -81,3 +81,6 @@ pub use history_queries::can_undo;
 pub use history_queries::is_dirty;
 pub use history_queries::next_redo;
 pub use history_queries::next_undo;
+// a maker's own curve: document 02, E6
+pub use color_curve::rgb8_to_lab_by;
+pub use history_curve::load_curve;

@@ -17,13 +17,14 @@ ghost use mathlib.Core.Path.{_≡_};
 ghost use mathlib.Core.Bool.{false};
 ghost use lib.IntN.{pos};
 ghost use lib.ListN.{length, replicate};
+ghost use Rattle.color_curve.specs.Curve.{curveOf};
 ghost use Rattle.sheet.specs.Sheet.{sheetOf};
 ghost use Rattle.change_list.specs.Listed.{countOf};
 ghost use Rattle.tool_draw.specs.Calls.{pencilCall};
 ghost use Rattle.struct_edit.specs.Walk.{packedAll};
 ghost use Rattle.history_ledger.specs.Journal.{pushOf, undoOf, redoOf, markOf};
 ghost use Rattle.history_model.specs.Document.{documentOf};
-ghost use Rattle.history_model.specs.Editing.{editing, givenOf};
+ghost use Rattle.history_model.specs.Editing.{editingBy, editing, givenOf};
 ghost use Rattle.history_model.specs.Calls.{stateOf, leaves};
 ghost use Rattle.example_structs.specs.Lent.{movedOf, blanks, changesOf, noChange};
 
@@ -65,6 +66,7 @@ fn recorded(
     indices: &mut [i16],
     locks: &mut [bool],
     permitted: &[u8],
+    curve: &[f64],
     edit: Edit,
     list: &[Change],
     journal: &mut [u8],
@@ -76,7 +78,7 @@ fn recorded(
         documentOf 6 4 k (now (palette .entry)) (now (lab .entry)) (now (indices .entry)) (now (locks .entry)) in
         leaves r 6 4 (now (palette .exit)) (now (lab .exit)) (now (indices .exit)) (now (locks .exit))
         (now (journal .exit))
-        ≡ pushOf editing (length (now (marks .entry))) (stateOf document (now (journal .entry)) handle)
+        ≡ pushOf (editingBy (curveOf false (now (curve .entry)))) (length (now (marks .entry))) (stateOf document (now (journal .entry)) handle)
         (givenOf false (now (permitted .entry)) edit (packedAll (now (list .entry))))
         ) ⌝ }
 {
@@ -92,6 +94,8 @@ fn recorded(
         locks,
         false,
         permitted,
+        false,
+        curve,
         edit,
         list,
         journal,
@@ -112,6 +116,7 @@ pub(crate) fn stroke(
     points: &[i32],
     scratch: &mut [u64],
     permitted: &[u8],
+    curve: &[f64],
     edit: Edit,
     journal: &mut [u8],
     handle: Handle,
@@ -124,7 +129,7 @@ pub(crate) fn stroke(
         let drawn = pencilCall sheet area (now (points .entry)) 1 (pos 1) (length (now (scratch .entry))) blanks in
         leaves r 6 4 (now (palette .exit)) (now (lab .exit)) (now (indices .exit)) (now (locks .exit))
         (now (journal .exit))
-        ≡ pushOf editing (length (now (marks .entry))) (stateOf document (now (journal .entry)) handle)
+        ≡ pushOf (editingBy (curveOf false (now (curve .entry)))) (length (now (marks .entry))) (stateOf document (now (journal .entry)) handle)
         (givenOf false (now (permitted .entry)) edit (changesOf drawn))
         ) ⌝ }
 {
@@ -151,6 +156,7 @@ pub(crate) fn stroke(
         indices,
         locks,
         permitted,
+        curve,
         edit,
         &list[..n],
         journal,
@@ -200,6 +206,7 @@ pub(crate) fn redone(
     lab: &mut [f64],
     indices: &mut [i16],
     locks: &mut [bool],
+    curve: &[f64],
     journal: &[u8],
     handle: Handle,
     marks: &mut [u8],
@@ -209,7 +216,7 @@ pub(crate) fn redone(
         documentOf 6 4 k (now (palette .entry)) (now (lab .entry)) (now (indices .entry)) (now (locks .entry)) in
         leaves r 6 4 (now (palette .exit)) (now (lab .exit)) (now (indices .exit)) (now (locks .exit))
         (now (journal .entry))
-        ≡ redoOf editing (length (now (marks .entry))) (stateOf document (now (journal .entry)) handle)
+        ≡ redoOf (editingBy (curveOf false (now (curve .entry)))) (length (now (marks .entry))) (stateOf document (now (journal .entry)) handle)
         ) ⌝ }
 {
     let mut colors = k;
@@ -222,6 +229,8 @@ pub(crate) fn redone(
         lab,
         indices,
         locks,
+        false,
+        curve,
         journal,
         &mut held,
         marks,

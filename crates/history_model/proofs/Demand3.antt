@@ -12,8 +12,7 @@ use lib.Ieee.{Float, binary64, fits}
 use Rattle.base.specs.declared.Rgb.{Rgb}
 use Rattle.base.specs.Lists.{some}
 use Rattle.base.specs.Checks.{firstOf}
-use Rattle.color_lab.specs.Convert.{labOf}
-use Rattle.color_lab.proofs.Bytes.{lab-of-bytes, lab-fits}
+use Rattle.color_curve.specs.Curve.{Curve}
 use Rattle.edit.specs.Change.{unpacked}
 use Rattle.edit.specs.Storage.{numbersOf}
 use Rattle.edit.specs.Accepted.{Bytes, NewBytes}
@@ -23,26 +22,15 @@ use Rattle.history_ledger.proofs.Whole.{whole-history}
 use Rattle.history_ledger.proofs.Full.{full-exactly}
 use Rattle.history_ledger.specs.Calls.{Call}
 use Rattle.history_ledger.specs.Calls.Call.{push, undo, redo, mark}
+use Rattle.history_ledger.specs.Journal.{undoOf, stepOver}
 use Rattle.history_ledger.specs.Algebra.{WellFormedIn}
 use Rattle.history_ledger.specs.Demand.{TypedCall, TypedCalls}
 use Rattle.history_model.specs.Document.{documentChecks}
-use Rattle.history_model.specs.Editing.{editing}
+use Rattle.history_model.specs.Editing.{editingBy, editing}
 use Rattle.history_model.specs.Handed.{Byte, Double, Colour, rgbOf, HandedEdit, HandedSheet, HandedPush, sheetBy, editBy, callBy}
 use Rattle.history_model.specs.Handed.HandedEdit.{pixels, set, add, remove, lock}
 use Rattle.history_model.specs.Demand3.{Demand3}
-use Rattle.history_model.proofs.Keeps.{Curve, keeps}
-
-double : (b : Bool) → T b → not b ≡ false
-double true h = refl
-double false h = absurd h
-
-doubles : (c : Rgb) → some (λ (v : Float). not (fits binary64 v)) (numbersOf (labOf c)) ≡ false
-unfolding some
-doubles c = let f = lab-fits c in rw (double (fits binary64 (labOf c .l)) (f .l), double (fits binary64 (labOf c .a)) (f .a), double (fits binary64 (labOf c .b)) (f .b))
-
--- document 01's curve
-pub curve : Curve labOf
-curve = record { finite = λ c h. lab-of-bytes c (omega (arith, h .r-byte)) (omega (arith, h .g-byte)) (omega (arith, h .b-byte)); doubles = doubles }
+use Rattle.history_model.proofs.Keeps.{double, keeps}
 
 -- ---- what the types give: a change of 64 bits has 16 bits for each of its numbers, and bytes are bytes
 byte : (b : Byte) → b .value < 256
@@ -94,16 +82,17 @@ doubles-typed [] = refl
 doubles-typed (d ∷ l) = rw (double _ (d .in-64-bits), doubles-typed l)
 
 -- a handed sheet that none of 1 to 3 refuses
-pub handed-fits : (lent : HandedSheet) → firstOf (documentChecks (sheetBy lent)) ≡ 0 → WellFormedIn editing (sheetBy lent)
-handed-fits lent passes = record { typed = record { palette = bytes-typed (lent .palette); lab = doubles-typed (lent .lab) }; passes = passes }
+pub handed-fits : (c : Curve) (lent : HandedSheet) → firstOf (documentChecks (sheetBy lent)) ≡ 0 → WellFormedIn (editingBy c) (sheetBy lent)
+handed-fits c lent passes = record { typed = record { palette = bytes-typed (lent .palette); lab = doubles-typed (lent .lab) }; passes = passes }
 
 pub demand-3 : Demand3
-unfolding view
+unfolding view undoOf stepOver
 demand-3 =
     record {
       whole-history =
-          λ lent passes shorter longer b b′ scratch scratch′ c c′ handed.
-          whole-history editing (keeps labOf curve) (sheetBy lent) (handed-fits lent passes)
-          shorter longer b b′ scratch scratch′ c c′ (map callBy handed) (calls-typed handed);
-      journal-full = full-exactly editing (keeps labOf curve);
+          λ c fits lent passes shorter longer b b′ scratch scratch′ r r′ handed.
+          whole-history (editingBy c) (keeps c fits) (sheetBy lent) (handed-fits c lent passes)
+          shorter longer b b′ scratch scratch′ r r′ (map callBy handed) (calls-typed handed);
+      journal-full = λ c fits. full-exactly (editingBy c) (keeps c fits);
+      undo-alike = λ c st. refl;
     }

@@ -1,4 +1,4 @@
--- Document 01's sheet, edits and records keep the laws that demand 3 asks of an algebra, for every curve that gives finite doubles. Assumes nothing.
+-- Document 01's sheet, edits and records keep the laws that demand 3 asks of an algebra, for every curve that fits. Assumes nothing.
 use mathlib.Core.Path.{_≡_, refl, sym, ap, _∙_}
 use mathlib.Core.Bool.{Bool, true, false, not}
 use mathlib.Core.List.{List, [], _∷_, _++_, flatMap}
@@ -6,7 +6,7 @@ use mathlib.Core.Option.{some}
 use Prim.Native.Nat.{ℕ, suc, _+_, _*_, _≤_}
 use native.Mathlib.Omega.{arith}
 use borrow.Author.Tests.{le-ltb, lt-leb, eq-eqb, eqb-true, ltb-false, le-leb, eqb-false}
-use lib.Dec.{ltb, leb, eqb}
+use lib.Dec.{T, ltb, leb, eqb}
 use lib.Ieee.{Float, binary64, fits}
 use lib.ListN.{length, length-map, take}
 use lib.Seq.{length-take-le}
@@ -16,6 +16,8 @@ use Rattle.base.specs.Checks.{Check, firstOf}
 use Rattle.base.specs.declared.Rgb.{Rgb}
 use Rattle.base.specs.declared.Lab.{Lab}
 use Rattle.base.specs.Lists as lists
+use Rattle.color_curve.specs.Curve.{Curve, labBy, CurveFits}
+use Rattle.color_curve.proofs.Sessions.{by-finite, by-fits}
 use Rattle.sheet.specs.Sheet.{Sheet, Picture, view}
 use Rattle.sheet.specs.Checks.{limitChecks, markChecks, indexChecks, labChecks, permittedChecks, sheetChecks, WellFormed, Marked}
 use Rattle.sheet.proofs.Judging.{none-applied, judged-fine}
@@ -155,14 +157,28 @@ next-places curve p (PaletteAdd c) cs = refl
 next-places curve p (PaletteRemove i c lab) cs = refl
 next-places curve p (PaletteLock i old new) cs = refl
 
--- ---- with a curve that gives finite doubles of 64 bits
-pub record Curve (curve : Rgb → Lab) : Type 0 where
-  pub finite : FiniteCurve curve
-  pub doubles : (c : Rgb) → lists.some (λ (v : Float). not (fits binary64 v)) (numbersOf (curve c)) ≡ false
+-- ---- a curve that fits gives finite doubles of 64 bits
+finite-curve : (c : Curve) → CurveFits c → FiniteCurve (labBy c)
+finite-curve c f rgb h = by-finite c f rgb (omega (arith, h .r-byte)) (omega (arith, h .g-byte)) (omega (arith, h .b-byte))
 
-module _ (curve : Rgb → Lab) (good : Curve curve) where
+pub double : (b : Bool) → T b → not b ≡ false
+double true h = refl
+double false h = absurd h
+
+doubles : (c : Curve) (rgb : Rgb) → lists.some (λ (v : Float). not (fits binary64 v)) (numbersOf (labBy c rgb)) ≡ false
+unfolding lists.some
+doubles c rgb =
+    let f = by-fits c rgb in
+    let x = labBy c rgb in
+    rw (double (fits binary64 (x .l)) (f .l), double (fits binary64 (x .a)) (f .a), double (fits binary64 (x .b)) (f .b))
+
+-- ---- in a session with such a curve
+module _ (session : Curve) (curve-fits : CurveFits session) where
+  abbrev curve : Rgb → Lab
+  curve = labBy session
+
   abbrev A : algebra.Algebra
-  A = editingBy curve
+  A = editingBy session
 
   well-formed : {d : Document} → algebra.WellFormedIn A d → Marked (d .sheet) (d .locks)
   well-formed {d} f = marked (d .sheet) (d .locks) (f .passes)
@@ -214,8 +230,8 @@ module _ (curve : Rgb → Lab) (good : Curve curve) where
 
   new-typed : (e : Edit) → NewBytes e → typed.NewTame (leb 256) (λ (v : Float). not (fits binary64 v)) curve e
   new-typed (Pixels tool) h = tt
-  new-typed (PaletteSet i old new lab) h = record { bytes = colour-bytes new h; numbers = good .doubles new }
-  new-typed (PaletteAdd c) h = record { bytes = colour-bytes c h; numbers = good .doubles c }
+  new-typed (PaletteSet i old new lab) h = record { bytes = colour-bytes new h; numbers = doubles session new }
+  new-typed (PaletteAdd c) h = record { bytes = colour-bytes c h; numbers = doubles session c }
   new-typed (PaletteRemove i c lab) h = tt
   new-typed (PaletteLock i old new) h = tt
 
@@ -224,7 +240,7 @@ module _ (curve : Rgb → Lab) (good : Curve curve) where
   make-fits d g a =
       record {
         typed = of-typed (typed.redone-typed (leb 256) (λ (v : Float). not (fits binary64 v)) curve (d .sheet) (g .edit) (g .changes) (as-typed (a .fits .typed)) (new-typed (g .edit) (a .typed .new-bytes)));
-        passes = passes (documentDone curve d (g .edit) (g .changes)) (redone-fits curve (good .finite) (accepted a)) (locks-long curve (d .sheet) (d .locks) (marks a) (g .edit) (g .changes) (passed-edit a));
+        passes = passes (documentDone curve d (g .edit) (g .changes)) (redone-fits curve (finite-curve session curve-fits) (accepted a)) (locks-long curve (d .sheet) (d .locks) (marks a) (g .edit) (g .changes) (passed-edit a));
       }
 
   make-shows : (d : Document) (g : Given) → Accepts A d g → shown (documentDone curve d (g .edit) (g .changes)) ≡ nextShown curve (shown d) (g .edit) (g .changes)
@@ -307,7 +323,7 @@ module _ (curve : Rgb → Lab) (good : Curve curve) where
       let cs = filledChanges s (g .edit) (ownList (listOf (g .edit)) (g .changes)) in
       let w = well-formed f in
       let locks : take (t .sheet .k) (t .locks) ≡ take (s .k) (d .locks) = ap (λ (p : Shown). p .locks) v in
-      let u = redo-again curve (good .finite) anyColour refl (own-accepted a) (w .formed) (ap (λ (p : Shown). p .picture) v) locks in
+      let u = redo-again curve (finite-curve session curve-fits) anyColour refl (own-accepted a) (w .formed) (ap (λ (p : Shown). p .picture) v) locks in
       let m : Marks (t .locks) (t .sheet .k) = record { long = w .marks; few = w .formed .limits .k-small } in
       let ok : Passed (t .sheet) e cs = passed false (t .sheet) (t .locks) anyColour e cs (u .unrefused) in
       let made : take (redone curve (t .sheet) e cs .k) (locksDone (t .sheet .k) (t .locks) e) ≡ nextLocks (take (s .k) (d .locks)) (g .edit) =
@@ -335,7 +351,7 @@ module _ (curve : Rgb → Lab) (good : Curve curve) where
         view-passes = λ d f. view-passes d (well-formed f .formed) (well-formed f .marks);
         empty-short = λ g. empty-short (listOf (g .edit)) (g .changes);
         empty-own = λ p g. empty-own (asSheet (p .picture)) (p .locks) (g .permitted) (g .edit) (g .changes);
-        curve-passes = refl;
+        curve-passes = curve-fits;
         first-not-full = λ g e. omega arith;
         sheet-not-full = sheet-not-full;
         picture-not-full = picture-not-full;

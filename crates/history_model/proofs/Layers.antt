@@ -3,16 +3,15 @@ use mathlib.Core.Bool.{Bool, true, false, cond}
 use mathlib.Core.List.{List, [], _∷_, map}
 use Prim.Native.Nat.{ℕ}
 use lib.Dec.{eqb}
-use Rattle.color_lab.specs.Convert.{labOf}
 use Rattle.sheet.specs.Sheet.{view}
 use Rattle.history_ledger.specs.Demand.{TypedCalls}
 use Rattle.history_ledger.specs.Layers.{callsOn, callsIn}
 use Rattle.history_ledger.proofs.Layers.{own-histories}
-use Rattle.history_model.specs.Editing.{editing}
+use Rattle.history_model.specs.Editing.{editingBy, editing}
 use Rattle.history_model.specs.Handed.{sheetBy}
 use Rattle.history_model.specs.Layers.{HandedCall, callOn, Demand3OfLayers}
 use Rattle.history_model.proofs.Keeps.{keeps}
-use Rattle.history_model.proofs.Demand3.{curve, call-typed, handed-fits}
+use Rattle.history_model.proofs.Demand3.{call-typed, handed-fits}
 
 own-typed : (i : ℕ) (handed : List HandedCall) → TypedCalls editing (callsIn (callsOn i (map callOn handed)))
 unfolding callsOn
@@ -26,6 +25,6 @@ own-typed i (c ∷ handed) = go (eqb i (c .layer)) (own-typed i handed)
 
 pub demand-3-of-layers : Demand3OfLayers
 unfolding view
-demand-3-of-layers lent i passes journals longer b b′ handed c scratch′ c′ =
-    own-histories editing (keeps labOf curve) (λ j. sheetBy (lent j)) i (handed-fits (lent i) passes) journals longer b b′
-    (map callOn handed) (own-typed i handed) c scratch′ c′
+demand-3-of-layers c fits lent i passes journals longer b b′ handed r scratch′ r′ =
+    own-histories (editingBy c) (keeps c fits) (λ j. sheetBy (lent j)) i (handed-fits c (lent i) passes) journals longer b b′
+    (map callOn handed) (own-typed i handed) r scratch′ r′

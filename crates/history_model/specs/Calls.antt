@@ -10,6 +10,7 @@ use Rattle.base.specs.Limits.{maxChanges, maxJournal}
 use Rattle.base.specs.Checks.{Check, firstOf}
 use Rattle.base.specs.Answer.{answerTold}
 use Rattle.base.specs.declared.Answer.{Answer}
+use Rattle.color_curve.specs.Curve.{Curve, CurveFits}
 use Rattle.sheet.specs.Checks.{WellFormed}
 use Rattle.base.specs.declared.Edit.{Edit}
 use Rattle.edit.specs.Change.{Change}
@@ -21,7 +22,7 @@ use Rattle.history_ledger.specs.Calls.{Outcome}
 use Rattle.history_ledger.specs.Journal.{State, longJournal, unsound, moveChecks, entryChecks}
 use Rattle.base.specs.declared.Moved.{Moved}
 use Rattle.history_model.specs.Document.{Document, documentOf}
-use Rattle.history_model.specs.Editing.{Given, editing}
+use Rattle.history_model.specs.Editing.{Given, editingBy, editing}
 
 -- sheet and marks, journal and handle
 abbrev pub stateOf : Document → List ℕ → Handle → State Document
@@ -39,14 +40,15 @@ pub record Standing (st : State Document) : Type 0 where
   pub permitted : length (st .journal) ≤ maxJournal
   pub is-sound : sound (length (st .journal)) (st .handle) ≡ true
 
--- the number of the first of 1 to 4 that applies, and what 0 means: for undo and redo, and for push
+-- the number of the first of 1 to 4 that applies, and what 0 means: for undo and redo; and with 25 for push
 pub record Moves (st : State Document) (n : ℕ) : Type 0 where
   pub value : n ≡ firstOf (moveChecks editing st)
   pub fine : n ≡ 0 → Standing st
 
-pub record Enters (st : State Document) (g : Given) (n : ℕ) : Type 0 where
-  pub value : n ≡ firstOf (entryChecks editing st g)
+pub record Enters (c : Curve) (st : State Document) (g : Given) (n : ℕ) : Type 0 where
+  pub value : n ≡ firstOf (entryChecks (editingBy c) st g)
   pub fine : n ≡ 0 → Standing st
+  pub curve-fits : n ≡ 0 → CurveFits c
 
 -- ---- a push that no check refuses
 pub record Acceptable (st : State Document) (e : Edit) (cs : List Change) : Type 0 where

@@ -1,9 +1,9 @@
 -- DEMAND 3, the whole of it, for the calls of this repository. Proved: `demand-3` in proofs/Demand3.antt. Definitions
--- only. Assumes nothing. `step editing` at a push, an undo, a redo and a mark is `pushOf editing`, `undoOf editing`,
--- `redoOf editing` and `markOf` (history_ledger/specs/Journal.antt): the contracts of `push`, `undo`, `redo` and
--- `mark_saved` say that answer, handle, sheet and journal are exactly theirs. `enter editing`
+-- only. Assumes nothing. With A = `editingBy c`, c the curve of a session, `step A` at a push, an undo, a redo and a mark
+-- is `pushOf A`, `undoOf A`, `redoOf A` and `markOf` (history_ledger/specs/Journal.antt): the contracts of `push`, `undo`,
+-- `redo` and `mark_saved` say that answer, handle, sheet and journal are exactly theirs. `enter A`
 -- (history_ledger/specs/Ledger.antt) is document 01's ledger. Sheets and calls are as a caller hands them in, in the
--- types that the code has for them (Handed.antt).
+-- types that the code has for them (Handed.antt). Not loaded, c is sRGB's curve, which passes, and A is `editing`.
 use mathlib.Core.Path.{_≡_}
 use mathlib.Core.Logic.{_↔_}
 use mathlib.Core.List.{List, map}
@@ -13,12 +13,13 @@ use Rattle.base.specs.Limits.{maxJournal}
 use Rattle.base.specs.Numbers.{journalFull}
 use Rattle.base.specs.Checks.{firstOf}
 use Rattle.base.specs.Answer.Told.{alone}
+use Rattle.color_curve.specs.Curve.{Curve, CurveFits}
 use Rattle.history_ledger.specs.Calls.{Call, play, lend}
-use Rattle.history_ledger.specs.Journal.{State, opened, step, stepLent}
+use Rattle.history_ledger.specs.Journal.{State, opened, undoOf, step, stepLent}
 use Rattle.history_ledger.specs.Ledger.{begun, enter}
 use Rattle.history_ledger.specs.Demand.{unstruck, SameHistory, FullCall}
 use Rattle.history_model.specs.Document.{Document, shown, documentChecks}
-use Rattle.history_model.specs.Editing.{Given, editing}
+use Rattle.history_model.specs.Editing.{Given, editingBy, editing}
 use Rattle.history_model.specs.Handed.{HandedSheet, HandedPush, sheetBy, callBy}
 
 pub record Demand3 : Type 0 where
@@ -28,19 +29,22 @@ pub record Demand3 : Type 0 where
   -- from the same sheet; the second run and the ledger get only the calls not struck. Compared are these calls'
   -- answers, numbers included, in order, and afterwards sheet, standing position and saved position with the ledger's
   -- standing picture and positions." Document 02, E5: any marks at the start; "A ledger picture includes the marks, which
-  -- are compared afterwards too, and lock calls join the lists of calls as pushes".
-  pub whole-history : (lent : HandedSheet)
+  -- are compared afterwards too, and lock calls join the lists of calls as pushes". E6: "In a loaded session every call
+  -- of a list gets the loaded curve, which stays constant, and the ledger uses it throughout": for every curve that fits.
+  pub whole-history : (c : Curve) → CurveFits c → (lent : HandedSheet)
       → let s = sheetBy lent in
       firstOf (documentChecks s) ≡ 0
       → (shorter longer : List ℕ) → length shorter ≤ length longer → length longer ≤ maxJournal
       → (scratch scratch′ : ℕ → ℕ) → ((i : ℕ) → s .sheet .w * s .sheet .h ≤ scratch i) → ((i : ℕ) → s .sheet .w * s .sheet .h ≤ scratch′ i)
       → (handed : List (Call HandedPush))
       → let calls = map callBy handed in
-      let first = play (stepLent editing) (opened editing s shorter) (lend scratch calls) in
+      let first = play (stepLent (editingBy c)) (opened (editingBy c) s shorter) (lend scratch calls) in
       let left = unstruck calls (first .answers) in
-      let second = play (stepLent editing) (opened editing s longer) (lend scratch′ left) in
-      let ledger = play (enter editing) (begun editing (shown s)) left in
-      SameHistory editing (unstruck (first .answers) (first .answers)) first second ledger
+      let second = play (stepLent (editingBy c)) (opened (editingBy c) s longer) (lend scratch′ left) in
+      let ledger = play (enter (editingBy c)) (begun (editingBy c) (shown s)) left in
+      SameHistory (editingBy c) (unstruck (first .answers) (first .answers)) first second ledger
   -- a call answers "journal full" exactly where it is a push and 14 is the first check to apply, empty pixel lists apart: in every state, reached or not
-  pub journal-full : (scratch : ℕ) (st : State Document) (c : Call Given)
-      → (step editing scratch st c .answer ≡ alone journalFull) ↔ FullCall editing scratch st c
+  pub journal-full : (c : Curve) → CurveFits c → (scratch : ℕ) (st : State Document) (call : Call Given)
+      → (step (editingBy c) scratch st call .answer ≡ alone journalFull) ↔ FullCall (editingBy c) scratch st call
+  -- undo takes no curve: what its contract says, with sRGB's, is so in every session
+  pub undo-alike : (c : Curve) (st : State Document) → undoOf (editingBy c) st ≡ undoOf editing st

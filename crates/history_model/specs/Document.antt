@@ -16,7 +16,7 @@ use Rattle.sheet.specs.Sheet.{Sheet, Picture, sheetOf, view}
 use Rattle.sheet.specs.Checks.{markChecks, sheetChecks}
 use Rattle.edit.specs.Change.{Change}
 use Rattle.edit.specs.Locks.{locksDone, locksBack, nextLocks}
-use Rattle.edit.specs.Apply.{redone, reverted, nextPicture}
+use Rattle.edit.specs.Apply.{restDone, redone, reverted, nextPicture}
 
 pub record Document : Type 0 where
   pub sheet : Sheet
@@ -37,7 +37,10 @@ pub record Shown : Type 0 where
 abbrev pub shown : Document → Shown
 shown d = record { picture = view (d .sheet); locks = take (d .sheet .k) (d .locks) }
 
--- ---- an edit done, undone, and entered in the ledger
+-- ---- an edit done but for its list, which is painted already; done, undone, and entered in the ledger
+abbrev pub documentRest : (Rgb → Lab) → Document → Edit → Document
+documentRest curve d e = record { sheet = restDone curve (d .sheet) e; locks = locksDone (d .sheet .k) (d .locks) e }
+
 abbrev pub documentDone : (Rgb → Lab) → Document → Edit → List Change → Document
 documentDone curve d e cs = record { sheet = redone curve (d .sheet) e cs; locks = locksDone (d .sheet .k) (d .locks) e }
 

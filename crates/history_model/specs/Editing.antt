@@ -15,7 +15,7 @@ use Rattle.base.specs.declared.Rgb.{Rgb}
 use Rattle.base.specs.declared.Lab.{Lab}
 use Rattle.base.specs.Lists as lists
 use Rattle.color_doubles.specs.Finite.{unfit}
-use Rattle.color_lab.specs.Convert.{labOf}
+use Rattle.color_curve.specs.Curve.{Curve, srgb, labBy, curveChecks}
 use Rattle.sheet.specs.Sheet.{Sheet, Picture, stray}
 use Rattle.sheet.specs.Checks.{permittedChecks}
 use Rattle.base.specs.declared.Edit.{Edit}
@@ -78,39 +78,39 @@ unfoldable pub undoneBy : Document → records.Reading → Option (Taken Documen
 undoneBy d none = none
 undoneBy d (some r) = taken (undoable (d .sheet) (d .locks) (r .1) (r .2)) (r .0) (documentBack d (r .1) (r .2))
 
-module _ (curve : Rgb → Lab) where
-  unfoldable pub redoneBy : Document → records.Reading → Option (Taken Document)
-  redoneBy d none = none
-  redoneBy d (some r) = taken (redoable (d .sheet) (d .locks) (r .1) (r .2)) (r .0) (documentDone curve d (r .1) (r .2))
+unfoldable pub redoneBy : (Rgb → Lab) → Document → records.Reading → Option (Taken Document)
+redoneBy curve d none = none
+redoneBy curve d (some r) = taken (redoable (d .sheet) (d .locks) (r .1) (r .2)) (r .0) (documentDone curve d (r .1) (r .2))
 
-  -- with `curve` for the LAB of a colour
-  abbrev pub editingBy : Algebra
-  editingBy =
-      record {
-        Sheet = Document;
-        Picture = Shown;
-        Edit = Given;
-        SheetTyped = λ d. TypedSheet (d .sheet);
-        EditTyped = TypedGiven;
-        view = shown;
-        places = λ p. p .picture .w * p .picture .h;
-        -- no call has 28 or 25 yet
-        firstCheck = λ g. 0;
-        curveCheck = 0;
-        sheetCheck = λ d. firstOf (documentChecks d);
-        pictureCheck = λ p. firstOf (shownChecks p);
-        givenCheck = λ g. firstOf (permittedChecks (g .permitted .limited) (g .permitted .colours));
-        ownCheck = λ p g. firstOf (ownChecks false (asSheet (p .picture)) (p .locks) (g .permitted) (g .edit) (g .changes));
-        isEmpty = λ g. emptyPixels (listOf (g .edit)) (length (g .changes));
-        isLong = λ g. tooLong (g .changes);
-        make = λ d g. documentDone curve d (g .edit) (g .changes);
-        encode = λ d g. recordOf (filledEdit (d .sheet) (d .locks) (g .edit)) (filledChanges (d .sheet) (g .edit) (g .changes));
-        size = λ g. recordLength (g .edit) (length (g .changes));
-        back = λ bytes d. undoneBy d (readBack bytes);
-        forth = λ bytes d. redoneBy d (readForth bytes);
-        paint = λ p g. nextShown curve p (g .edit) (g .changes);
-      }
+-- with the curve of a session for the LAB of a colour: document 02, E6, "In a loaded session every call of a list gets the loaded curve, which stays
+-- constant, and the ledger uses it throughout"
+abbrev pub editingBy : Curve → Algebra
+editingBy c =
+    record {
+      Sheet = Document;
+      Picture = Shown;
+      Edit = Given;
+      SheetTyped = λ d. TypedSheet (d .sheet);
+      EditTyped = TypedGiven;
+      view = shown;
+      places = λ p. p .picture .w * p .picture .h;
+      -- no call has 28 yet
+      firstCheck = λ g. 0;
+      curveCheck = firstOf (curveChecks c);
+      sheetCheck = λ d. firstOf (documentChecks d);
+      pictureCheck = λ p. firstOf (shownChecks p);
+      givenCheck = λ g. firstOf (permittedChecks (g .permitted .limited) (g .permitted .colours));
+      ownCheck = λ p g. firstOf (ownChecks false (asSheet (p .picture)) (p .locks) (g .permitted) (g .edit) (g .changes));
+      isEmpty = λ g. emptyPixels (listOf (g .edit)) (length (g .changes));
+      isLong = λ g. tooLong (g .changes);
+      make = λ d g. documentDone (labBy c) d (g .edit) (g .changes);
+      encode = λ d g. recordOf (filledEdit (d .sheet) (d .locks) (g .edit)) (filledChanges (d .sheet) (g .edit) (g .changes));
+      size = λ g. recordLength (g .edit) (length (g .changes));
+      back = λ bytes d. undoneBy d (readBack bytes);
+      forth = λ bytes d. redoneBy (labBy c) d (readForth bytes);
+      paint = λ p g. nextShown (labBy c) p (g .edit) (g .changes);
+    }
 
 -- with document 01's
 abbrev pub editing : Algebra
-editing = editingBy labOf
+editing = editingBy srgb

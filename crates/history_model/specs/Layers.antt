@@ -9,13 +9,14 @@ use lib.ListN.{length}
 use Rattle.base.specs.Limits.{maxJournal}
 use Rattle.base.specs.Checks.{firstOf}
 use Rattle.base.specs.Lists.{All}
+use Rattle.color_curve.specs.Curve.{Curve, CurveFits}
 use Rattle.history_ledger.specs.Calls.{Call, Lent, play, lend}
 use Rattle.history_ledger.specs.Journal.{State, opened, stepLent}
 use Rattle.history_ledger.specs.Ledger.{begun, enter}
 use Rattle.history_ledger.specs.Demand.{unstruck, SameHistory}
 use Rattle.history_ledger.specs.Layers.{OnLayer, callsOn, layered, partOf, callsIn}
 use Rattle.history_model.specs.Document.{Document, shown, documentChecks}
-use Rattle.history_model.specs.Editing.{Given, editing}
+use Rattle.history_model.specs.Editing.{Given, editingBy}
 use Rattle.history_model.specs.Handed.{HandedSheet, HandedPush, sheetBy, callBy}
 
 -- a call as it is handed in, on a layer and with scratch of its own
@@ -29,21 +30,22 @@ callOn c = record { layer = c .layer; call = record { call = callBy (c .call .ca
 -- layer i whose opening sheet is well-formed, whose journal is permitted and whose calls have scratch for every pixel:
 -- what its calls answered and left, with all the calls on the others in between, is what the ledger says that is fed
 -- its opening sheet and its calls, the struck ones left out; and what a run of that layer alone gives, in any permitted
--- journal that is not shorter. Nothing is asked of the other layers, nor of the calls on them.
+-- journal that is not shorter. Nothing is asked of the other layers, nor of the calls on them. All layers of a symbol
+-- have one curve.
 abbrev pub Demand3OfLayers : Type 0
 Demand3OfLayers =
-    (lent : ℕ → HandedSheet) (i : ℕ)
+    (c : Curve) → CurveFits c → (lent : ℕ → HandedSheet) (i : ℕ)
     → let s = sheetBy (lent i) in
     firstOf (documentChecks s) ≡ 0
     → (journals : ℕ → List ℕ) (longer : List ℕ) → length (journals i) ≤ length longer → length longer ≤ maxJournal
     → (handed : List HandedCall)
     → let calls = map callOn handed in
     let own = callsOn i calls in
-    All (λ c. s .sheet .w * s .sheet .h ≤ c .room) own
+    All (λ call. s .sheet .w * s .sheet .h ≤ call .room) own
     → (scratch′ : ℕ → ℕ) → ((n : ℕ) → s .sheet .w * s .sheet .h ≤ scratch′ n)
-    → let opening : ℕ → State Document = λ j. opened editing (sheetBy (lent j)) (journals j) in
-    let first = partOf i calls (play (layered (stepLent editing)) opening calls) in
+    → let opening : ℕ → State Document = λ j. opened (editingBy c) (sheetBy (lent j)) (journals j) in
+    let first = partOf i calls (play (layered (stepLent (editingBy c))) opening calls) in
     let left = unstruck (callsIn own) (first .answers) in
-    let second = play (stepLent editing) (opened editing s longer) (lend scratch′ left) in
-    let ledger = play (enter editing) (begun editing (shown s)) left in
-    SameHistory editing (unstruck (first .answers) (first .answers)) first second ledger
+    let second = play (stepLent (editingBy c)) (opened (editingBy c) s longer) (lend scratch′ left) in
+    let ledger = play (enter (editingBy c)) (begun (editingBy c) (shown s)) left in
+    SameHistory (editingBy c) (unstruck (first .answers) (first .answers)) first second ledger

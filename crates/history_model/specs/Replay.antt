@@ -9,7 +9,7 @@ use Rattle.base.specs.Numbers.{listTooLong, noSpace}
 use Rattle.base.specs.Checks.{Check, _when_}
 use Rattle.base.specs.Answer.{answerTold}
 use Rattle.base.specs.declared.Answer.{Answer}
-use Rattle.color_lab.specs.Convert.{labOf}
+use Rattle.color_curve.specs.Curve.{Curve, labBy, curveChecks}
 use Rattle.sheet.specs.Checks.{permittedChecks}
 use Rattle.base.specs.declared.Edit.{Edit}
 use Rattle.edit.specs.Change.{Change}
@@ -24,13 +24,13 @@ replayOwn room d p e cs =
     ∷ noSpace when ltb room (d .sheet .w * d .sheet .h)
     ∷ ownChecks true (d .sheet) (d .locks) p e cs
 
--- 1 of the permitted colours; 1, 2, 3; and these
-unfoldable pub replayChecks : ℕ → Document → Permitted → Edit → List Change → List Check
-replayChecks room d p e cs = permittedChecks (p .limited) (p .colours) ++ (documentChecks d ++ replayOwn room d p e cs)
+-- 1 of the permitted colours; 1, 2, 3; 25, directly after these since no journal is lent; and these
+unfoldable pub replayChecks : Curve → ℕ → Document → Permitted → Edit → List Change → List Check
+replayChecks c room d p e cs = permittedChecks (p .limited) (p .colours) ++ (documentChecks d ++ (curveChecks c ++ replayOwn room d p e cs))
 
 abbrev pub replayed : Answer → Document → Outcome Document
 replayed answer d = record { answer = answerTold answer; leaves = d }
 
 -- the edit done as `redo` does it; an empty list of pixels is done too
-unfoldable pub replayOf : ℕ → Document → Permitted → Edit → List Change → Outcome Document
-replayOf room d p e cs = guarded d (replayChecks room d p e cs) (done (documentDone labOf d e cs))
+unfoldable pub replayOf : Curve → ℕ → Document → Permitted → Edit → List Change → Outcome Document
+replayOf c room d p e cs = guarded d (replayChecks c room d p e cs) (done (documentDone (labBy c) d e cs))

@@ -1,8 +1,9 @@
-// Checks 1 to 4, which the calls on a history begin with.
+// Checks 1 to 4 and 25, which the calls on a history begin with.
 use base::BAD_SHEET;
 use base::Handle;
 use base::JOURNAL_DAMAGED;
 use base::MAX_JOURNAL;
+use color_curve::curve_no;
 use history_ledger::sound;
 use sheet::check_marked;
 use sheet::permitted_no;
@@ -11,6 +12,7 @@ ghost use mathlib.Core.List.{List};
 ghost use Prim.Native.Nat.{ℕ};
 ghost use Rattle.base.specs.Checks.{firstOf};
 ghost use Rattle.base.specs.declared.Edit.{Edit};
+ghost use Rattle.color_curve.specs.Curve.{curveOf};
 ghost use Rattle.history_model.specs.Document.{documentOf};
 ghost use Rattle.history_model.specs.Editing.{givenOf};
 ghost use Rattle.history_model.specs.Calls.{stateOf, handleChecks, Moves, Enters};
@@ -58,7 +60,8 @@ pub fn move_no(
     0
 }
 
-// The same of a push, with its permitted colours: a list that is too long is number 1, too.
+// The same of a push, with its permitted colours, of which a list that is too long is number 1, too, and the session's
+// curve, whose 25 comes after 4.
 pub fn entry_no(
     w: usize,
     h: usize,
@@ -69,11 +72,13 @@ pub fn entry_no(
     locks: &[bool],
     limited: bool,
     permitted: &[u8],
+    loaded: bool,
+    curve: &[f64],
     journal: &[u8],
     handle: Handle,
 ) -> u8
     ensures { λ r. ⌜
-        ((e : Edit) (l : List ℕ) → Enters
+        ((e : Edit) (l : List ℕ) → Enters (curveOf loaded (now (curve .entry)))
         (stateOf (documentOf w h k (now (palette .entry)) (now (lab .entry)) (now (indices .entry)) (now (locks .entry))) (now (journal .entry))
         handle) (givenOf limited (now (permitted .entry)) e l) r)
         ⌝ }
@@ -82,5 +87,9 @@ pub fn entry_no(
     if no != 0 {
         return no;
     }
-    move_no(w, h, k, palette, lab, indices, locks, journal, handle)
+    let moved = move_no(w, h, k, palette, lab, indices, locks, journal, handle);
+    if moved != 0 {
+        return moved;
+    }
+    curve_no(loaded, curve)
 }

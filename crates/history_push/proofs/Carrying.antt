@@ -12,7 +12,7 @@ use lib.Seq.{drop-drop}
 use Rattle.base.specs.Checks.{refusedOr}
 use Rattle.base.specs.Lists.{some, over}
 use Rattle.base.proofs.Back.{never}
-use Rattle.color_lab.specs.Convert.{labOf}
+use Rattle.color_curve.specs.Curve.{Curve, labBy}
 use Rattle.sheet.specs.Sheet.{Sheet, sheetOf}
 use Rattle.base.specs.declared.Edit.{Edit}
 use Rattle.base.specs.declared.Edit.the-variants.{Pixels, PaletteSet, PaletteAdd, PaletteRemove, PaletteLock}
@@ -36,7 +36,7 @@ use Rattle.history_ledger.specs.Calls.{done}
 use Rattle.history_ledger.specs.Journal.{State, written, pushed}
 use Rattle.history_ledger.proofs.Soundness.{sound-facts}
 use Rattle.history_model.specs.Document.{Document, documentOf}
-use Rattle.history_model.specs.Editing.{Given, givenOf, editing}
+use Rattle.history_model.specs.Editing.{Given, givenOf, editingBy}
 use Rattle.history_model.specs.Calls.{stateOf, Standing, Acceptable}
 use Rattle.history_model.proofs.Accepting.{filled-length, framed, not-refused}
 use Rattle.history_push_checks.specs.Steps.{isStill, pushedOr}
@@ -162,7 +162,7 @@ module _ (w h k : ℕ) (palette : List ℕ) (lab : List Float) (indices : List �
     carry-inside = let f = sound-facts (length journal) handle (stands .is-sound) in omega (arith, f .ends, f .fits)
 
   -- ---- what is left
-  module _ (limited : Bool) (permitted : List ℕ) where
+  module _ (curve : Curve) (limited : Bool) (permitted : List ℕ) where
     abbrev g : Given
     g = givenOf limited permitted e list
 
@@ -171,12 +171,12 @@ module _ (w h k : ℕ) (palette : List ℕ) (lab : List Float) (indices : List �
       abbrev left : State Document
       left = stateOf (documentOf w h k palette lab l locks) j handle
 
-      finished-pushed : handle .offset + recordLength e n ≤ length journal → finished left e n ≡ pushed editing st g
+      finished-pushed : handle .offset + recordLength e n ≤ length journal → finished (labBy curve) left e n ≡ pushed (editingBy curve) st g
       unfolding finished pushed written over filledEdit filledChanges redone
       finished-pushed room =
           let o : ℕ = handle .offset in
           let filled : List Change = filledList (listOf e) w indices cs in
-          let sheet : restDone labOf (sheetOf w h k palette lab l) e ≡ redone labOf s e cs = ap (λ (x : List ℤ). restDone labOf (sheetOf w h k palette lab x) e) p in
+          let sheet : restDone (labBy curve) (sheetOf w h k palette lab l) e ≡ redone (labBy curve) s e cs = ap (λ (x : List ℤ). restDone (labBy curve) (sheetOf w h k palette lab x) e) p in
           let same : filledEdit (sheetOf w h k palette lab l) locks e ≡ filledEdit s locks e = sym (stored-fill (sheetOf w h k palette lab l) locks e) ∙ stored-fill s locks e in
           let stood : j ≡ take o journal ++ within (listOf (filledEdit s locks e)) filled (drop o journal) = q ∙ rw (list-filled s locks e) in
           let bytes : take o j ++ around (filledEdit (sheetOf w h k palette lab l) locks e) n (drop o j) ≡ written journal o (recordOf (filledEdit s locks e) filled) =
@@ -185,11 +185,11 @@ module _ (w h k : ℕ) (palette : List ℕ) (lab : List Float) (indices : List �
           λ i. record { sheet = record { sheet = sheet i; locks = locksDone k locks e }; journal = bytes i; handle = moved i }
 
       -- with number 0: still, or done
-      pub carried : (emptyPixels (listOf e) (length cs) ≡ false → Acceptable st e cs) → pushedOr 0 (emptyPixels (listOf e) n) left (finished left e n) ≡ pushedOr 0 (isStill g) st (pushed editing st g)
+      pub carried : (emptyPixels (listOf e) (length cs) ≡ false → Acceptable st e cs) → pushedOr 0 (emptyPixels (listOf e) n) left (finished (labBy curve) left e n) ≡ pushedOr 0 (isStill g) st (pushed (editingBy curve) st g)
       unfolding pushedOr refusedOr
       carried fine = by (emptyPixels (listOf e) (length cs)) refl
         where
-          by : (t : Bool) → emptyPixels (listOf e) (length cs) ≡ t → pushedOr 0 (emptyPixels (listOf e) n) left (finished left e n) ≡ pushedOr 0 (isStill g) st (pushed editing st g)
+          by : (t : Bool) → emptyPixels (listOf e) (length cs) ≡ t → pushedOr 0 (emptyPixels (listOf e) n) left (finished (labBy curve) left e n) ≡ pushedOr 0 (isStill g) st (pushed (editingBy curve) st g)
           by true t =
               let none : length cs ≡ 0 = none-there (listOf e) (length cs) t in
               let still-l : l ≡ indices = p ∙ none-painted (listOf e) w cs indices none in

@@ -8,7 +8,8 @@ use borrow.Rule.Slice.PartMut.{putMid}
 use lib.Ieee.{Float}
 use lib.ListN.{length, take, drop, length-drop, drop-of-length-le}
 use lib.Seq.{take-all, length-take-le}
-use Rattle.color_lab.specs.Convert.{labOf}
+use Rattle.base.specs.declared.Lab.{Lab}
+use Rattle.base.specs.declared.Rgb.{Rgb}
 use Rattle.sheet.specs.Sheet.{Sheet, sheetOf}
 use Rattle.base.specs.declared.Edit.{Edit}
 use Rattle.edit.specs.Locks.{locksDone}
@@ -49,16 +50,16 @@ from-offset f l part o q =
     let none : drop (length l - o) (drop o l) ≡ [] = drop-of-length-le (drop o l) {i = length l - o} (simp length-drop (omega arith)) in
     rw (none, append-nil part) (ap (λ (p : List ℕ). take o l ++ p) (q ∙ ap f all))
 
-pub finished-is : (st : State Document) (e : Edit) (n : ℕ) (t : Sheet) (marks : List Bool) (x : Edit) (part : List ℕ) (r : ℕ) (hd : Handle)
-    → t ≡ restDone labOf (st .sheet .sheet) e
+pub finished-is : (curve : Rgb → Lab) (st : State Document) (e : Edit) (n : ℕ) (t : Sheet) (marks : List Bool) (x : Edit) (part : List ℕ) (r : ℕ) (hd : Handle)
+    → t ≡ restDone curve (st .sheet .sheet) e
     → marks ≡ locksDone (st .sheet .sheet .k) (st .sheet .locks) e
     → x ≡ filledEdit (st .sheet .sheet) (st .sheet .locks) e
     → part ≡ around x n (take (length (st .journal) - st .handle .offset) (drop (st .handle .offset) (st .journal)))
     → r ≡ recordLength e n
     → hd ≡ afterPush r (st .handle)
-    → stateOf (record { sheet = t; locks = marks }) (putMid (st .handle .offset) (length (st .journal) - st .handle .offset) (st .journal) part) hd ≡ finished st e n
+    → stateOf (record { sheet = t; locks = marks }) (putMid (st .handle .offset) (length (st .journal) - st .handle .offset) (st .journal) part) hd ≡ finished curve st e n
 unfolding finished
-finished-is st e n t marks x part r hd sheet moves edit bytes long moved =
+finished-is curve st e n t marks x part r hd sheet moves edit bytes long moved =
     let o : ℕ = st .handle .offset in
     let l : List ℕ = st .journal in
     let journal : putMid o (length l - o) l part ≡ take o l ++ around (filledEdit (st .sheet .sheet) (st .sheet .locks) e) n (drop o l) = from-offset (around (filledEdit (st .sheet .sheet) (st .sheet .locks) e) n) l part o (bytes ∙ rw edit) in

@@ -5,11 +5,11 @@ use Prim.Native.Nat.{ℕ, _+_, _≤_}
 use lib.Ieee.{Float}
 use lib.ListN.{length, take, drop}
 use Rattle.base.specs.Limits.{maxChanges, maxJournal}
-use Rattle.color_lab.specs.Convert.{labOf}
+use Rattle.base.specs.declared.Lab.{Lab}
+use Rattle.base.specs.declared.Rgb.{Rgb}
 use Rattle.sheet.specs.Sheet.{sheetOf}
 use Rattle.base.specs.declared.Edit.{Edit}
-use Rattle.edit.specs.Locks.{locksDone}
-use Rattle.edit.specs.Apply.{filledEdit, restDone}
+use Rattle.edit.specs.Apply.{filledEdit}
 use Rattle.edit_locks.specs.Movable.{MarkIn, Redoable}
 use Rattle.edit_apply.specs.Redoable.{EntryIn, Finishable}
 use Rattle.journal_record.specs.Record.{recordLength}
@@ -17,14 +17,14 @@ use Rattle.journal_frame.specs.Frame.{around, Framed}
 use Rattle.base.specs.declared.Handle.{Handle}
 use Rattle.history_ledger.specs.Handle.{afterPush}
 use Rattle.history_ledger.specs.Journal.{State}
-use Rattle.history_model.specs.Document.{Document}
+use Rattle.history_model.specs.Document.{Document, documentRest}
 
--- the record around n changes that stand in it, the rest of the edit done, the marks and the handle moved
-unfoldable pub finished : State Document → Edit → ℕ → State Document
-finished st e n =
+-- the record around n changes that stand in it, the rest of the edit done, with `curve` for the LAB of a colour, the marks and the handle moved
+unfoldable pub finished : (Rgb → Lab) → State Document → Edit → ℕ → State Document
+finished curve st e n =
     let d = st .sheet in
     record {
-      sheet = record { sheet = restDone labOf (d .sheet) e; locks = locksDone (d .sheet .k) (d .locks) e };
+      sheet = documentRest curve d e;
       journal = take (st .handle .offset) (st .journal) ++ around (filledEdit (d .sheet) (d .locks) e) n (drop (st .handle .offset) (st .journal));
       handle = afterPush (recordLength e n) (st .handle);
     }

@@ -22,11 +22,12 @@ ghost use mathlib.Core.Bool.{Bool, false};
 ghost use mathlib.Core.List.{List, map};
 ghost use Prim.Native.Nat.{ℕ};
 ghost use lib.ListN.{length};
+ghost use Rattle.color_curve.specs.Curve.{curveOf, labBy, CurveFits};
 ghost use Rattle.edit.specs.Change.{unpacked};
 ghost use Rattle.edit.specs.List.{listOf, emptyPixels};
 ghost use Rattle.history_ledger.specs.Journal.{pushOf, pushed};
 ghost use Rattle.history_model.specs.Document.{documentOf};
-ghost use Rattle.history_model.specs.Editing.{editing, givenOf};
+ghost use Rattle.history_model.specs.Editing.{editingBy, givenOf};
 ghost use Rattle.history_model.specs.Calls.{stateOf, leaves, Standing, Acceptable};
 ghost use Rattle.history_push_checks.specs.Steps.{isStill, pushedOr};
 ghost use Rattle.history_push.specs.Finish.{finished, Finishes};
@@ -41,6 +42,8 @@ pub fn finish(
     lab: &mut [f64],
     indices: &mut [i16],
     locks: &mut [bool],
+    loaded: bool,
+    curve: &[f64],
     edit: Edit,
     n: usize,
     journal: &mut [u8],
@@ -49,12 +52,13 @@ pub fn finish(
     requires { ⌜
         (no ≡ 0 → emptyPixels (listOf edit) n ≡ false
         → Finishes k (now palette) (now lab) (now locks) (now journal) handle edit n)
+        × (no ≡ 0 → CurveFits (curveOf loaded (now curve)))
         ⌝ }
     ensures { λ r. ⌜
         ((w h : ℕ) → leaves r w h (now (palette .exit)) (now (lab .exit)) (now (indices .exit)) (now (locks .exit)) (now (journal .exit))
         ≡ pushedOr no (emptyPixels (listOf edit) n)
         (stateOf (documentOf w h k (now (palette .entry)) (now (lab .entry)) (now (indices .entry)) (now (locks .entry)))
-        (now (journal .entry)) handle) (finished
+        (now (journal .entry)) handle) (finished (labBy (curveOf loaded (now (curve .entry))))
         (stateOf (documentOf w h k (now (palette .entry)) (now (lab .entry)) (now (indices .entry)) (now (locks .entry)))
         (now (journal .entry)) handle) edit n))
         ⌝ }
@@ -69,7 +73,7 @@ pub fn finish(
     let filled = fill_edit(palette, lab, locks, edit);
     write_around(&mut journal[offset..], filled, n);
     redo_locks(k, locks, edit);
-    let after = finish_edit(k, palette, lab, indices, edit);
+    let after = finish_edit(k, palette, lab, indices, loaded, curve, edit);
     Moved {
         answer: Answer::Done,
         k: after,
@@ -87,6 +91,8 @@ fn carry_out(
     lab: &mut [f64],
     indices: &mut [i16],
     locks: &mut [bool],
+    loaded: bool,
+    curve: &[f64],
     edit: Edit,
     list: &[u64],
     journal: &mut [u8],
@@ -98,12 +104,13 @@ fn carry_out(
         → Acceptable (stateOf (documentOf w h k (now palette) (now lab) (now indices) (now locks)) (now journal) handle) edit
         (map unpacked (now list)))
         ⌝ }
+    requires { ⌜ CurveFits (curveOf loaded (now curve)) ⌝ }
     ensures { λ r. ⌜
         ((limited : Bool) (permitted : List ℕ)
         → leaves r w h (now (palette .exit)) (now (lab .exit)) (now (indices .exit)) (now (locks .exit)) (now (journal .exit))
         ≡ pushedOr 0 (isStill (givenOf limited permitted edit (now (list .entry))))
         (stateOf (documentOf w h k (now (palette .entry)) (now (lab .entry)) (now (indices .entry)) (now (locks .entry)))
-        (now (journal .entry)) handle) (pushed editing
+        (now (journal .entry)) handle) (pushed (editingBy (curveOf loaded (now (curve .entry))))
         (stateOf (documentOf w h k (now (palette .entry)) (now (lab .entry)) (now (indices .entry)) (now (locks .entry)))
         (now (journal .entry)) handle) (givenOf limited permitted edit (now (list .entry)))))
         ⌝ }
@@ -119,6 +126,8 @@ fn carry_out(
         lab,
         indices,
         locks,
+        loaded,
+        curve,
         edit,
         list.len(),
         journal,
@@ -127,8 +136,8 @@ fn carry_out(
 }
 
 // Checks an edit, records it and does it. A removal repaints its list, lowers the indices above the entry and
-// closes the gap, in the marks too; the olds, LAB and the old mark go from the sheet into the record. The list is only
-// read. What the scratch holds after the call is free.
+// closes the gap, in the marks too; the olds, LAB and the old mark go from the sheet into the record. A new colour gets
+// its LAB by the session's curve. The list is only read. What the scratch holds after the call is free.
 pub fn push(
     w: usize,
     h: usize,
@@ -139,6 +148,8 @@ pub fn push(
     locks: &mut [bool],
     limited: bool,
     permitted: &[u8],
+    loaded: bool,
+    curve: &[f64],
     edit: Edit,
     list: &[u64],
     journal: &mut [u8],
@@ -148,7 +159,7 @@ pub fn push(
     ensures { λ r. ⌜ (
         let document = documentOf w h k (now (palette .entry)) (now (lab .entry)) (now (indices .entry)) (now (locks .entry)) in
         leaves r w h (now (palette .exit)) (now (lab .exit)) (now (indices .exit)) (now (locks .exit)) (now (journal .exit))
-        ≡ pushOf editing (length (now (scratch .entry))) (stateOf document (now (journal .entry)) handle)
+        ≡ pushOf (editingBy (curveOf loaded (now (curve .entry)))) (length (now (scratch .entry))) (stateOf document (now (journal .entry)) handle)
         (givenOf limited (now (permitted .entry)) edit (now (list .entry)))
         ) ⌝ }
     ensures { λ _. ⌜ length (now (scratch .exit)) ≡ length (now (scratch .entry)) ⌝ }
@@ -163,6 +174,8 @@ pub fn push(
         locks,
         limited,
         permitted,
+        loaded,
+        curve,
         edit,
         list,
         journal,
@@ -180,6 +193,8 @@ pub fn push(
         lab,
         indices,
         locks,
+        loaded,
+        curve,
         edit,
         list,
         journal,

@@ -11,8 +11,9 @@ use lib.Ieee.{Float}
 use lib.ListN.{length, length-map}
 use Rattle.base.specs.Limits.{maxChanges, maxJournal}
 use Rattle.base.specs.Checks.{orElse, firstOf}
-use Rattle.base.proofs.First.{or-else-assoc, first-passes}
+use Rattle.base.proofs.First.{or-else-assoc, or-else-zero, first-passes, past-both}
 use Rattle.base.proofs.Back.{never}
+use Rattle.color_curve.specs.Curve.{Curve, curveChecks, CurveFits}
 use Rattle.sheet.specs.Sheet.{Sheet, sheetOf}
 use Rattle.base.specs.declared.Edit.{Edit}
 use Rattle.base.specs.declared.Edit.the-variants.{Pixels, PaletteSet, PaletteAdd, PaletteRemove, PaletteLock}
@@ -26,10 +27,11 @@ use Rattle.edit_checks.specs.Marks.{Markable, ClearFor, MarksFor, Checkable}
 use Rattle.edit_list.proofs.Deciding.{first-kept, head-markable, list-decides, bare-changes, bare-left}
 use Rattle.journal_record.specs.Record.{recordLength}
 use Rattle.base.specs.declared.Handle.{Handle}
-use Rattle.history_ledger.specs.Journal.{State, entryChecks, pushChecks}
+use Rattle.history_ledger.specs.Calls.{group}
+use Rattle.history_ledger.specs.Journal.{State, longJournal, unsound, entryChecks, pushChecks}
 use Rattle.history_ledger.proofs.Soundness.{sound-facts}
 use Rattle.history_model.specs.Document.{Document, documentOf}
-use Rattle.history_model.specs.Editing.{Given, givenOf, editing}
+use Rattle.history_model.specs.Editing.{Given, givenOf, editingBy, editing}
 use Rattle.history_model.specs.Calls.{stateOf, Standing}
 use Rattle.history_push_checks.proofs.PushChecks.{pushes-own, pushes-full, pushes-fine}
 use Rattle.history_push_checks.specs.Steps.{isStill, pushNumber, Readied, Begun, PushNumbered, fullNumber}
@@ -53,37 +55,49 @@ still-left s PixelList cs n q = refl
 still-left s (RemapList i) cs n q = never q
 
 -- ---- the number, by the checks that decide
-module _ (room : ℕ) (st : State Document) (g : Given) where
-  pub number-entry : (n : ℕ) → n ≡ firstOf (entryChecks editing st g) → (n ≡ 0 → ⊥) → n ≡ pushNumber room st g
+module _ (curve : Curve) (room : ℕ) (st : State Document) (g : Given) where
+  pub number-entry : (n : ℕ) → n ≡ firstOf (entryChecks (editingBy curve) st g) → (n ≡ 0 → ⊥) → n ≡ pushNumber curve room st g
   unfolding pushNumber
   number-entry n q h = sym (rw (← q) (first-kept n _ h))
 
-  number-still : firstOf (entryChecks editing st g) ≡ 0 → isStill g ≡ true → 0 ≡ pushNumber room st g
+  number-still : firstOf (entryChecks (editingBy curve) st g) ≡ 0 → isStill g ≡ true → 0 ≡ pushNumber curve room st g
   unfolding pushNumber
   number-still z t = rw (z, t)
 
-  pub number-push : (n : ℕ) → firstOf (entryChecks editing st g) ≡ 0 → isStill g ≡ false → n ≡ firstOf (pushChecks editing room st g) → n ≡ pushNumber room st g
+  pub number-push : (n : ℕ) → firstOf (entryChecks (editingBy curve) st g) ≡ 0 → isStill g ≡ false → n ≡ firstOf (pushChecks (editingBy curve) room st g) → n ≡ pushNumber curve room st g
   unfolding pushNumber
   number-push n z t q = rw (z, t) q
 
+  -- a push that no check refuses has a curve that fits
+  pub number-fits : (n : ℕ) → n ≡ pushNumber curve room st g → n ≡ 0 → CurveFits curve
+  unfolding pushNumber
+  number-fits n q z =
+      let journal = st .journal in
+      let before = group 0 ∷ longJournal (length journal) ∷ group (editing .givenCheck g) ∷ group (editing .sheetCheck (st .sheet)) ∷ unsound (length journal) (st .handle) ∷ [] in
+      let entered = first-passes (firstOf (entryChecks (editingBy curve) st g)) _ (sym q ∙ z) .0 in
+      sym (or-else-zero (firstOf (curveChecks curve))) ∙ last (past-both before (group (firstOf (curveChecks curve)) ∷ []) entered .right)
+    where
+      last : firstOf (group (firstOf (curveChecks curve)) ∷ []) ≡ 0 → orElse (firstOf (curveChecks curve)) 0 ≡ 0
+      last e = unfold firstOf in e
+
   -- ---- what `begin` answers
   module _ {marks : List ℕ} where
-    pub begun-refused : (n : ℕ) → (n ≡ 0 → ⊥) → n ≡ pushNumber room st g → Begun room st g n marks
+    pub begun-refused : (n : ℕ) → (n ≡ 0 → ⊥) → n ≡ pushNumber curve room st g → Begun curve room st g n marks
     begun-refused n h q = record { refuses = λ _. q; entered = λ z. absurd (h z); stands = λ z. absurd (h z); readied = λ z f. absurd (h z) }
 
-    module _ (z : firstOf (entryChecks editing st g) ≡ 0) (s : Standing st) where
-      pub begun-still : isStill g ≡ true → Begun room st g 0 marks
+    module _ (z : firstOf (entryChecks (editingBy curve) st g) ≡ 0) (s : Standing st) where
+      pub begun-still : isStill g ≡ true → Begun curve room st g 0 marks
       begun-still t = record { refuses = λ h. absurd (h refl); entered = λ _. z; stands = λ _. s; readied = λ y f. never (sym f ∙ t) }
 
-      pub begun-ready : Readied room st g marks → Begun room st g 0 marks
+      pub begun-ready : Readied room st g marks → Begun curve room st g 0 marks
       begun-ready r = record { refuses = λ h. absurd (h refl); entered = λ _. z; stands = λ _. s; readied = λ y f. r }
 
   -- a push that a check before its list refuses
-  pub refused-number : {marks : List ℕ} (n : ℕ) → Begun room st g n marks → (n ≡ 0 → ⊥) → PushNumbered room st g n
+  pub refused-number : {marks : List ℕ} (n : ℕ) → Begun curve room st g n marks → (n ≡ 0 → ⊥) → PushNumbered curve room st g n
   refused-number n b h = record { value = b .refuses h; stands = λ z. absurd (h z); fine = λ z _. absurd (h z) }
 
 -- ---- the list, packed one number a change, and what follows it
-module _ (room w h k : ℕ) (palette : List ℕ) (lab : List Float) (indices : List ℤ) (locks : List Bool) (journal : List ℕ) (handle : Handle) (limited : Bool) (permitted : List ℕ) (e : Edit) (list : List ℕ) (count : ℕ) (long : length list ≡ count) where
+module _ (curve : Curve) (room w h k : ℕ) (palette : List ℕ) (lab : List Float) (indices : List ℤ) (locks : List Bool) (journal : List ℕ) (handle : Handle) (limited : Bool) (permitted : List ℕ) (e : Edit) (list : List ℕ) (count : ℕ) (long : length list ≡ count) where
   abbrev s : Sheet
   s = sheetOf w h k palette lab indices
 
@@ -106,7 +120,7 @@ module _ (room w h k : ℕ) (palette : List ℕ) (lab : List Float) (indices : L
   abbrev each : ℕ
   each = firstOf (flatMap (changeChecks false (bare w h k indices) kind) cs)
 
-  module _ (n : ℕ) (marks : List ℕ) (b : Begun room state given n marks) where
+  module _ (n : ℕ) (marks : List ℕ) (b : Begun curve room state given n marks) where
     began : (c : ℕ) → c ≡ orElse n each → c ≡ 0 → n ≡ 0
     began c d z = first-passes n each (sym d ∙ z) .0
 
@@ -171,7 +185,7 @@ module _ (room w h k : ℕ) (palette : List ℕ) (lab : List Float) (indices : L
           after : l ≡ orElse (orElse all rest) full
           after = rw z at whole
 
-          not-still : (f : isStill given ≡ false) → Readied room state given marks → (m : ℕ) → orElse all rest ≡ m → PushNumbered room state given l
+          not-still : (f : isStill given ≡ false) → Readied room state given marks → (m : ℕ) → orElse all rest ≡ m → PushNumbered curve room state given l
           not-still f r zero p = by-journal (ltb (length journal) (handle .offset + recordLength e count)) refl
             where
               own : 0 ≡ firstOf (ownChecks false s locks (permittedOf limited permitted) e cs)
@@ -180,39 +194,39 @@ module _ (room w h k : ℕ) (palette : List ℕ) (lab : List Float) (indices : L
               last : l ≡ full
               last = rw p at after
 
-              by-journal : (t : Bool) → ltb (length journal) (handle .offset + recordLength e count) ≡ t → PushNumbered room state given l
+              by-journal : (t : Bool) → ltb (length journal) (handle .offset + recordLength e count) ≡ t → PushNumbered curve room state given l
               by-journal true t =
                   let is : l ≡ 14 = last ∙ rw (rw counted at f, t) in
                   let p = pushes-full room state given (r .short) (b .stands z) (r .enough) 0 own refl (rw counted (ltb-true _ _ t)) in
                   record {
-                    value = is ∙ number-push room state given 14 (b .entered z) f (p .value);
+                    value = is ∙ number-push curve room state given 14 (b .entered z) f (p .value);
                     stands = λ _. b .stands z;
                     fine = λ y _. absurd (omega (arith, is, y));
                   }
               by-journal false t =
                   let is : l ≡ 0 = last ∙ rw (rw counted at f, t) in
                   let p = pushes-fine room state given (r .short) (b .stands z) (r .enough) 0 own refl (rw counted (ltb-false _ _ t)) in
-                  record { value = is ∙ number-push room state given 0 (b .entered z) f (p .value); stands = λ _. b .stands z; fine = λ y _. p .fine refl }
+                  record { value = is ∙ number-push curve room state given 0 (b .entered z) f (p .value); stands = λ _. b .stands z; fine = λ y _. p .fine refl }
           not-still f r (suc m) p =
               let is : l ≡ suc m = rw p at after in
               let own : suc m ≡ firstOf (ownChecks false s locks (permittedOf limited permitted) e cs) = sym (list-decides false s locks (permittedOf limited permitted) e cs (r .head) ∙ p) in
               let o = pushes-own room state given (r .short) (b .stands z) (r .enough) (suc m) own (λ y. omega (arith, y)) in
               record {
-                value = is ∙ number-push room state given (suc m) (b .entered z) f (o .value);
+                value = is ∙ number-push curve room state given (suc m) (b .entered z) f (o .value);
                 stands = λ _. b .stands z;
                 fine = λ y _. absurd (omega (arith, is, y));
               }
 
-          by-still : (t : Bool) → isStill given ≡ t → PushNumbered room state given l
+          by-still : (t : Bool) → isStill given ≡ t → PushNumbered curve room state given l
           by-still true t =
               let is : l ≡ 0 = after ∙ rw (still-each false s kind cs (none-there kind (length cs) t), still-left s kind cs (length cs) t, rw counted at t) in
-              record { value = is ∙ number-still room state given (b .entered z) t; stands = λ _. b .stands z; fine = λ y f. never (sym f ∙ t) }
+              record { value = is ∙ number-still curve room state given (b .entered z) t; stands = λ _. b .stands z; fine = λ y f. never (sym f ∙ t) }
           by-still false f = not-still f (b .readied z f) (orElse all rest) refl
 
-        pub push-number : PushNumbered room state given l
+        pub push-number : PushNumbered curve room state given l
         push-number = by-number n refl
           where
-            by-number : (m : ℕ) → n ≡ m → PushNumbered room state given l
+            by-number : (m : ℕ) → n ≡ m → PushNumbered curve room state given l
             by-number zero z = by-still z (isStill given) refl
             by-number (suc m) z =
                 let kept : n ≡ 0 → ⊥ = λ y. omega (arith, z, y) in

@@ -20,6 +20,7 @@ ghost use Prim.Native.Nat.{ℕ, _*_, _≤_};
 ghost use lib.ListN.{length};
 ghost use Rattle.base.specs.Limits.{maxChanges, maxJournal};
 ghost use Rattle.base.specs.Checks.{orElse, firstOf};
+ghost use Rattle.color_curve.specs.Curve.{curveOf};
 ghost use Rattle.edit.specs.Change.{Change};
 ghost use Rattle.edit.specs.List.{listOf};
 ghost use Rattle.edit.specs.Checks.{leftChecks};
@@ -41,6 +42,8 @@ pub fn begin(
     locks: &[bool],
     limited: bool,
     permitted: &[u8],
+    loaded: bool,
+    curve: &[f64],
     edit: Edit,
     n: usize,
     journal: &[u8],
@@ -48,7 +51,7 @@ pub fn begin(
     marks: &mut [u8],
 ) -> u8
     ensures { λ r. ⌜
-        ((list : List ℕ) → length list ≡ n → Begun (length (now (marks .entry)))
+        ((list : List ℕ) → length list ≡ n → Begun (curveOf loaded (now (curve .entry))) (length (now (marks .entry)))
         (stateOf (documentOf w h k (now (palette .entry)) (now (lab .entry)) (now (indices .entry)) (now (locks .entry))) (now (journal .entry))
         handle) (givenOf limited (now (permitted .entry)) edit list) r (now (marks .exit)))
         ⌝ }
@@ -63,6 +66,8 @@ pub fn begin(
         locks,
         limited,
         permitted,
+        loaded,
+        curve,
         journal,
         handle,
     );
@@ -138,6 +143,8 @@ pub fn push_no(
     locks: &[bool],
     limited: bool,
     permitted: &[u8],
+    loaded: bool,
+    curve: &[f64],
     edit: Edit,
     list: &[u64],
     journal: &[u8],
@@ -146,7 +153,7 @@ pub fn push_no(
 ) -> u8
     ensures { λ r. ⌜ (
         let document = documentOf w h k (now (palette .entry)) (now (lab .entry)) (now (indices .entry)) (now (locks .entry)) in
-        PushNumbered (length (now (marks .entry))) (stateOf document (now (journal .entry)) handle)
+        PushNumbered (curveOf loaded (now (curve .entry))) (length (now (marks .entry))) (stateOf document (now (journal .entry)) handle)
         (givenOf limited (now (permitted .entry)) edit (now (list .entry))) r
         ) ⌝ }
 {
@@ -161,6 +168,8 @@ pub fn push_no(
         locks,
         limited,
         permitted,
+        loaded,
+        curve,
         edit,
         n,
         journal,

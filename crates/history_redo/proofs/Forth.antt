@@ -8,7 +8,8 @@ use native.Mathlib.Omega.{arith}
 use borrow.Author.Tests.{le-leb}
 use lib.Dec.{leb}
 use lib.ListN.{length, take, drop}
-use Rattle.color_lab.specs.Convert.{labOf}
+use Rattle.base.specs.declared.Lab.{Lab}
+use Rattle.base.specs.declared.Rgb.{Rgb}
 use Rattle.base.specs.declared.Edit.{Edit}
 use Rattle.base.specs.declared.Handle.{Handle}
 use Rattle.edit.specs.Change.{Change}
@@ -28,7 +29,7 @@ use Rattle.history_model.specs.Editing.{taken, redoneBy, editing}
 use Rattle.history_model.specs.Calls.{Standing}
 use Rattle.history_model.proofs.Over.{Direction}
 
-module _ {st : State Document} (stands : Standing st) where
+module _ (curve : Rgb → Lab) {st : State Document} (stands : Standing st) where
   abbrev handle : Handle
   handle = st .handle
 
@@ -36,16 +37,16 @@ module _ {st : State Document} (stands : Standing st) where
   abbrev used : List ℕ
   used = take (handle .end - handle .offset) (drop (handle .offset) (st .journal))
 
-  pub forth-by : (r : ℕ × Edit × List Change) → redoneBy labOf (st .sheet) (some r) ≡ taken (redoable (st .sheet .sheet) (st .sheet .locks) (r .1) (r .2)) (r .0) (documentDone labOf (st .sheet) (r .1) (r .2))
+  pub forth-by : (r : ℕ × Edit × List Change) → redoneBy curve (st .sheet) (some r) ≡ taken (redoable (st .sheet .sheet) (st .sheet .locks) (r .1) (r .2)) (r .0) (documentDone curve (st .sheet) (r .1) (r .2))
   unfolding redoneBy
   forth-by r = refl
 
-  pub forth-none : redoneBy labOf (st .sheet) none ≡ none
+  pub forth-none : redoneBy curve (st .sheet) none ≡ none
   unfolding redoneBy
   forth-none = refl
 
-  pub forth-makes : (e : Edit) (cs : List Change) {t : Sheet} → t ≡ redone labOf (st .sheet .sheet) e cs → {marks : List Bool} → marks ≡ locksDone (st .sheet .sheet .k) (st .sheet .locks) e
-      → let made : Document = record { sheet = t; locks = marks } in made ≡ documentDone labOf (st .sheet) e cs
+  pub forth-makes : (e : Edit) (cs : List Change) {t : Sheet} → t ≡ redone curve (st .sheet .sheet) e cs → {marks : List Bool} → marks ≡ locksDone (st .sheet .sheet .k) (st .sheet .locks) e
+      → let made : Document = record { sheet = t; locks = marks } in made ≡ documentDone curve (st .sheet) e cs
   forth-makes e cs p m i = record { sheet = p i; locks = m i }
 
   module _ (kind start n count : ℕ) (found : foundAt (handle .offset) (readForth used) ≡ Record kind start n count) where
@@ -68,8 +69,8 @@ module _ {st : State Document} (stands : Standing st) where
         inside = λ m. leb (handle .offset + m) (handle .end);
         stepped = steppedForth;
         takes = redoable (st .sheet .sheet) (st .sheet .locks);
-        makes = documentDone labOf (st .sheet);
-        by = redoneBy labOf (st .sheet);
+        makes = documentDone curve (st .sheet);
+        by = redoneBy curve (st .sheet);
         by-none = forth-none;
         by-some = forth-by;
         nothing = unread-at (handle .offset) (readForth used);

@@ -4,6 +4,7 @@ use base::Handle;
 use base::JOURNAL_DAMAGED;
 use base::Moved;
 use base::NO_SPACE;
+use color_curve::curve_no;
 use history_ledger::sound;
 use history_ledger::stepped_forth;
 use history_model::move_no;
@@ -17,14 +18,14 @@ ghost use mathlib.Core.Path.{_≡_};
 ghost use Prim.Native.Nat.{_+_, _-_, _≤_, _<_};
 ghost use lib.Dec.{leb};
 ghost use lib.ListN.{length, take, drop};
-ghost use Rattle.color_lab.specs.Convert.{labOf};
+ghost use Rattle.color_curve.specs.Curve.{curveOf, labBy, CurveFits};
 ghost use Rattle.journal_record.specs.declared.Found.the-variants.{Record};
 ghost use Rattle.journal_record.specs.Record.{readForth};
 ghost use Rattle.journal_record.specs.Found.{foundAt};
 ghost use Rattle.history_ledger.specs.Handle.{steppedForth};
 ghost use Rattle.history_ledger.specs.Journal.{stepOver, redoOf};
 ghost use Rattle.history_model.specs.Document.{documentOf};
-ghost use Rattle.history_model.specs.Editing.{redoneBy, editing};
+ghost use Rattle.history_model.specs.Editing.{redoneBy, editing, editingBy};
 ghost use Rattle.history_model.specs.Calls.{stateOf, leaves, Standing};
 
 // One step forth over a record of n bytes that was found: where push's checks refuse it, or the handle would be unsound
@@ -37,6 +38,8 @@ fn redo_at(
     lab: &mut [f64],
     indices: &mut [i16],
     locks: &mut [bool],
+    loaded: bool,
+    curve: &[f64],
     journal: &[u8],
     handle: Handle,
     kind: u8,
@@ -48,7 +51,9 @@ fn redo_at(
     requires { ⌜
         Standing (stateOf (documentOf w h k (now palette) (now lab) (now indices) (now locks)) (now journal) handle)
         ⌝ }
-    requires { ⌜ (handle .position < handle .count) × (length (now indices) ≤ length (now scratch)) ⌝ }
+    requires { ⌜
+        (handle .position < handle .count) × (length (now indices) ≤ length (now scratch)) × CurveFits (curveOf loaded (now curve))
+        ⌝ }
     requires { ⌜
         foundAt (handle .offset) (readForth (take (handle .end - handle .offset) (drop (handle .offset) (now journal))))
         ≡ Record kind start n count
@@ -58,7 +63,7 @@ fn redo_at(
         documentOf w h k (now (palette .entry)) (now (lab .entry)) (now (indices .entry)) (now (locks .entry)) in
         leaves r w h (now (palette .exit)) (now (lab .exit)) (now (indices .exit)) (now (locks .exit))
         (now (journal .entry))
-        ≡ stepOver editing (stateOf document (now (journal .entry)) handle) (redoneBy labOf document
+        ≡ stepOver editing (stateOf document (now (journal .entry)) handle) (redoneBy (labBy (curveOf loaded (now (curve .entry)))) document
         (readForth (take (handle .end - handle .offset) (drop (handle .offset) (now (journal .entry))))))
         (λ m. leb (handle .offset + m) (handle .end)) steppedForth
         ) ⌝ }
@@ -89,6 +94,8 @@ fn redo_at(
         lab,
         indices,
         locks,
+        loaded,
+        curve,
         journal,
         kind,
         start,
@@ -110,6 +117,8 @@ fn redo_found(
     lab: &mut [f64],
     indices: &mut [i16],
     locks: &mut [bool],
+    loaded: bool,
+    curve: &[f64],
     journal: &[u8],
     handle: Handle,
     found: Found,
@@ -118,7 +127,9 @@ fn redo_found(
     requires { ⌜
         Standing (stateOf (documentOf w h k (now palette) (now lab) (now indices) (now locks)) (now journal) handle)
         ⌝ }
-    requires { ⌜ (handle .position < handle .count) × (length (now indices) ≤ length (now scratch)) ⌝ }
+    requires { ⌜
+        (handle .position < handle .count) × (length (now indices) ≤ length (now scratch)) × CurveFits (curveOf loaded (now curve))
+        ⌝ }
     requires { ⌜
         found
         ≡ foundAt (handle .offset)
@@ -129,7 +140,7 @@ fn redo_found(
         documentOf w h k (now (palette .entry)) (now (lab .entry)) (now (indices .entry)) (now (locks .entry)) in
         leaves r w h (now (palette .exit)) (now (lab .exit)) (now (indices .exit)) (now (locks .exit))
         (now (journal .entry))
-        ≡ stepOver editing (stateOf document (now (journal .entry)) handle) (redoneBy labOf document
+        ≡ stepOver editing (stateOf document (now (journal .entry)) handle) (redoneBy (labBy (curveOf loaded (now (curve .entry)))) document
         (readForth (take (handle .end - handle .offset) (drop (handle .offset) (now (journal .entry))))))
         (λ m. leb (handle .offset + m) (handle .end)) steppedForth
         ) ⌝ }
@@ -148,6 +159,8 @@ fn redo_found(
             lab,
             indices,
             locks,
+            loaded,
+            curve,
             journal,
             handle,
             kind,
@@ -160,9 +173,9 @@ fn redo_found(
     }
 }
 
-// Redoes the edit that the last undo took back. At the last "still"; 16 where the scratch has fewer places than the
-// sheet; 4 where the record is not sound, a set or a removal of a locked entry among these. What the scratch holds after
-// the call is free.
+// Redoes the edit that the last undo took back, a colour with its LAB by the session's curve. 25 where that is none; at
+// the last "still"; 16 where the scratch has fewer places than the sheet; 4 where the record is not sound, a set or a
+// removal of a locked entry among these. What the scratch holds after the call is free.
 pub fn redo(
     w: usize,
     h: usize,
@@ -171,6 +184,8 @@ pub fn redo(
     lab: &mut [f64],
     indices: &mut [i16],
     locks: &mut [bool],
+    loaded: bool,
+    curve: &[f64],
     journal: &[u8],
     handle: Handle,
     scratch: &mut [u8],
@@ -180,13 +195,17 @@ pub fn redo(
         documentOf w h k (now (palette .entry)) (now (lab .entry)) (now (indices .entry)) (now (locks .entry)) in
         leaves r w h (now (palette .exit)) (now (lab .exit)) (now (indices .exit)) (now (locks .exit))
         (now (journal .entry))
-        ≡ redoOf editing (length (now (scratch .entry))) (stateOf document (now (journal .entry)) handle)
+        ≡ redoOf (editingBy (curveOf loaded (now (curve .entry)))) (length (now (scratch .entry))) (stateOf document (now (journal .entry)) handle)
         ) ⌝ }
     ensures { λ _. ⌜ length (now (scratch .exit)) ≡ length (now (scratch .entry)) ⌝ }
 {
     let no = move_no(w, h, k, palette, lab, indices, locks, journal, handle);
     if no != 0 {
         return refused(no, k, handle);
+    }
+    let unfit = curve_no(loaded, curve);
+    if unfit != 0 {
+        return refused(unfit, k, handle);
     }
     if handle.position == handle.count {
         return still(k, handle);
@@ -203,6 +222,8 @@ pub fn redo(
         lab,
         indices,
         locks,
+        loaded,
+        curve,
         journal,
         handle,
         found,

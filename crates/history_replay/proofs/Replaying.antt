@@ -10,7 +10,9 @@ use lib.Ieee.{Float}
 use lib.ListN.{length}
 use Rattle.base.specs.Checks.{orElse, firstOf, refusedOr}
 use Rattle.base.proofs.First.{or-else-assoc, first-passes, past-both}
-use Rattle.color_lab.specs.Convert.{labOf}
+use Rattle.base.specs.declared.Lab.{Lab}
+use Rattle.base.specs.declared.Rgb.{Rgb}
+use Rattle.color_curve.specs.Curve.{Curve, labBy, curveChecks, CurveFits}
 use Rattle.sheet.specs.Sheet.{Sheet, sheetOf}
 use Rattle.sheet.specs.Checks.{permittedChecks}
 use Rattle.base.specs.declared.Edit.{Edit}
@@ -26,11 +28,11 @@ use Rattle.edit_list.proofs.Deciding.{first-kept, head-markable, list-decides, 
 use Rattle.edit_apply.specs.Redoable.{Finishable}
 use Rattle.edit_apply.proofs.Redoing.{redoable-finishes, marks-redo}
 use Rattle.history_ledger.specs.Calls.{refused, done}
-use Rattle.history_model.specs.Document.{Document, documentOf, documentChecks, documentDone}
+use Rattle.history_model.specs.Document.{Document, documentOf, documentChecks, documentDone, documentRest}
 use Rattle.history_model.specs.Replay.{replayOwn, replayChecks, replayOf}
 use Rattle.history_model.proofs.Keeps.{marked}
-use Rattle.history_model.proofs.ReplayChecks.{redoable}
-use Rattle.history_replay.specs.Steps.{ReplayBegun, restOf, doneOr}
+use Rattle.history_model.proofs.ReplayChecks.{replayable}
+use Rattle.history_replay.specs.Steps.{ReplayBegun, doneOr}
 
 -- ---- what is left to do, by the number
 pub refused-done : (n : ℕ) (d t : Document) → (n ≡ 0 → ⊥) → refused d n ≡ doneOr n d t
@@ -43,11 +45,11 @@ unfolding doneOr refusedOr
 passed-done n d t u z q = rw (z, q)
 
 -- ---- `open_replay`
-pub opened-refused : {room : ℕ} {d : Document} {p : Permitted} {e : Edit} {cs : List Change} {marks : List ℕ} (n : ℕ) → (n ≡ 0 → ⊥) → n ≡ firstOf (replayChecks room d p e cs) → ReplayBegun room d p e cs n marks
+pub opened-refused : {curve : Curve} {room : ℕ} {d : Document} {p : Permitted} {e : Edit} {cs : List Change} {marks : List ℕ} (n : ℕ) → (n ≡ 0 → ⊥) → n ≡ firstOf (replayChecks curve room d p e cs) → ReplayBegun curve room d p e cs n marks
 opened-refused n h q = record { refuses = λ _. q; ready = λ z. absurd (h z) }
 
 -- ---- the number
-module _ (room w h k : ℕ) (palette : List ℕ) (lab : List Float) (indices : List ℤ) (locks : List Bool) (p : Permitted) (e : Edit) (cs : List Change) where
+module _ (curve : Curve) (room w h k : ℕ) (palette : List ℕ) (lab : List Float) (indices : List ℤ) (locks : List Bool) (p : Permitted) (e : Edit) (cs : List Change) where
   abbrev s : Sheet
   s = sheetOf w h k palette lab indices
 
@@ -61,7 +63,7 @@ module _ (room w h k : ℕ) (palette : List ℕ) (lab : List Float) (indices : L
   abbrev each : ℕ
   each = firstOf (flatMap (changeChecks true (bare w h k indices) kind) cs)
 
-  module _ (n : ℕ) (marks : List ℕ) (o : ReplayBegun room document p e cs n marks) where
+  module _ (n : ℕ) (marks : List ℕ) (o : ReplayBegun curve room document p e cs n marks) where
     -- what the list's checks ask
     pub opened-checkable : (m : ℕ) → m ≡ room → n ≡ 0 → Checkable kind w h (length indices) m
     opened-checkable m q z =
@@ -80,7 +82,7 @@ module _ (room w h k : ℕ) (palette : List ℕ) (lab : List Float) (indices : L
       checked-marks after z leaves = leaves (o .ready (began z) .clear)
 
       -- with 13, the whole number
-      pub replay-number : (l : ℕ) → l ≡ orElse c (firstOf (leftChecks (bare w h 0 indices) kind cs)) → l ≡ firstOf (replayChecks room document p e cs)
+      pub replay-number : (l : ℕ) → l ≡ orElse c (firstOf (leftChecks (bare w h 0 indices) kind cs)) → l ≡ firstOf (replayChecks curve room document p e cs)
       replay-number l q = by-number n refl
         where
           changes : c ≡ orElse n (firstOf (flatMap (changeChecks true s kind) cs))
@@ -89,37 +91,38 @@ module _ (room w h k : ℕ) (palette : List ℕ) (lab : List Float) (indices : L
           whole : l ≡ orElse n (orElse (firstOf (flatMap (changeChecks true s kind) cs)) (firstOf (leftChecks s kind cs)))
           whole = q ∙ rw (changes, bare-left s kind cs) (sym (or-else-assoc n (firstOf (flatMap (changeChecks true s kind) cs)) (firstOf (leftChecks s kind cs))))
 
-          by-number : (m : ℕ) → n ≡ m → l ≡ firstOf (replayChecks room document p e cs)
+          by-number : (m : ℕ) → n ≡ m → l ≡ firstOf (replayChecks curve room document p e cs)
           by-number zero z = let r = o .ready z in rw z at whole ∙ sym (list-decides true s locks p e cs (r .head)) ∙ r .decides
           by-number (suc m) z =
               let kept : n ≡ 0 → ⊥ = λ y. omega (arith, z, y) in
               whole ∙ first-kept n _ kept ∙ o .refuses kept
 
 -- ---- the edit done, where the list is painted if no number refuses it
-pub done-either : (w h k : ℕ) (palette : List ℕ) (lab : List Float) (indices : List ℤ) (locks : List Bool) (e : Edit) (cs : List Change) (n : ℕ) (l : List ℤ)
+pub done-either : (curve : Rgb → Lab) (w h k : ℕ) (palette : List ℕ) (lab : List Float) (indices : List ℤ) (locks : List Bool) (e : Edit) (cs : List Change) (n : ℕ) (l : List ℤ)
     → (n ≡ 0 → l ≡ paintedList (listOf e) w cs indices) → ((n ≡ 0 → ⊥) → l ≡ indices)
-    → doneOr n (documentOf w h k palette lab l locks) (restOf (documentOf w h k palette lab l locks) e)
-    ≡ doneOr n (documentOf w h k palette lab indices locks) (documentDone labOf (documentOf w h k palette lab indices locks) e cs)
+    → doneOr n (documentOf w h k palette lab l locks) (documentRest curve (documentOf w h k palette lab l locks) e)
+    ≡ doneOr n (documentOf w h k palette lab indices locks) (documentDone curve (documentOf w h k palette lab indices locks) e cs)
 unfolding doneOr refusedOr redone
-done-either w h k palette lab indices locks e cs zero l paints keeps = ap (λ (x : List ℤ). done (restOf (documentOf w h k palette lab x locks) e)) (paints refl)
-done-either w h k palette lab indices locks e cs (suc n) l paints keeps = rw (keeps (λ z. omega (arith, z)))
+done-either curve w h k palette lab indices locks e cs zero l paints keeps = ap (λ (x : List ℤ). done (documentRest curve (documentOf w h k palette lab x locks) e)) (paints refl)
+done-either curve w h k palette lab indices locks e cs (suc n) l paints keeps = rw (keeps (λ z. omega (arith, z)))
 
 -- ---- `replay`
-pub replay-is : (room : ℕ) (d : Document) (p : Permitted) (e : Edit) (cs : List Change) (n : ℕ) → n ≡ firstOf (replayChecks room d p e cs) → doneOr n d (documentDone labOf d e cs) ≡ replayOf room d p e cs
+pub replay-is : (curve : Curve) (room : ℕ) (d : Document) (p : Permitted) (e : Edit) (cs : List Change) (n : ℕ) → n ≡ firstOf (replayChecks curve room d p e cs) → doneOr n d (documentDone (labBy curve) d e cs) ≡ replayOf curve room d p e cs
 unfolding doneOr replayOf
-replay-is room d p e cs n q = rw q
+replay-is curve room d p e cs n q = rw q
 
 -- what the rest asks, where no check applies: of storage, and of the marks
-module _ (room w h k : ℕ) (palette : List ℕ) (lab : List Float) (indices : List ℤ) (locks : List Bool) (p : Permitted) (e : Edit) (cs : List Change)
-    (z : firstOf (replayChecks room (documentOf w h k palette lab indices locks) p e cs) ≡ 0) where
+module _ (curve : Curve) (room w h k : ℕ) (palette : List ℕ) (lab : List Float) (indices : List ℤ) (locks : List Bool) (p : Permitted) (e : Edit) (cs : List Change)
+    (z : firstOf (replayChecks curve room (documentOf w h k palette lab indices locks) p e cs) ≡ 0) where
   marks-there : length locks ≡ 255
   unfolding replayChecks
   marks-there =
       let d : Document = documentOf w h k palette lab indices locks in
-      let given = past-both (permittedChecks (p .limited) (p .colours)) (documentChecks d ++ replayOwn room d p e cs) z in
-      marked (d .sheet) locks (past-both (documentChecks d) (replayOwn room d p e cs) (given .right) .left) .marks
+      let given = past-both (permittedChecks (p .limited) (p .colours)) (documentChecks d ++ (curveChecks curve ++ replayOwn room d p e cs)) z in
+      marked (d .sheet) locks (past-both (documentChecks d) (curveChecks curve ++ replayOwn room d p e cs) (given .right) .left) .marks
 
-  pub replay-finishes : Finishable k (length palette) (length lab) e × movable.Redoable k (length locks) e
+  pub replay-finishes : Finishable k (length palette) (length lab) e × movable.Redoable k (length locks) e × CurveFits curve
   replay-finishes =
-      let r = redoable room w h k palette lab indices locks p e cs z in
-      (redoable-finishes e r, marks-redo _ cs (r .limits) (length locks) marks-there e (r .unrefused))
+      let r = replayable curve room w h k palette lab indices locks p e cs z in
+      let can = r .can in
+      (redoable-finishes e can, marks-redo _ cs (can .limits) (length locks) marks-there e (can .unrefused), r .curve-fits)

@@ -7,6 +7,7 @@ use base::LIST_TOO_LONG;
 use base::MAX_CHANGES;
 use base::NO_SPACE;
 use base::Replayed;
+use color_curve::curve_no;
 use edit::list_of;
 use edit_apply::finish_edit;
 use edit_checks::clear_marks;
@@ -22,6 +23,7 @@ ghost use mathlib.Core.List.{List, map};
 ghost use Prim.Native.Nat.{ℕ, _*_};
 ghost use lib.ListN.{length};
 ghost use Rattle.base.specs.Checks.{orElse, firstOf};
+ghost use Rattle.color_curve.specs.Curve.{curveOf, labBy, CurveFits};
 ghost use Rattle.edit.specs.Change.{Change, unpacked};
 ghost use Rattle.edit.specs.List.{listOf};
 ghost use Rattle.edit.specs.Checks.{permittedOf, leftChecks};
@@ -29,9 +31,9 @@ ghost use Rattle.edit_pixels.specs.Inside.{bare};
 ghost use Rattle.edit_checks.specs.Marks.{MarksFor, Checkable};
 ghost use Rattle.edit_locks.specs.Movable.{Redoable};
 ghost use Rattle.edit_apply.specs.Redoable.{Finishable};
-ghost use Rattle.history_model.specs.Document.{documentOf};
+ghost use Rattle.history_model.specs.Document.{documentOf, documentRest};
 ghost use Rattle.history_model.specs.Replay.{replayChecks, replayed, replayOf};
-ghost use Rattle.history_replay.specs.Steps.{ReplayBegun, restOf, doneOr};
+ghost use Rattle.history_replay.specs.Steps.{ReplayBegun, doneOr};
 
 // Before the list: the number of the first check that applies, or 0. A removal's marks are cleared.
 pub fn open_replay(
@@ -44,12 +46,14 @@ pub fn open_replay(
     locks: &[bool],
     limited: bool,
     permitted: &[u8],
+    loaded: bool,
+    curve: &[f64],
     edit: Edit,
     n: usize,
     marks: &mut [u8],
 ) -> u8
     ensures { λ r. ⌜
-        ((cs : List Change) → length cs ≡ n → ReplayBegun (length (now (marks .entry)))
+        ((cs : List Change) → length cs ≡ n → ReplayBegun (curveOf loaded (now (curve .entry))) (length (now (marks .entry)))
         (documentOf w h k (now (palette .entry)) (now (lab .entry)) (now (indices .entry)) (now (locks .entry)))
         (permittedOf limited (now (permitted .entry))) edit cs r (now (marks .exit)))
         ⌝ }
@@ -61,6 +65,10 @@ pub fn open_replay(
     let no = check_marked(w, h, k, palette, lab, indices, locks);
     if no != 0 {
         return no;
+    }
+    let unfit = curve_no(loaded, curve);
+    if unfit != 0 {
+        return unfit;
     }
     if MAX_CHANGES < n {
         return LIST_TOO_LONG;
@@ -99,14 +107,20 @@ pub fn finish_replay(
     lab: &mut [f64],
     indices: &mut [i16],
     locks: &mut [bool],
+    loaded: bool,
+    curve: &[f64],
     edit: Edit,
 ) -> Replayed
-    requires { ⌜ (no ≡ 0 → Finishable k (length (now palette)) (length (now lab)) edit × Redoable k (length (now locks)) edit) ⌝ }
+    requires { ⌜
+        (no ≡ 0 → Finishable k (length (now palette)) (length (now lab)) edit × Redoable k (length (now locks)) edit
+        × CurveFits (curveOf loaded (now curve)))
+        ⌝ }
     ensures { λ r. ⌜
         ((w h : ℕ)
         → replayed (r .answer) (documentOf w h (r .k) (now (palette .exit)) (now (lab .exit)) (now (indices .exit)) (now (locks .exit)))
         ≡ doneOr no (documentOf w h k (now (palette .entry)) (now (lab .entry)) (now (indices .entry)) (now (locks .entry)))
-        (restOf (documentOf w h k (now (palette .entry)) (now (lab .entry)) (now (indices .entry)) (now (locks .entry))) edit))
+        (documentRest (labBy (curveOf loaded (now (curve .entry))))
+        (documentOf w h k (now (palette .entry)) (now (lab .entry)) (now (indices .entry)) (now (locks .entry))) edit))
         ⌝ }
 {
     if no != 0 {
@@ -116,7 +130,7 @@ pub fn finish_replay(
         };
     }
     redo_locks(k, locks, edit);
-    let after = finish_edit(k, palette, lab, indices, edit);
+    let after = finish_edit(k, palette, lab, indices, loaded, curve, edit);
     Replayed {
         answer: Answer::Done,
         k: after,
@@ -134,6 +148,8 @@ fn replay_no(
     locks: &[bool],
     limited: bool,
     permitted: &[u8],
+    loaded: bool,
+    curve: &[f64],
     edit: Edit,
     list: &[u64],
     scratch: &mut [u8],
@@ -142,7 +158,7 @@ fn replay_no(
         let document = documentOf w h k (now (palette .entry)) (now (lab .entry)) (now (indices .entry)) (now (locks .entry)) in
         r
         ≡ firstOf
-        (replayChecks (length (now (scratch .entry))) document (permittedOf limited (now (permitted .entry))) edit
+        (replayChecks (curveOf loaded (now (curve .entry))) (length (now (scratch .entry))) document (permittedOf limited (now (permitted .entry))) edit
         (map unpacked (now (list .entry))))
         ) ⌝ }
 {
@@ -157,6 +173,8 @@ fn replay_no(
         locks,
         limited,
         permitted,
+        loaded,
+        curve,
         edit,
         n,
         scratch,
@@ -169,7 +187,7 @@ fn replay_no(
 }
 
 // Does an edit whose old values are the sheet's, and answers the palette count after it. LAB is worked out
-// from the colour. The scratch has at least w × h bytes; what they are afterwards is free.
+// from the colour by the session's curve; 25, where that is none, comes after 3. The scratch has at least w × h bytes; what they are afterwards is free.
 pub fn replay(
     w: usize,
     h: usize,
@@ -180,6 +198,8 @@ pub fn replay(
     locks: &mut [bool],
     limited: bool,
     permitted: &[u8],
+    loaded: bool,
+    curve: &[f64],
     edit: Edit,
     list: &[u64],
     scratch: &mut [u8],
@@ -187,7 +207,7 @@ pub fn replay(
     ensures { λ r. ⌜ (
         let document = documentOf w h k (now (palette .entry)) (now (lab .entry)) (now (indices .entry)) (now (locks .entry)) in
         replayed (r .answer) (documentOf w h (r .k) (now (palette .exit)) (now (lab .exit)) (now (indices .exit)) (now (locks .exit)))
-        ≡ replayOf (length (now (scratch .entry))) document (permittedOf limited (now (permitted .entry))) edit
+        ≡ replayOf (curveOf loaded (now (curve .entry))) (length (now (scratch .entry))) document (permittedOf limited (now (permitted .entry))) edit
         (map unpacked (now (list .entry)))
         ) ⌝ }
     ensures { λ _. ⌜ length (now (scratch .exit)) ≡ length (now (scratch .entry)) ⌝ }
@@ -202,6 +222,8 @@ pub fn replay(
         locks,
         limited,
         permitted,
+        loaded,
+        curve,
         edit,
         list,
         scratch,
@@ -213,5 +235,5 @@ pub fn replay(
         };
     }
     paint_list(list_of(edit), indices, w, list);
-    finish_replay(no, k, palette, lab, indices, locks, edit)
+    finish_replay(no, k, palette, lab, indices, locks, loaded, curve, edit)
 }

@@ -10,7 +10,8 @@ use lib.Ieee.{Float}
 use lib.ListN.{length}
 use Rattle.base.specs.Limits.{maxChanges}
 use Rattle.base.proofs.Bools.{and-right}
-use Rattle.color_lab.specs.Convert.{labOf}
+use Rattle.base.specs.declared.Lab.{Lab}
+use Rattle.base.specs.declared.Rgb.{Rgb}
 use Rattle.sheet.specs.Sheet.{Sheet, sheetOf}
 use Rattle.sheet.specs.Checks.{WellFormed}
 use Rattle.base.specs.declared.Edit.{Edit}
@@ -63,7 +64,7 @@ module _ {journal : List ℕ} {kind start count : ℕ} (l : Lies journal kind st
   marks-done k locks q = q ∙ rw edit-is
 
   -- the list painted, and the rest done
-  pub redone-by : (w h k : ℕ) (palette : List ℕ) (lab : List Float) (indices : List ℤ) {painted : List ℤ} {s : Sheet} → painted ≡ paintedList list w cs indices → s ≡ restDone labOf (sheetOf w h k palette lab painted) edit
-      → s ≡ redone labOf (sheetOf w h k palette lab indices) (editAt journal kind start) (changesAt journal kind start count)
+  pub redone-by : (curve : Rgb → Lab) (w h k : ℕ) (palette : List ℕ) (lab : List Float) (indices : List ℤ) {painted : List ℤ} {s : Sheet} → painted ≡ paintedList list w cs indices → s ≡ restDone curve (sheetOf w h k palette lab painted) edit
+      → s ≡ redone curve (sheetOf w h k palette lab indices) (editAt journal kind start) (changesAt journal kind start count)
   unfolding redone
-  redone-by w h k palette lab indices p q = q ∙ rw (p, read-list l edit-is list-is offset-is, read-changes l edit-is list-is offset-is, edit-is)
+  redone-by curve w h k palette lab indices p q = q ∙ rw (p, read-list l edit-is list-is offset-is, read-changes l edit-is list-is offset-is, edit-is)

@@ -16,7 +16,7 @@ ghost use mathlib.Core.List.{List};
 ghost use Prim.Native.Nat.{ℕ, _*_, _≤_};
 ghost use lib.Ieee.{Float};
 ghost use lib.ListN.{length};
-ghost use Rattle.color_lab.specs.Convert.{labOf};
+ghost use Rattle.color_curve.specs.Curve.{curveOf, labBy, CurveFits};
 ghost use Rattle.sheet.specs.Sheet.{sheetOf};
 ghost use Rattle.edit.specs.Apply.{redone};
 ghost use Rattle.edit.specs.Locks.{locksDone};
@@ -65,8 +65,8 @@ pub fn can_redo(
     left_no(list, w, h, indices, marks) == 0
 }
 
-// Redoes the record on a sheet of any height, moves the lock marks with their entries, and answers the palette count
-// after it.
+// Redoes the record on a sheet of any height, with LAB by the session's curve, moves the lock marks with their entries,
+// and answers the palette count after it.
 pub fn redo_record(
     w: usize,
     k: usize,
@@ -74,6 +74,8 @@ pub fn redo_record(
     lab: &mut [f64],
     indices: &mut [i16],
     locks: &mut [bool],
+    loaded: bool,
+    curve: &[f64],
     journal: &[u8],
     kind: u8,
     start: usize,
@@ -84,10 +86,11 @@ pub fn redo_record(
         Redoable w k (now palette) (now lab) (now indices) (editAt (now journal) kind start)
         (changesAt (now journal) kind start count)
         ⌝ }
-    requires { ⌜ length (now locks) ≡ 255 ⌝ }
+    requires { ⌜ (length (now locks) ≡ 255) × CurveFits (curveOf loaded (now curve)) ⌝ }
     ensures { λ r. ⌜
         ((h : ℕ) → sheetOf w h r (now (palette .exit)) (now (lab .exit)) (now (indices .exit))
-        ≡ redone labOf (sheetOf w h k (now (palette .entry)) (now (lab .entry)) (now (indices .entry)))
+        ≡ redone (labBy (curveOf loaded (now (curve .entry))))
+        (sheetOf w h k (now (palette .entry)) (now (lab .entry)) (now (indices .entry)))
         (editAt (now (journal .entry)) kind start) (changesAt (now (journal .entry)) kind start count))
         ⌝ }
     ensures { λ _. ⌜
@@ -99,5 +102,5 @@ pub fn redo_record(
     let at = start + list_offset(list);
     paint_list_in(list, indices, w, journal, at, count);
     redo_locks(k, locks, edit);
-    finish_edit(k, palette, lab, indices, edit)
+    finish_edit(k, palette, lab, indices, loaded, curve, edit)
 }

@@ -16,7 +16,9 @@ use Rattle.base.specs.Checks.{Check, firstOf, refusedOr}
 use Rattle.base.specs.declared.Handle.{Handle}
 use Rattle.base.specs.declared.Edit.{Edit}
 use Rattle.base.specs.declared.Edit.the-variants.{Pixels, PaletteSet, PaletteAdd, PaletteRemove, PaletteLock}
-use Rattle.color_lab.specs.Convert.{labOf}
+use Rattle.base.specs.declared.Lab.{Lab}
+use Rattle.base.specs.declared.Rgb.{Rgb}
+use Rattle.color_curve.specs.Curve.{Curve, labBy, CurveFits}
 use Rattle.sheet.specs.Sheet.{Sheet, view}
 use Rattle.sheet.specs.Checks.{WellFormed}
 use Rattle.edit.specs.Change.{Change}
@@ -25,7 +27,7 @@ use Rattle.edit.proofs.Redone.{SameSize, redone-size}
 use Rattle.journal_record.specs.Record as records
 use Rattle.journal_record.specs.Record.{readBack, readForth}
 use Rattle.journal_read.specs.Sound.{undoable, redoable}
-use Rattle.history_ledger.specs.Algebra.{Taken, WellFormedIn}
+use Rattle.history_ledger.specs.Algebra.{Algebra, Taken, WellFormedIn}
 use Rattle.history_ledger.specs.Calls.{Call, Outcome, play, lend, guarded, refused, still, done}
 use Rattle.history_ledger.specs.Calls.Call.{push, undo, redo, mark}
 use Rattle.history_ledger.specs.Demand.{TypedCall}
@@ -38,9 +40,8 @@ use Rattle.history_ledger.proofs.Scratch.{any-room}
 use Rattle.history_ledger.proofs.Refusals.{when-passes, each-passes}
 use Rattle.history_ledger.proofs.Whole.{runs}
 use Rattle.history_model.specs.Document.{Document, documentDone, documentBack}
-use Rattle.history_model.specs.Editing.{Given, editing, taken, undoneBy, redoneBy}
+use Rattle.history_model.specs.Editing.{Given, editingBy, taken, undoneBy, redoneBy}
 use Rattle.history_model.proofs.Keeps.{marked, keeps}
-use Rattle.history_model.proofs.Demand3.{curve}
 
 -- ---- the size
 reverted-size : (s : Sheet) (e : Edit) (cs : List Change) → SameSize s (reverted s e cs)
@@ -68,11 +69,11 @@ unfolding undoneBy
 undone-size d none = tt
 undone-size d (some r) = leads-taken (Sides d) (undoable (d .sheet) (d .locks) (r .1) (r .2)) (r .0) (documentBack d (r .1) (r .2)) (reverted-size (d .sheet) (r .1) (r .2))
 
-forth-size : (d : Document) (r : records.Reading) → Leads (Sides d) (redoneBy labOf d r)
+forth-size : (curve : Rgb → Lab) (d : Document) (r : records.Reading) → Leads (Sides d) (redoneBy curve d r)
 unfolding redoneBy
-forth-size d none = tt
-forth-size d (some r) =
-    leads-taken (Sides d) (redoable (d .sheet) (d .locks) (r .1) (r .2)) (r .0) (documentDone labOf d (r .1) (r .2)) (redone-size labOf (d .sheet) (r .1) (r .2))
+forth-size curve d none = tt
+forth-size curve d (some r) =
+    leads-taken (Sides d) (redoable (d .sheet) (d .locks) (r .1) (r .2)) (r .0) (documentDone curve d (r .1) (r .2)) (redone-size curve (d .sheet) (r .1) (r .2))
 
 -- ---- what a call leaves is what was there, or what the outcome behind its checks leaves
 pub record Left {S : Type 0} (P : S → Type 0) (o : Outcome S) : Type 0 where
@@ -91,49 +92,6 @@ module _ {S : Type 0} (P : S → Type 0) (s : S) (h : P s) where
   or-still true o k = record { is = h }
   or-still false o k = k
 
--- ---- a call leaves the size, in every state
-module _ (st : State Document) where
-  abbrev Sized : State Document → Type 0
-  Sized after = Sides (st .sheet) (after .sheet)
-
-  stands : Sized st
-  stands = record { w = refl; h = refl }
-
-  step-over : (r : Option (Taken Document)) (inside : ℕ → Bool) (stepped : ℕ → Handle → Handle) → Leads (Sides (st .sheet)) r
-      → Left Sized (stepOver editing st r inside stepped)
-  unfolding stepOver
-  step-over none inside stepped h = record { is = stands }
-  step-over (some r) inside stepped h = after-checks Sized st stands _ _ (record { is = h })
-
-  sized : (room : ℕ) (c : Call Given) → Left Sized (step editing room st c)
-  unfolding pushOf undoOf redoOf pushed
-  sized room (push g) =
-      after-checks Sized st stands (entryChecks editing st g) _
-      (or-still Sized st stands (editing .isEmpty g) _
-      (after-checks Sized st stands (pushChecks editing room st g) (done (pushed editing st g))
-      (record { is = redone-size labOf (st .sheet .sheet) (g .edit) (g .changes) })))
-  sized room undo =
-      let used : List ℕ = take (st .handle .offset) (st .journal) in
-      after-checks Sized st stands (moveChecks editing st) _
-      (or-still Sized st stands (eqb (st .handle .position) 0) _
-      (step-over (undoneBy (st .sheet) (readBack used)) (λ n. leb n (st .handle .offset)) steppedBack (undone-size (st .sheet) (readBack used))))
-  sized room redo =
-      let used : List ℕ = take (st .handle .end - st .handle .offset) (drop (st .handle .offset) (st .journal)) in
-      after-checks Sized st stands (redoChecks editing st) _
-      (or-still Sized st stands (eqb (st .handle .position) (st .handle .count)) _
-      (after-checks Sized st stands (shortScratch editing room st ∷ []) _
-      (step-over (redoneBy labOf (st .sheet) (readForth used)) (λ n. leb (st .handle .offset + n) (st .handle .end)) steppedForth
-      (forth-size (st .sheet) (readForth used)))))
-  sized room mark = record { is = stands }
-
--- ---- a journal that is too long, or scratch that is too short, leaves everything as it was
-overlong : (room : ℕ) (st : State Document) (c : Call Given) → maxJournal < length (st .journal) → step editing room st c .leaves ≡ st
-unfolding pushOf undoOf redoOf markOf firstOf refusedOr
-overlong room st (push g) h = rw (lt-ltb maxJournal (length (st .journal)) h)
-overlong room st undo h = rw (lt-ltb maxJournal (length (st .journal)) h)
-overlong room st redo h = rw (lt-ltb maxJournal (length (st .journal)) h)
-overlong room st mark h = rw (lt-ltb maxJournal (length (st .journal)) h)
-
 applied : {S : Type 0} (s : S) (cs : List Check) (o : Outcome S) → ¬ (firstOf cs ≡ 0) → Left (λ t. t ≡ s) (guarded s cs o)
 unfolding refusedOr
 applied s cs o h = go (firstOf cs) refl
@@ -142,89 +100,137 @@ applied s cs o h = go (firstOf cs) refl
     go zero e = absurd (h e)
     go (suc n) e = record { is = refl }
 
-module _ (room : ℕ) (st : State Document) (short : room < st .sheet .sheet .w * st .sheet .sheet .h) where
-  not-enough : ¬ (cond (ltb room (st .sheet .sheet .w * st .sheet .sheet .h)) noSpace 0 ≡ 0)
-  not-enough e = omega (arith, ltb-false room (st .sheet .sheet .w * st .sheet .sheet .h) (when-passes 15 (ltb room (st .sheet .sheet .w * st .sheet .sheet .h)) e))
+-- ---- with the curve of a session
+module _ (session : Curve) where
+  abbrev A : Algebra
+  A = editingBy session
 
-  short-push : (g : Given) → Left (λ s. s ≡ st) (pushOf editing room st g)
-  unfolding pushOf view
-  short-push g =
-      after-checks (λ s. s ≡ st) st refl (entryChecks editing st g) _
-      (or-still (λ s. s ≡ st) st refl (editing .isEmpty g) _
-      (applied st (pushChecks editing room st g) (done (pushed editing st g)) (λ e. not-enough (each-passes (pushChecks editing room st g) e .1 .0))))
+  -- ---- a call leaves the size, in every state
+  module _ (st : State Document) where
+    abbrev Sized : State Document → Type 0
+    Sized after = Sides (st .sheet) (after .sheet)
 
-  short-redo : Left (λ s. s ≡ st) (redoOf editing room st)
-  unfolding redoOf view
-  short-redo =
-      let used : List ℕ = take (st .handle .end - st .handle .offset) (drop (st .handle .offset) (st .journal)) in
-      let over = stepOver editing st (redoneBy labOf (st .sheet) (readForth used)) (λ n. leb (st .handle .offset + n) (st .handle .end)) steppedForth in
-      after-checks (λ s. s ≡ st) st refl (redoChecks editing st) _
-      (or-still (λ s. s ≡ st) st refl (eqb (st .handle .position) (st .handle .count)) _
-      (applied st (shortScratch editing room st ∷ []) over (λ e. not-enough (each-passes (shortScratch editing room st ∷ []) e .0))))
+    stands : Sized st
+    stands = record { w = refl; h = refl }
 
--- ---- a state on the way, with scratch of `room` places
-pub record Along (room n : ℕ) (st : State Document) : Type 0 where
-  pub by : Trace editing
-  pub holds : Holds editing room n by
-  pub is : st ≡ trace.stateOf editing by
+    step-over : (r : Option (Taken Document)) (inside : ℕ → Bool) (stepped : ℕ → Handle → Handle) → Leads (Sides (st .sheet)) r
+        → Left Sized (stepOver A st r inside stepped)
+    unfolding stepOver
+    step-over none inside stepped h = record { is = stands }
+    step-over (some r) inside stepped h = after-checks Sized st stands _ _ (record { is = h })
 
-pub data Lives (room : ℕ) (st : State Document) : Type 0 where
-  refuses : maxJournal < length (st .journal) → WellFormedIn editing (st .sheet) → Lives room st
-  goes : (n : ℕ) → n ≤ maxJournal → Along room n st → Lives room st
+    sized : (room : ℕ) (c : Call Given) → Left Sized (step A room st c)
+    unfolding pushOf undoOf redoOf pushed
+    sized room (push g) =
+        after-checks Sized st stands (entryChecks A st g) _
+        (or-still Sized st stands (A .isEmpty g) _
+        (after-checks Sized st stands (pushChecks A room st g) (done (pushed A st g))
+        (record { is = redone-size (labBy session) (st .sheet .sheet) (g .edit) (g .changes) })))
+    sized room undo =
+        let used : List ℕ = take (st .handle .offset) (st .journal) in
+        after-checks Sized st stands (moveChecks A st) _
+        (or-still Sized st stands (eqb (st .handle .position) 0) _
+        (step-over (undoneBy (st .sheet) (readBack used)) (λ n. leb n (st .handle .offset)) steppedBack (undone-size (st .sheet) (readBack used))))
+    sized room redo =
+        let used : List ℕ = take (st .handle .end - st .handle .offset) (drop (st .handle .offset) (st .journal)) in
+        after-checks Sized st stands (redoChecks A st) _
+        (or-still Sized st stands (eqb (st .handle .position) (st .handle .count)) _
+        (after-checks Sized st stands (shortScratch A room st ∷ []) _
+        (step-over (redoneBy (labBy session) (st .sheet) (readForth used)) (λ n. leb (st .handle .offset + n) (st .handle .end)) steppedForth
+        (forth-size (labBy session) (st .sheet) (readForth used)))))
+    sized room mark = record { is = stands }
 
-along-step : {room n : ℕ} {st : State Document} → n ≤ maxJournal → Along room n st → (c : Call Given) → TypedCall editing c
-    → Along room n (step editing room st c .leaves)
-unfolding play lend
-along-step {room} {n} permitted a c t =
-    let ran = runs editing (keeps labOf curve) room n permitted (λ i. room) (λ i. omega arith) (c ∷ []) (t, tt) (a .by) (a .holds) in
-    record { by = ran .to; holds = ran .holds; is = ap (λ s. step editing room s c .leaves) (a .is) ∙ ap (λ p. p .ends) (ran .code) }
+  -- ---- a journal that is too long, or scratch that is too short, leaves everything as it was
+  overlong : (room : ℕ) (st : State Document) (c : Call Given) → maxJournal < length (st .journal) → step A room st c .leaves ≡ st
+  unfolding pushOf undoOf redoOf markOf firstOf refusedOr
+  overlong room st (push g) h = rw (lt-ltb maxJournal (length (st .journal)) h)
+  overlong room st undo h = rw (lt-ltb maxJournal (length (st .journal)) h)
+  overlong room st redo h = rw (lt-ltb maxJournal (length (st .journal)) h)
+  overlong room st mark h = rw (lt-ltb maxJournal (length (st .journal)) h)
 
--- ---- a layer of w by h
-pub record Stays (w h : ℕ) (st : State Document) : Type 0 where
-  pub width : st .sheet .sheet .w ≡ w
-  pub height : st .sheet .sheet .h ≡ h
-  pub lives : Lives (w * h) st
+  module _ (room : ℕ) (st : State Document) (short : room < st .sheet .sheet .w * st .sheet .sheet .h) where
+    not-enough : ¬ (cond (ltb room (st .sheet .sheet .w * st .sheet .sheet .h)) noSpace 0 ≡ 0)
+    not-enough e = omega (arith, ltb-false room (st .sheet .sheet .w * st .sheet .sheet .h) (when-passes 15 (ltb room (st .sheet .sheet .w * st .sheet .sheet .h)) e))
 
-lives-fits : {room : ℕ} {st : State Document} → Lives room st → WellFormedIn editing (st .sheet)
-lives-fits (refuses long f) = f
-lives-fits (goes n permitted a) = subst (λ s. WellFormedIn editing (s .sheet)) (sym (a .is)) (a .holds .fits)
+    short-push : (g : Given) → Left (λ s. s ≡ st) (pushOf A room st g)
+    unfolding pushOf view
+    short-push g =
+        after-checks (λ s. s ≡ st) st refl (entryChecks A st g) _
+        (or-still (λ s. s ≡ st) st refl (A .isEmpty g) _
+        (applied st (pushChecks A room st g) (done (pushed A st g)) (λ e. not-enough (each-passes (pushChecks A room st g) e .1 .0))))
 
-pub stays-fits : {w h : ℕ} {st : State Document} → Stays w h st → WellFormed (st .sheet .sheet)
-stays-fits {w} {h} {st} a = marked (st .sheet .sheet) (st .sheet .locks) (lives-fits (a .lives) .passes) .formed
+    short-redo : Left (λ s. s ≡ st) (redoOf A room st)
+    unfolding redoOf view
+    short-redo =
+        let used : List ℕ = take (st .handle .end - st .handle .offset) (drop (st .handle .offset) (st .journal)) in
+        let over = stepOver A st (redoneBy (labBy session) (st .sheet) (readForth used)) (λ n. leb (st .handle .offset + n) (st .handle .end)) steppedForth in
+        after-checks (λ s. s ≡ st) st refl (redoChecks A st) _
+        (or-still (λ s. s ≡ st) st refl (eqb (st .handle .position) (st .handle .count)) _
+        (applied st (shortScratch A room st ∷ []) over (λ e. not-enough (each-passes (shortScratch A room st ∷ []) e .0))))
 
-pub opens : {w h : ℕ} (d : Document) (journal : List ℕ) → WellFormedIn editing d → d .sheet .w ≡ w → d .sheet .h ≡ h → Stays w h (opened editing d journal)
-unfolding view
-opens {w} {h} d journal f p q = record { width = p; height = q; lives = go (ltb maxJournal (length journal)) refl }
-  where
-    places : d .sheet .w * d .sheet .h ≤ w * h
-    places = rw (p, q) (omega arith)
+  -- ---- a state on the way, with scratch of `room` places
+  pub record Along (room n : ℕ) (st : State Document) : Type 0 where
+    pub by : Trace A
+    pub holds : Holds A room n by
+    pub is : st ≡ trace.stateOf A by
 
-    go : (b : Bool) → ltb maxJournal (length journal) ≡ b → Lives (w * h) (opened editing d journal)
-    go true e = refuses (ltb-true _ _ e) f
-    go false e =
-        goes (length journal) (ltb-false _ _ e) (record { by = begin editing d journal; holds = begins editing d journal (w * h) f places; is = refl })
+  pub data Lives (room : ℕ) (st : State Document) : Type 0 where
+    refuses : maxJournal < length (st .journal) → WellFormedIn A (st .sheet) → Lives room st
+    goes : (n : ℕ) → n ≤ maxJournal → Along room n st → Lives room st
 
-module _ {w h : ℕ} {st : State Document} (a : Stays w h st) (room : ℕ) where
-  enough : room < w * h → (c : Call Given) → Lives (w * h) (step editing (w * h) st c .leaves) → Lives (w * h) (step editing room st c .leaves)
-  enough short (push g) k = subst (Lives (w * h)) (sym (short-push room st (rw (a .width, a .height) short) g .is)) (a .lives)
-  enough short undo k = k
-  enough short redo k = subst (Lives (w * h)) (sym (short-redo room st (rw (a .width, a .height) short) .is)) (a .lives)
-  enough short mark k = k
+  along-step : CurveFits session → {room n : ℕ} {st : State Document} → n ≤ maxJournal → Along room n st → (c : Call Given) → TypedCall A c
+      → Along room n (step A room st c .leaves)
+  unfolding play lend
+  along-step fits {room} {n} permitted a c t =
+      let ran = runs A (keeps session fits) room n permitted (λ i. room) (λ i. omega arith) (c ∷ []) (t, tt) (a .by) (a .holds) in
+      record { by = ran .to; holds = ran .holds; is = ap (λ s. step A room s c .leaves) (a .is) ∙ ap (λ p. p .ends) (ran .code) }
 
-  same : w * h ≤ room → (c : Call Given) → step editing room st c ≡ step editing (w * h) st c
+  -- ---- a layer of w by h
+  pub record Stays (w h : ℕ) (st : State Document) : Type 0 where
+    pub width : st .sheet .sheet .w ≡ w
+    pub height : st .sheet .sheet .h ≡ h
+    pub lives : Lives (w * h) st
+
+  lives-fits : {room : ℕ} {st : State Document} → Lives room st → WellFormedIn A (st .sheet)
+  lives-fits (refuses long f) = f
+  lives-fits (goes n permitted a) = subst (λ s. WellFormedIn A (s .sheet)) (sym (a .is)) (a .holds .fits)
+
+  pub stays-fits : {w h : ℕ} {st : State Document} → Stays w h st → WellFormed (st .sheet .sheet)
+  stays-fits {w} {h} {st} a = marked (st .sheet .sheet) (st .sheet .locks) (lives-fits (a .lives) .passes) .formed
+
+  pub opens : {w h : ℕ} (d : Document) (journal : List ℕ) → WellFormedIn A d → d .sheet .w ≡ w → d .sheet .h ≡ h → Stays w h (opened A d journal)
   unfolding view
-  same b c = any-room editing room (w * h) st c (rw (a .width, a .height) b) (rw (a .width, a .height) (omega arith))
-
-  pub stays : (c : Call Given) → TypedCall editing c → Stays w h (step editing room st c .leaves)
-  stays c t =
-      let size = sized st room c .is in
-      record { width = size .w ∙ a .width; height = size .h ∙ a .height; lives = by-journal (a .lives) }
+  opens {w} {h} d journal f p q = record { width = p; height = q; lives = go (ltb maxJournal (length journal)) refl }
     where
-      by-scratch : (b : Bool) → ltb room (w * h) ≡ b → Lives (w * h) (step editing (w * h) st c .leaves)
-          → Lives (w * h) (step editing room st c .leaves)
-      by-scratch true e k = enough (ltb-true _ _ e) c k
-      by-scratch false e k = subst (λ o. Lives (w * h) (o .leaves)) (sym (same (ltb-false _ _ e) c)) k
+      places : d .sheet .w * d .sheet .h ≤ w * h
+      places = rw (p, q) (omega arith)
 
-      by-journal : Lives (w * h) st → Lives (w * h) (step editing room st c .leaves)
-      by-journal (refuses long f) = subst (Lives (w * h)) (sym (overlong room st c long)) (a .lives)
-      by-journal (goes n permitted k) = by-scratch (ltb room (w * h)) refl (goes n permitted (along-step permitted k c t))
+      go : (b : Bool) → ltb maxJournal (length journal) ≡ b → Lives (w * h) (opened A d journal)
+      go true e = refuses (ltb-true _ _ e) f
+      go false e =
+          goes (length journal) (ltb-false _ _ e) (record { by = begin A d journal; holds = begins A d journal (w * h) f places; is = refl })
+
+  module _ (fits : CurveFits session) {w h : ℕ} {st : State Document} (a : Stays w h st) (room : ℕ) where
+    enough : room < w * h → (c : Call Given) → Lives (w * h) (step A (w * h) st c .leaves) → Lives (w * h) (step A room st c .leaves)
+    enough short (push g) k = subst (Lives (w * h)) (sym (short-push room st (rw (a .width, a .height) short) g .is)) (a .lives)
+    enough short undo k = k
+    enough short redo k = subst (Lives (w * h)) (sym (short-redo room st (rw (a .width, a .height) short) .is)) (a .lives)
+    enough short mark k = k
+
+    same : w * h ≤ room → (c : Call Given) → step A room st c ≡ step A (w * h) st c
+    unfolding view
+    same b c = any-room A room (w * h) st c (rw (a .width, a .height) b) (rw (a .width, a .height) (omega arith))
+
+    pub stays : (c : Call Given) → TypedCall A c → Stays w h (step A room st c .leaves)
+    stays c t =
+        let size = sized st room c .is in
+        record { width = size .w ∙ a .width; height = size .h ∙ a .height; lives = by-journal (a .lives) }
+      where
+        by-scratch : (b : Bool) → ltb room (w * h) ≡ b → Lives (w * h) (step A (w * h) st c .leaves)
+            → Lives (w * h) (step A room st c .leaves)
+        by-scratch true e k = enough (ltb-true _ _ e) c k
+        by-scratch false e k = subst (λ o. Lives (w * h) (o .leaves)) (sym (same (ltb-false _ _ e) c)) k
+
+        by-journal : Lives (w * h) st → Lives (w * h) (step A room st c .leaves)
+        by-journal (refuses long f) = subst (Lives (w * h)) (sym (overlong room st c long)) (a .lives)
+        by-journal (goes n permitted k) = by-scratch (ltb room (w * h)) refl (goes n permitted (along-step fits permitted k c t))

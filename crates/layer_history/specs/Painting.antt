@@ -1,8 +1,8 @@
 -- Layers that are edited, each by its own history, and repainted after every call: document 02, E1. Whatever the calls, the
 -- buffer is the flattening of the sheets as they stand. Proved: `always-flat` in proofs/Flat.antt. Definitions only.
 -- Assumes nothing. `flattenOf` and `repaintOf` (layer_shown/specs/Calls.antt) are what the contracts of `flatten` and
--- `repaint` say; `layered (stepLent editing)` makes a push, an undo, a redo or a mark on one layer
--- (history_model/specs/Layers.antt).
+-- `repaint` say; `layered (stepLent (editingBy c))` makes a push, an undo, a redo or a mark on one layer
+-- (history_model/specs/Layers.antt), c the curve of the session.
 use mathlib.Core.Path.{_≡_}
 use mathlib.Core.List.{List, [], _∷_, map, flatMap}
 use Prim.Native.Nat.{ℕ, _*_, _≤_, _<_}
@@ -14,12 +14,13 @@ use Rattle.base.specs.Checks.{firstOf}
 use Rattle.base.specs.Answer.{Told, Filled, leaving}
 use Rattle.base.specs.Answer.Told.{result}
 use Rattle.base.specs.Lists.{All, range, over}
+use Rattle.color_curve.specs.Curve.{Curve, CurveFits}
 use Rattle.sheet.specs.Sheet.{Sheet}
 use Rattle.history_ledger.specs.Calls.{Call, Lent, play}
 use Rattle.history_ledger.specs.Journal.{State, opened, stepLent}
 use Rattle.history_ledger.specs.Layers.{OnLayer, layered}
 use Rattle.history_model.specs.Document.{Document, documentChecks}
-use Rattle.history_model.specs.Editing.{Given, editing}
+use Rattle.history_model.specs.Editing.{Given, editingBy}
 use Rattle.history_model.specs.Handed.{HandedSheet, sheetBy}
 use Rattle.history_model.specs.Layers.{HandedCall, callOn}
 use Rattle.layer_shown.specs.Layers.{layersOf, flattened}
@@ -57,9 +58,9 @@ abbrev pub repaintLent : List Sheet → ℕ → Sheet → List ℕ → Filled �
 repaintLent sheets edited before out = repaintOf (sizesOf sheets) (lentLayers sheets) edited before out
 
 -- ---- "After an edit, undo or redo on one layer": `repaint`, with the sheet that the layer had before the call
-unfoldable pub repaintAfter : ℕ → Layers → OnLayer (Lent (Call Given)) → List ℕ → Filled ℕ
-repaintAfter n layers c out =
-    let next = layered (stepLent editing) layers c .leaves in
+unfoldable pub repaintAfter : Curve → ℕ → Layers → OnLayer (Lent (Call Given)) → List ℕ → Filled ℕ
+repaintAfter curve n layers c out =
+    let next = layered (stepLent (editingBy curve)) layers c .leaves in
     repaintLent (sheetsOf n next) (c .layer) (layers (c .layer) .sheet .sheet) out
 
 -- a list of calls, with a repaint after each: what the repaints answer, and the buffer at the end
@@ -67,11 +68,11 @@ pub record Painted : Type 0 where
   pub answers : List (Told ℕ)
   pub out : List ℕ
 
-unfoldable pub painted : ℕ → Layers → List ℕ → List (OnLayer (Lent (Call Given))) → Painted
-painted n layers out [] = record { answers = []; out = out }
-painted n layers out (c ∷ cs) =
-    let now = repaintAfter n layers c out in
-    let later = painted n (layered (stepLent editing) layers c .leaves) (now .buffer) cs in
+unfoldable pub painted : Curve → ℕ → Layers → List ℕ → List (OnLayer (Lent (Call Given))) → Painted
+painted curve n layers out [] = record { answers = []; out = out }
+painted curve n layers out (c ∷ cs) =
+    let now = repaintAfter curve n layers c out in
+    let later = painted curve n (layered (stepLent (editingBy curve)) layers c .leaves) (now .buffer) cs in
     record { answers = now .answer ∷ later .answers; out = later .out }
 
 -- ---- a sheet of w by h, with its marks, that none of 1 to 3 refuses
@@ -88,17 +89,17 @@ pub record Flat (w h : ℕ) (handed : List HandedCall) (buffer : List ℕ) (firs
   pub afresh : flattenLent ends buffer ≡ leaving (result (4 * (w * h))) (ran .out)
   pub shows : ran .out ≡ over (flattened ends (w * h)) buffer
 
--- For 1 to 8 layers of one size, every list of calls, each on one of them, and every buffer for w × h pixels that was
+-- For every curve that fits, 1 to 8 layers of one size, every list of calls, each on one of them, and every buffer for w × h pixels that was
 -- flattened at first. Nothing is asked of the journals and of each call's scratch: a call that they refuse changes no sheet.
 abbrev pub AlwaysFlat : Type 0
 AlwaysFlat =
-    (n w h : ℕ) → 1 ≤ n → n ≤ maxLayers
+    (curve : Curve) → CurveFits curve → (n w h : ℕ) → 1 ≤ n → n ≤ maxLayers
     → (lent : ℕ → HandedSheet) → ((i : ℕ) → i < n → Opens w h (sheetBy (lent i)))
     → (journals : ℕ → List ℕ)
     → (handed : List HandedCall) → All (λ c. c .layer < n) handed
     → (buffer : List ℕ) → 4 * (w * h) ≤ length buffer
-    → let opening : Layers = λ i. opened editing (sheetBy (lent i)) (journals i) in
+    → let opening : Layers = λ i. opened (editingBy curve) (sheetBy (lent i)) (journals i) in
     let calls = map callOn handed in
     let first = flattenLent (sheetsOf n opening) buffer in
-    let ends = play (layered (stepLent editing)) opening calls .ends in
-    Flat w h handed buffer first (painted n opening (first .buffer) calls) (sheetsOf n ends)
+    let ends = play (layered (stepLent (editingBy curve))) opening calls .ends in
+    Flat w h handed buffer first (painted curve n opening (first .buffer) calls) (sheetsOf n ends)

@@ -91,7 +91,7 @@ fn take_sheet(
     let start = 6 + 3 * k;
     let end = start + n;
     take_bytes(&bytes[6..start], palette);
-    fill_labs(palette, lab, k);
+    fill_labs(palette, lab, k, false, &[]);
     take_indices(&bytes[start..end], indices);
 }
 

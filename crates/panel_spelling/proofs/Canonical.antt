@@ -16,10 +16,13 @@ use Rattle.base.specs.Answer.{Size, size}
 use Rattle.base.specs.Lists.{some, over}
 use Rattle.base.proofs.Nowhere.{nowhere-take, nowhere-drop}
 use Rattle.base.proofs.Over.{length-over}
+use Rattle.color_lab.specs.Convert.{labOf}
+use Rattle.color_lab.proofs.Bytes.{lab-of-bytes}
 use Rattle.sheet.specs.Sheet.{Sheet, sheetOf}
 use Rattle.sheet.specs.Checks.{WellFormed}
 use Rattle.sheet.specs.Document.{labsOf}
 use Rattle.sheet.proofs.LabStorage.{length-labs}
+use Rattle.sheet.proofs.FiniteLabs.{labs-fit}
 use Rattle.panel_hex.specs.Hex.{unhexOf, hexOf}
 use Rattle.panel_frames.specs.declared.Frame.the-variants.{Open, Malformed}
 use Rattle.panel_frames.specs.Opening.{openBytes, coloursOf, openSheet, sheetIn}
@@ -30,7 +33,6 @@ use Rattle.panel_read.proofs.Taking.{colours-in}
 use Rattle.panel_spelling.specs.OneSpelling.{Spelled, upperCase, sheetLeft, Respells, Canonical}
 use Rattle.panel_spelling.proofs.Digits.{spells}
 use Rattle.panel_spelling.proofs.Openings.{Opens, no-open, opens, together}
-use Rattle.panel_spelling.proofs.Labs.{labs-fit}
 use Rattle.panel_spelling.proofs.Accepted.{opened, Passed, passed, Taken, taken}
 
 -- ---- a line that is an opening frame: its bytes, and its digits in upper case
@@ -81,7 +83,7 @@ module _ (line bs : List ℕ) (s : Sheet) (o : Opening line bs (s .w) (s .h) (s 
       rw indices-are (length-map (take (s .w * s .h) (drop (6 + 3 * s .k) bs)) indexOf ∙ simp (length-take, length-drop) (omega arith))
 
   labs-long : length (labsOf (coloursOf s)) ≡ 3 * s .k
-  labs-long = length-labs (s .k) (coloursOf s) colours-long
+  labs-long = length-labs labOf (s .k) (coloursOf s) colours-long
 
   colours-bytes : some (leb 256) (coloursOf s) ≡ false
   colours-bytes = rw colours-are (nowhere-take (leb 256) (3 * s .k) (drop 6 bs) (nowhere-drop (leb 256) 6 bs (o .bytes)))
@@ -126,7 +128,7 @@ module _ (line bs : List ℕ) (s : Sheet) (o : Opening line bs (s .w) (s .h) (s 
                 indices-length = ap length same-indices ∙ indices-long;
               };
           in-range = rw same-indices (c .in-range);
-          fit = rw same-labs (labs-fit (coloursOf s) colours-bytes);
+          fit = rw same-labs (labs-fit labOf lab-of-bytes (coloursOf s) colours-bytes);
         }
 
     same-line : spelt t ≡ spelt s

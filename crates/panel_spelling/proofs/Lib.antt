@@ -1,7 +1,6 @@
 pub mod Digits
 pub mod Openings
 pub mod Frames
-pub mod Labs
 pub mod Accepted
 pub mod EqualLines
 pub mod ReadBack

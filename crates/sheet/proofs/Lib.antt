@@ -6,4 +6,5 @@ pub mod Front
 pub mod Pixels
 pub mod Entries
 pub mod LabStorage
+pub mod FiniteLabs
 pub mod Answers

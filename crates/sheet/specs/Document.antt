@@ -9,6 +9,8 @@ use lib.Ieee.{Float}
 use lib.ListN.{getD, take, replicate}
 use Rattle.base.specs.Numbers.{tooFar}
 use Rattle.base.specs.Checks.{_when_, checked}
+use Rattle.base.specs.declared.Rgb.{Rgb}
+use Rattle.base.specs.declared.Lab.{Lab}
 use Rattle.base.specs.declared.Answer.{Answer}
 use Rattle.base.specs.Answer.{Told, Done, answerTold}
 use Rattle.base.specs.Answer.Told.{result, alone}
@@ -37,12 +39,15 @@ unfoldable pub withLabOf : Sheet → List Bool → Opened
 withLabOf s locks = checked (sheetChecks (markChecks locks) s) (λ n. opening (alone n) locks) (opening Done (clearedMarks (s .k) locks))
 
 -- ---- `new`: LAB is not read; that of the k entries is worked out from their bytes, and the rest keeps; then the marks
--- the LAB of colours that stand one after the other, three bytes each
-unfoldable pub labsOf : List ℕ → List Float
-labsOf (r ∷ g ∷ b ∷ rest) = let x = labOf (record { r = r; g = g; b = b }) in x .l ∷ x .a ∷ x .b ∷ labsOf rest
-labsOf (r ∷ g ∷ []) = []
-labsOf (r ∷ []) = []
-labsOf [] = []
+-- the LAB of colours that stand one after the other, three bytes each, by a curve; and by sRGB
+unfoldable pub labsBy : (Rgb → Lab) → List ℕ → List Float
+labsBy curve (r ∷ g ∷ b ∷ rest) = let x = curve (record { r = r; g = g; b = b }) in x .l ∷ x .a ∷ x .b ∷ labsBy curve rest
+labsBy curve (r ∷ g ∷ []) = []
+labsBy curve (r ∷ []) = []
+labsBy curve [] = []
+
+abbrev pub labsOf : List ℕ → List Float
+labsOf = labsBy labOf
 
 unfoldable pub newLab : Sheet → List Float
 newLab s = over (labsOf (take (3 * s .k) (s .palette))) (s .lab)

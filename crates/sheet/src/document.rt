@@ -71,7 +71,7 @@ pub fn new(
     if any_stray(indices, k) {
         return Answer::Refused(STRAY_INDEX);
     }
-    fill_labs(palette, lab, k);
+    fill_labs(palette, lab, k, false, &[]);
     clear_locks(locks, k);
     Answer::Done
 }

@@ -3,9 +3,10 @@ use base::Answer;
 use base::Handle;
 ghost use mathlib.Core.Path.{_≡_};
 ghost use lib.ListN.{length};
+ghost use Rattle.color_curve.specs.Curve.{curveOf};
 ghost use Rattle.history_ledger.specs.Journal.{undoOf, redoOf, markOf};
 ghost use Rattle.history_model.specs.Document.{documentOf};
-ghost use Rattle.history_model.specs.Editing.{editing};
+ghost use Rattle.history_model.specs.Editing.{editingBy, editing};
 ghost use Rattle.history_model.specs.Calls.{stateOf};
 ghost use Rattle.history_model.specs.Calls.{outcomeOf};
 ghost use Rattle.struct_push.specs.Lent.{leavesLent};
@@ -46,6 +47,8 @@ pub fn redo(
     lab: &mut [f64],
     indices: &mut [i16],
     locks: &mut [bool],
+    loaded: bool,
+    curve: &[f64],
     journal: &[u8],
     handle: &mut Handle,
     scratch: &mut [u8],
@@ -56,7 +59,7 @@ pub fn redo(
         (now (locks .entry)) in
         (leavesLent r w h (now (k .exit)) (now (palette .exit)) (now (lab .exit)) (now (indices .exit))
         (now (locks .exit)) (now (journal .entry)) (now (handle .exit))
-        ≡ redoOf editing (length (now (scratch .entry))) (stateOf document (now (journal .entry)) (now (handle .entry))))
+        ≡ redoOf (editingBy (curveOf loaded (now (curve .entry)))) (length (now (scratch .entry))) (stateOf document (now (journal .entry)) (now (handle .entry))))
         × (length (now (scratch .exit)) ≡ length (now (scratch .entry)))
         ) ⌝ }
 {
@@ -68,6 +71,8 @@ pub fn redo(
         lab,
         indices,
         locks,
+        loaded,
+        curve,
         journal,
         *handle,
         scratch,

@@ -10,13 +10,14 @@ use lib.ListN.{length, length-map}
 use Rattle.base.specs.Checks.{refusedOr}
 use Rattle.base.specs.declared.Edit.{Edit}
 use Rattle.base.specs.declared.Handle.{Handle}
+use Rattle.color_curve.specs.Curve.{Curve, labBy}
 use Rattle.edit.specs.declared.ListKind.{ListKind}
 use Rattle.edit.specs.List.{listOf, emptyPixels}
 use Rattle.edit_list.specs.Paintable.{Paintable}
 use Rattle.journal_write.specs.List.{Puttable}
 use Rattle.history_ledger.specs.Journal.{State, pushed}
 use Rattle.history_model.specs.Document.{Document, documentOf}
-use Rattle.history_model.specs.Editing.{Given, givenOf, editing}
+use Rattle.history_model.specs.Editing.{Given, givenOf, editingBy}
 use Rattle.history_model.specs.Calls.{stateOf, Standing, Acceptable}
 use Rattle.history_push_checks.specs.Steps.{isStill, pushedOr}
 use Rattle.history_push.specs.Finish.{finished, Finishes}
@@ -51,22 +52,22 @@ module _ (w h k : ℕ) (palette : List ℕ) (lab : List Float) (indices : List �
     pub finish-asks : (after : List ℕ) → length after ≡ length journal → n ≡ 0 → emptyPixels (listOf e) (length list) ≡ false → Finishes k palette lab locks after handle e (length list)
     finish-asks after q z = carry-finishes w h k palette lab indices locks journal handle e (packedAll list) (length list) long (stands z) (fine z) after q
 
-    module _ (limited : Bool) (permitted : List ℕ) (l : List ℤ) (j : List ℕ) (p : l ≡ paintUpto kind w list indices m) (q : j ≡ putUpto kind (handle .offset) w indices list journal m) where
+    module _ (curve : Curve) (limited : Bool) (permitted : List ℕ) (l : List ℤ) (j : List ℕ) (p : l ≡ paintUpto kind w list indices m) (q : j ≡ putUpto kind (handle .offset) w indices list journal m) where
       abbrev left : State Document
       left = stateOf (documentOf w h k palette lab l locks) j handle
 
       abbrev g : Given
       g = givenOf limited permitted e (packedAll list)
 
-      pub carried-out : pushedOr n (emptyPixels (listOf e) (length list)) left (finished left e (length list)) ≡ pushedOr n (isStill g) st (pushed editing st g)
+      pub carried-out : pushedOr n (emptyPixels (listOf e) (length list)) left (finished (labBy curve) left e (length list)) ≡ pushedOr n (isStill g) st (pushed (editingBy curve) st g)
       unfolding pushedOr refusedOr
       carried-out = by n refl
         where
-          by : (a : ℕ) → n ≡ a → pushedOr n (emptyPixels (listOf e) (length list)) left (finished left e (length list)) ≡ pushedOr n (isStill g) st (pushed editing st g)
+          by : (a : ℕ) → n ≡ a → pushedOr n (emptyPixels (listOf e) (length list)) left (finished (labBy curve) left e (length list)) ≡ pushedOr n (isStill g) st (pushed (editingBy curve) st g)
           by zero z =
               let all : m ≡ length list = many ∙ ap (λ (a : ℕ). walkedOf a (length list)) z in
               rw z
-              (carried w h k palette lab indices locks journal handle e (packedAll list) (length list) long limited permitted l j
+              (carried w h k palette lab indices locks journal handle e (packedAll list) (length list) long curve limited permitted l j
               (rw (same, all) at p ∙ painted-all (listOf e) w list indices)
               (rw (same, all) at q ∙ put-all (handle .offset) w indices list journal (listOf e) (puts z))
               (fine z))

@@ -19,9 +19,10 @@ ghost use lib.ListN.{length};
 ghost use Rattle.struct_edit.specs.Walk.{packedAll, flatAll};
 ghost use Rattle.history_ledger.specs.Journal.{pushOf, pushed};
 ghost use Rattle.history_model.specs.Document.{documentOf};
-ghost use Rattle.history_model.specs.Editing.{editing, givenOf};
+ghost use Rattle.history_model.specs.Editing.{editingBy, givenOf};
 ghost use Rattle.history_model.specs.Calls.{stateOf, leaves, Standing, Acceptable};
 ghost use Rattle.history_push_checks.specs.Steps.{isStill, pushedOr};
+ghost use Rattle.color_curve.specs.Curve.{curveOf, CurveFits};
 ghost use Rattle.edit.specs.List.{listOf, emptyPixels};
 ghost use Rattle.struct_push.specs.Lent.{leavesLent};
 
@@ -35,6 +36,8 @@ fn carry_out(
     lab: &mut [f64],
     indices: &mut [i16],
     locks: &mut [bool],
+    loaded: bool,
+    curve: &[f64],
     edit: Edit,
     list: &[Change],
     journal: &mut [u8],
@@ -45,13 +48,14 @@ fn carry_out(
         × (no ≡ 0 → emptyPixels (listOf edit) (length (flatAll (now list))) ≡ false
         → Acceptable (stateOf (documentOf w h k (now palette) (now lab) (now indices) (now locks)) (now journal) handle) edit
         (flatAll (now list)))
+        × (no ≡ 0 → CurveFits (curveOf loaded (now curve)))
         ⌝ }
     ensures { λ r. ⌜
         ((limited : Bool) (permitted : List ℕ)
         → leaves r w h (now (palette .exit)) (now (lab .exit)) (now (indices .exit)) (now (locks .exit)) (now (journal .exit))
         ≡ pushedOr no (isStill (givenOf limited permitted edit (packedAll (now (list .entry)))))
         (stateOf (documentOf w h k (now (palette .entry)) (now (lab .entry)) (now (indices .entry)) (now (locks .entry)))
-        (now (journal .entry)) handle) (pushed editing
+        (now (journal .entry)) handle) (pushed (editingBy (curveOf loaded (now (curve .entry))))
         (stateOf (documentOf w h k (now (palette .entry)) (now (lab .entry)) (now (indices .entry)) (now (locks .entry)))
         (now (journal .entry)) handle) (givenOf limited permitted edit (packedAll (now (list .entry))))))
         ⌝ }
@@ -69,6 +73,8 @@ fn carry_out(
         lab,
         indices,
         locks,
+        loaded,
+        curve,
         edit,
         n,
         journal,
@@ -88,6 +94,8 @@ pub fn push(
     locks: &mut [bool],
     limited: bool,
     permitted: &[u8],
+    loaded: bool,
+    curve: &[f64],
     edit: Edit,
     list: &[Change],
     journal: &mut [u8],
@@ -100,7 +108,7 @@ pub fn push(
         (now (locks .entry)) in
         (leavesLent r w h (now (k .exit)) (now (palette .exit)) (now (lab .exit)) (now (indices .exit))
         (now (locks .exit)) (now (journal .exit)) (now (handle .exit))
-        ≡ pushOf editing (length (now (scratch .entry))) (stateOf document (now (journal .entry)) (now (handle .entry)))
+        ≡ pushOf (editingBy (curveOf loaded (now (curve .entry)))) (length (now (scratch .entry))) (stateOf document (now (journal .entry)) (now (handle .entry)))
         (givenOf limited (now (permitted .entry)) edit (packedAll (now (list .entry)))))
         × (length (now (scratch .exit)) ≡ length (now (scratch .entry)))
         ) ⌝ }
@@ -117,6 +125,8 @@ pub fn push(
         locks,
         limited,
         permitted,
+        loaded,
+        curve,
         edit,
         list,
         journal,
@@ -132,6 +142,8 @@ pub fn push(
         lab,
         indices,
         locks,
+        loaded,
+        curve,
         edit,
         list,
         journal,

@@ -11,6 +11,7 @@ use Rattle.base.specs.Limits.{maxChanges, maxJournal}
 use Rattle.base.specs.Checks.{orElse, firstOf}
 use Rattle.base.specs.declared.Edit.{Edit}
 use Rattle.base.specs.declared.Handle.{Handle}
+use Rattle.color_curve.specs.Curve.{Curve}
 use Rattle.edit.specs.declared.ListKind.{ListKind}
 use Rattle.edit.specs.Change as flat
 use Rattle.edit.specs.List.{listOf}
@@ -19,7 +20,7 @@ use Rattle.edit_pixels.specs.Inside.{bare}
 use Rattle.edit_checks.specs.Marks.{MarksFor, Checkable}
 use Rattle.history_ledger.specs.Journal.{State}
 use Rattle.history_model.specs.Document.{Document, documentOf}
-use Rattle.history_model.specs.Editing.{Given, givenOf, editing}
+use Rattle.history_model.specs.Editing.{Given, givenOf}
 use Rattle.history_model.specs.Calls.{stateOf}
 use Rattle.history_push_checks.specs.Steps.{Begun, PushNumbered, fullNumber}
 use Rattle.history_push_checks.proofs.PushSteps.{begun-checkable, settle-checkable, settle-short, settle-marks, push-number}
@@ -28,7 +29,7 @@ use Rattle.struct_change.specs.Struct.{packedOf}
 use Rattle.struct_edit.specs.Walk.{packedAll, flatAll, checkUpto, markUpto}
 use Rattle.struct_edit.proofs.Whole.{list-answer, list-marks}
 
-module _ (room w h k : ℕ) (palette : List ℕ) (lab : List Float) (indices : List ℤ) (locks : List Bool) (journal : List ℕ) (handle : Handle) (limited : Bool) (permitted : List ℕ) (e : Edit) (list : List Change) where
+module _ (curve : Curve) (room w h k : ℕ) (palette : List ℕ) (lab : List Float) (indices : List ℤ) (locks : List Bool) (journal : List ℕ) (handle : Handle) (limited : Bool) (permitted : List ℕ) (e : Edit) (list : List Change) where
   abbrev state : State Document
   state = stateOf (documentOf w h k palette lab indices locks) journal handle
 
@@ -38,9 +39,9 @@ module _ (room w h k : ℕ) (palette : List ℕ) (lab : List Float) (indices : L
   abbrev long : length (packedAll list) ≡ length list
   long = length-map list packedOf
 
-  module _ (kind : ListKind) (same : kind ≡ listOf e) (n : ℕ) (marks : List ℕ) (b : Begun room state given n marks) where
+  module _ (kind : ListKind) (same : kind ≡ listOf e) (n : ℕ) (marks : List ℕ) (b : Begun curve room state given n marks) where
     checkable : (m : ℕ) → m ≡ room → n ≡ 0 → Checkable (listOf e) w h (length indices) m
-    checkable = begun-checkable room w h k palette lab indices locks journal handle limited permitted e (packedAll list) (length list) long n marks b
+    checkable = begun-checkable curve room w h k palette lab indices locks journal handle limited permitted e (packedAll list) (length list) long n marks b
 
     pub list-asks : (m : ℕ) → m ≡ room → (length list ≤ length list) × (n ≡ 0 → Checkable kind w h (length indices) m)
     list-asks m q = (omega arith, λ z. rw same (checkable m q z))
@@ -52,18 +53,18 @@ module _ (room w h k : ℕ) (palette : List ℕ) (lab : List Float) (indices : L
 
       pub settle-asks : (m : ℕ) → m ≡ room → (c ≡ 0 → Checkable (listOf e) w h (length indices) m) × (c ≡ 0 → (length list ≤ maxChanges) × (handle .offset ≤ maxJournal))
       settle-asks m q = (
-        settle-checkable room w h k palette lab indices locks journal handle limited permitted e (packedAll list) (length list) long n marks b c answered m q,
-        settle-short room w h k palette lab indices locks journal handle limited permitted e (packedAll list) (length list) long n marks b c answered,
+        settle-checkable curve room w h k palette lab indices locks journal handle limited permitted e (packedAll list) (length list) long n marks b c answered m q,
+        settle-short curve room w h k palette lab indices locks journal handle limited permitted e (packedAll list) (length list) long n marks b c answered,
       )
 
       marked : length marks ≡ room → c ≡ 0 → MarksFor (listOf e) w (w * h) (flatAll list) after
       marked q z =
-          settle-marks room w h k palette lab indices locks journal handle limited permitted e (packedAll list) (length list) long n marks b c answered after z
+          settle-marks curve room w h k palette lab indices locks journal handle limited permitted e (packedAll list) (length list) long n marks b c answered after z
           (list-marks n false w h k indices (listOf e) kind same list marks c after said (λ y. checkable (length marks) q y .markable) z)
 
       pub numbered : length marks ≡ room → (l : ℕ)
           → ((cs : List flat.Change) → (c ≡ 0 → MarksFor (listOf e) w (w * h) cs after)
           → l ≡ orElse (orElse c (firstOf (leftChecks (bare w h 0 indices) (listOf e) cs))) (fullNumber (handle .offset) e (length list) (length journal)))
-          → PushNumbered room state given l
+          → PushNumbered curve room state given l
       numbered q l settled =
-          push-number room w h k palette lab indices locks journal handle limited permitted e (packedAll list) (length list) long n marks b c answered l (settled (flatAll list) (marked q))
+          push-number curve room w h k palette lab indices locks journal handle limited permitted e (packedAll list) (length list) long n marks b c answered l (settled (flatAll list) (marked q))

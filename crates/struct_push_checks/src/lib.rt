@@ -9,6 +9,7 @@ use history_push_checks::settle;
 use struct_edit::check_list;
 ghost use lib.ListN.{length};
 ghost use Rattle.struct_edit.specs.Walk.{packedAll};
+ghost use Rattle.color_curve.specs.Curve.{curveOf};
 ghost use Rattle.history_model.specs.Document.{documentOf};
 ghost use Rattle.history_model.specs.Editing.{givenOf};
 ghost use Rattle.history_model.specs.Calls.{stateOf};
@@ -25,6 +26,8 @@ pub fn push_no(
     locks: &[bool],
     limited: bool,
     permitted: &[u8],
+    loaded: bool,
+    curve: &[f64],
     edit: Edit,
     list: &[Change],
     journal: &[u8],
@@ -34,7 +37,7 @@ pub fn push_no(
     ensures { λ r. ⌜ (
         let document =
         documentOf w h k (now (palette .entry)) (now (lab .entry)) (now (indices .entry)) (now (locks .entry)) in
-        PushNumbered (length (now (marks .entry))) (stateOf document (now (journal .entry)) handle)
+        PushNumbered (curveOf loaded (now (curve .entry))) (length (now (marks .entry))) (stateOf document (now (journal .entry)) handle)
         (givenOf limited (now (permitted .entry)) edit (packedAll (now (list .entry)))) r
         ) ⌝ }
 {
@@ -52,6 +55,8 @@ pub fn push_no(
         locks,
         limited,
         permitted,
+        loaded,
+        curve,
         edit,
         n,
         journal,

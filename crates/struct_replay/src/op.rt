@@ -14,7 +14,7 @@ ghost use mathlib.Core.Path.{_≡_};
 ghost use Prim.Native.Nat.{ℕ};
 ghost use lib.ListN.{length};
 ghost use Rattle.base.specs.Checks.{firstOf};
-ghost use Rattle.color_lab.specs.Convert.{labOf};
+ghost use Rattle.color_curve.specs.Curve.{curveOf, labBy, CurveFits};
 ghost use Rattle.edit.specs.Checks.{permittedOf};
 ghost use Rattle.edit.specs.List.{listOf};
 ghost use Rattle.edit_locks.specs.Movable.{Redoable};
@@ -36,6 +36,8 @@ fn replay_no(
     locks: &[bool],
     limited: bool,
     permitted: &[u8],
+    loaded: bool,
+    curve: &[f64],
     edit: Edit,
     list: &[Change],
     marks: &mut [u8],
@@ -44,7 +46,7 @@ fn replay_no(
         let document =
         documentOf w h k (now (palette .entry)) (now (lab .entry)) (now (indices .entry)) (now (locks .entry)) in
         r
-        ≡ firstOf (replayChecks (length (now (marks .entry))) document (permittedOf limited (now (permitted .entry))) edit
+        ≡ firstOf (replayChecks (curveOf loaded (now (curve .entry))) (length (now (marks .entry))) document (permittedOf limited (now (permitted .entry))) edit
         (flatAll (now (list .entry))))
         ) ⌝ }
 {
@@ -60,6 +62,8 @@ fn replay_no(
         locks,
         limited,
         permitted,
+        loaded,
+        curve,
         edit,
         n,
         marks,
@@ -77,19 +81,23 @@ fn redo_list(
     lab: &mut [f64],
     indices: &mut [i16],
     locks: &mut [bool],
+    loaded: bool,
+    curve: &[f64],
     edit: Edit,
     list: &[Change],
 ) -> Replayed
     requires { ⌜
         (no ≡ 0 → Paintable (listOf edit) w (length (now indices)) (flatAll (now list)))
-        × (no ≡ 0 → Finishable k (length (now palette)) (length (now lab)) edit × Redoable k (length (now locks)) edit)
+        × (no ≡ 0 → Finishable k (length (now palette)) (length (now lab)) edit × Redoable k (length (now locks)) edit
+        × CurveFits (curveOf loaded (now curve)))
         ⌝ }
     ensures { λ r. ⌜
         ((h : ℕ)
         → replayed (r .answer)
         (documentOf w h (r .k) (now (palette .exit)) (now (lab .exit)) (now (indices .exit)) (now (locks .exit)))
         ≡ doneOr no (documentOf w h k (now (palette .entry)) (now (lab .entry)) (now (indices .entry)) (now (locks .entry)))
-        (documentDone labOf (documentOf w h k (now (palette .entry)) (now (lab .entry)) (now (indices .entry)) (now (locks .entry))) edit
+        (documentDone (labBy (curveOf loaded (now (curve .entry))))
+        (documentOf w h k (now (palette .entry)) (now (lab .entry)) (now (indices .entry)) (now (locks .entry))) edit
         (flatAll (now (list .entry)))))
         ⌝ }
 {
@@ -97,7 +105,7 @@ fn redo_list(
     let kind = list_of(edit);
     let m = walked(no, n);
     paint_list(kind, indices, w, list, m);
-    finish_replay(no, k, palette, lab, indices, locks, edit)
+    finish_replay(no, k, palette, lab, indices, locks, loaded, curve, edit)
 }
 
 // `history::replay`, with the palette count lent and the list as structs. The list is read where it lies; the
@@ -112,6 +120,8 @@ pub fn replay(
     locks: &mut [bool],
     limited: bool,
     permitted: &[u8],
+    loaded: bool,
+    curve: &[f64],
     edit: Edit,
     list: &[Change],
     scratch: &mut [u8],
@@ -122,7 +132,7 @@ pub fn replay(
         (now (locks .entry)) in
         (replayed r
         (documentOf w h (now (k .exit)) (now (palette .exit)) (now (lab .exit)) (now (indices .exit)) (now (locks .exit)))
-        ≡ replayOf (length (now (scratch .entry))) document (permittedOf limited (now (permitted .entry))) edit
+        ≡ replayOf (curveOf loaded (now (curve .entry))) (length (now (scratch .entry))) document (permittedOf limited (now (permitted .entry))) edit
         (flatAll (now (list .entry)))) × (length (now (scratch .exit)) ≡ length (now (scratch .entry)))
         ) ⌝ }
 {
@@ -137,11 +147,25 @@ pub fn replay(
         locks,
         limited,
         permitted,
+        loaded,
+        curve,
         edit,
         list,
         scratch,
     );
-    let s = redo_list(no, w, count, palette, lab, indices, locks, edit, list);
+    let s = redo_list(
+        no,
+        w,
+        count,
+        palette,
+        lab,
+        indices,
+        locks,
+        loaded,
+        curve,
+        edit,
+        list,
+    );
     *k = s.k;
     s.answer
 }

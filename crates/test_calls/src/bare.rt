@@ -4,6 +4,7 @@ use base::Edit;
 use base::Lab;
 use base::Rgb;
 use base::Root;
+use base::Triple;
 use base::Truth;
 use change_stroke::Stroke;
 use selection::Chosen;
@@ -20,8 +21,10 @@ use test_inputs::Hand;
 use test_inputs::Outcome;
 use test_inputs::colour;
 use test_inputs::colours;
+use test_inputs::curve;
 use test_inputs::fill_indices;
 use test_inputs::fill_list;
+use test_inputs::lent_values;
 use test_inputs::mix;
 use test_inputs::mix_doubles;
 use test_inputs::mix_indices;
@@ -47,6 +50,16 @@ fn dist2(a: Hand) -> f64 {
 fn rgb8_to_lab(a: Hand) -> Outcome {
     let c = editor::rgb8_to_lab(colour(a.seeds.colour));
     told(0, mix_doubles(mix_number(0), &[c.l, c.a, c.b]))
+}
+
+fn rgb8_to_lab_by(a: Hand) -> Outcome {
+    let rule = a.choice.rule;
+    let values = curve(a.seeds.curve, rule);
+    let rgb = colour(a.seeds.colour);
+    match editor::rgb8_to_lab_by(a.choice.loaded, lent_values(&values, rule), rgb) {
+        Triple::Value(c) => told(0, mix_doubles(mix_number(0), &[c.l, c.a, c.b])),
+        Triple::Refused(no) => told(no, mix_doubles(mix_number(no), &[1.5, 1.5, 1.5])),
+    }
 }
 
 fn cbrt(a: Hand) -> Outcome {
@@ -281,6 +294,7 @@ pub fn bare_answer(c: usize, a: Hand) -> Outcome {
         60 => of_double(dist2(a)),
         61 => of_number(permitted_no(a)),
         62 => of_flag(any_stray_below(a)),
+        64 => rgb8_to_lab_by(a),
         _ => listed(c, a),
     }
 }

@@ -9,7 +9,9 @@ use test_answers::of_truth;
 use test_inputs::Hand;
 use test_inputs::Outcome;
 use test_inputs::colours;
+use test_inputs::curve;
 use test_inputs::fill_list;
+use test_inputs::lent_values;
 use test_inputs::mix_bytes;
 use test_inputs::mix_doubles;
 use test_inputs::mix_indices;
@@ -93,7 +95,9 @@ fn pushed(
 ) -> Moved {
     let mut list = [0u64; 6];
     let mut scratch = [0u8; 6];
+    let rule = a.choice.rule;
     let permitted = colours(a.seeds.listed);
+    let values = curve(a.seeds.curve, rule);
     let n = fill_edit(a, w, h, m.k, palette, lab, indices, locks, &mut list);
     push(
         w,
@@ -105,6 +109,8 @@ fn pushed(
         locks,
         a.choice.limited,
         &permitted,
+        a.choice.loaded,
+        lent_values(&values, rule),
         edit(a),
         front(&list, n),
         journal,
@@ -114,6 +120,7 @@ fn pushed(
 }
 
 fn redone(
+    a: Hand,
     w: usize,
     h: usize,
     m: Moved,
@@ -124,6 +131,8 @@ fn redone(
     journal: &[u8],
 ) -> Moved {
     let mut scratch = [0u8; 6];
+    let rule = a.choice.rule;
+    let values = curve(a.seeds.curve, rule);
     redo(
         w,
         h,
@@ -132,6 +141,8 @@ fn redone(
         lab,
         indices,
         locks,
+        a.choice.loaded,
+        lent_values(&values, rule),
         journal,
         m.handle,
         &mut scratch,
@@ -162,7 +173,9 @@ fn replayed(
 ) -> Moved {
     let mut list = [0u64; 2];
     let mut scratch = [0u8; 6];
+    let rule = a.choice.rule;
     let permitted = colours(a.seeds.listed);
+    let values = curve(a.seeds.curve, rule);
     fill_list(a.seeds.seed, &mut list);
     let s = replay(
         w,
@@ -174,6 +187,8 @@ fn replayed(
         locks,
         a.choice.limited,
         &permitted,
+        a.choice.loaded,
+        lent_values(&values, rule),
         edit(a),
         &list,
         &mut scratch,
@@ -203,7 +218,7 @@ pub fn change(
     match c {
         45 => pushed(a, w, h, m, palette, lab, indices, locks, journal),
         46 => undo(w, h, m.k, palette, lab, indices, locks, journal, m.handle),
-        47 => redone(w, h, m, palette, lab, indices, locks, journal),
+        47 => redone(a, w, h, m, palette, lab, indices, locks, journal),
         48 => marked(m, journal),
         _ => replayed(a, w, h, m, palette, lab, indices, locks),
     }

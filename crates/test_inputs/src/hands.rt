@@ -28,8 +28,8 @@ pub struct Spot {
     pub area: Area,
 }
 
-// Two indices, two entries and a brush; whether there is a list of colours; an edit's kind, tool, byte and new mark; a
-// radicand.
+// Two indices, two entries and a brush; whether there is a list of colours, and a curve, and its rule that is broken;
+// an edit's kind, tool, byte and new mark; a radicand.
 pub struct Choice {
     pub index: i16,
     pub other: i16,
@@ -37,6 +37,8 @@ pub struct Choice {
     pub into: usize,
     pub size: usize,
     pub limited: bool,
+    pub loaded: bool,
+    pub rule: usize,
     pub even: bool,
     pub kind: u8,
     pub tool: u8,
@@ -65,6 +67,7 @@ pub struct Seeds {
     pub first: u64,
     pub seed: u64,
     pub event: u64,
+    pub curve: u64,
     pub colour: u64,
     pub listed: u64,
 }
@@ -150,6 +153,8 @@ fn deal_choice(d: &[u64; 32]) -> Choice {
         into: pick(d[21], 4),
         size: pick(d[24], 5),
         limited: once_in(d[28], 3),
+        loaded: once_in(d[16], 3),
+        rule: pick(d[18], 12),
         even: once_in(d[26], 2),
         kind: kind(d[23]),
         tool: byte(d[24]),
@@ -181,6 +186,7 @@ fn deal_seeds(d: &[u64; 32]) -> Seeds {
         first: d[12],
         seed: d[25],
         event: d[24],
+        curve: d[17],
         colour: colour_seed(d),
         listed: listed_seed(d),
     }

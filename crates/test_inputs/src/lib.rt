@@ -1,10 +1,13 @@
 // Inputs dealt from a seed, and fingerprints of answers, for the program `test_sample`; compare/sample.rs has the same
 // in Rust. Of these functions it is proved that they are safe and end, and what their callers need of a length or a
 // bound.
+mod curves;
 mod dealt;
 mod hands;
 mod prints;
 
+pub use curves::curve;
+pub use curves::lent_values;
 pub use dealt::colour;
 pub use dealt::colours;
 pub use dealt::deck;

@@ -45,7 +45,7 @@ fn print_line(c: usize, t: Outcome) {
 // A call that is no history's, by its number, on what is dealt.
 fn answer(c: usize, d: &[u64; 32]) -> Outcome {
     match c {
-        26..=43 | 56 | 59..=62 => bare_answer(c, deal(d)),
+        26..=43 | 56 | 59..=62 | 64 => bare_answer(c, deal(d)),
         _ => over_sheet(c, d),
     }
 }
@@ -68,16 +68,16 @@ fn print_call(c: usize, seed: u64) {
 // The calls from 44 to 55 are a history's.
 fn number(i: usize) -> usize {
     match i {
-        44..=50 => i + 12,
+        44..=52 => i + 12,
         _ => i,
     }
 }
 
-// The 51 calls that are no history's.
+// The 53 calls that are no history's.
 fn print_calls() {
     let mut c: usize = 0;
     let mut seed: u64 = 0;
-    while c < 51 {
+    while c < 53 {
         print_call(number(c), seed);
         seed = std::num::wrapping_add_u64(seed, 1000);
         c += 1;

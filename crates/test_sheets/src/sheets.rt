@@ -1,7 +1,8 @@
 // The calls that look at a sheet, and the sheet that a call is given.
+use crate::curves::load_curve;
+use crate::curves::snap_rgba;
 use crate::drawn::list_answer;
 use base::Answer;
-use base::Copied;
 use base::MadeEdit;
 use test_answers::of_choices;
 use test_answers::of_copied;
@@ -114,31 +115,7 @@ fn nearest_index(a: Hand, k: usize, lab: &[f64]) -> Outcome {
     of_found(editor::nearest_index(target, lab, k))
 }
 
-// `copy`, and `snap_rgba` of six pixels.
-fn clip(
-    c: usize,
-    a: Hand,
-    w: usize,
-    h: usize,
-    k: usize,
-    palette: &[u8],
-    lab: &[f64],
-    indices: &[i16],
-    out: &mut [i16],
-) -> Copied {
-    let s = a.sides;
-    let p = a.spot;
-    let area = p.area;
-    let mut rgba = [0u8; 25];
-    fill_bytes(a.seeds.seed, &mut rgba);
-    match c {
-        17 => editor::copy(w, h, k, palette, lab, indices, area, out),
-        _ => editor::snap_rgba(w, h, k, palette, lab, indices, &rgba, s.w, s.h, out),
-    }
-}
-
-fn clipped(
-    c: usize,
+fn copy(
     a: Hand,
     w: usize,
     h: usize,
@@ -147,8 +124,10 @@ fn clipped(
     lab: &[f64],
     indices: &[i16],
 ) -> Outcome {
+    let p = a.spot;
+    let area = p.area;
     let mut out = [0x5a5ai16; 5];
-    let t = of_copied(clip(c, a, w, h, k, palette, lab, indices, &mut out));
+    let t = of_copied(editor::copy(w, h, k, palette, lab, indices, area, &mut out));
     told(t.number, mix_indices(t.print, &out))
 }
 
@@ -280,8 +259,9 @@ fn sheet_answer(
         5 => diff_mask(a, w, h, k, palette, lab, indices),
         6 => nearest_index(a, k, lab),
         7 => of_got(editor::eyedropper(w, h, k, palette, lab, indices, x, y)),
-        17 | 19 => clipped(c, a, w, h, k, palette, lab, indices),
+        17 => copy(a, w, h, k, palette, lab, indices),
         18 => clip_rgba(a, w, h, k, palette, lab, indices),
+        19 => snap_rgba(a, w, h, k, palette, lab, indices),
         20 => fixed_choices(a, w, h, k, palette, lab, indices),
         21 | 22 => of_made(coloured(c, a, w, h, k, palette, lab, indices, locks)),
         23 => of_found(editor::nearest_other(w, h, k, palette, lab, indices, from)),
@@ -331,5 +311,8 @@ pub fn over_sheet(c: usize, d: &[u64; 32]) -> Outcome {
     fill_locks(d[9], &mut locks);
     spoil_index(wrong, &mut indices);
     spoil_lab(wrong, &mut lab);
+    if c == 63 {
+        return load_curve(a, w, h, told_k, &palette, &mut lab, &indices);
+    }
     sheet_answer(c, a, w, h, told_k, &palette, &lab, &indices, &mut locks)
 }

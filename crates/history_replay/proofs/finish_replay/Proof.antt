@@ -8,10 +8,10 @@ returns : tie.Need-returns
 returns c w h = refused-done _ _ _ (c .if1 .taken)
 
 redo-locks-requires : tie.Need-redo-locks-requires
-redo-locks-requires c κs = c .before .before .before .before .before .pre (c .before .if1 .left) .1
+redo-locks-requires c κs = c .before .before .before .before .before .before .pre (c .before .if1 .left) .1
 
 finish-edit-requires : tie.Need-finish-edit-requires
-finish-edit-requires c κs = c .before .before .before .before .before .before .before .before .before .before .before .pre (c .before .before .before .before .before .before .before .if1 .left) .0
+finish-edit-requires c κs = let asked = c .before .before .before .before .before .before .before .before .before .before .before .before .pre (c .before .before .before .before .before .before .before .if1 .left) in (asked .0, asked .2)
 
 same-length : tie.Need-same-length
 same-length c = search needs

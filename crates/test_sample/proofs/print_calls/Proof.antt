@@ -5,10 +5,10 @@ use Rattle.test_sample.proofs.print_calls.Statement.{statement}
 use Rattle.test_sample.proofs.print_calls.Tie as tie
 
 abbrev Inv-loop : tie.InvT-loop
-Inv-loop c₀ seed₀ c seed = c ≤ 51
+Inv-loop c₀ seed₀ c seed = c ≤ 53
 
 abbrev μ-loop : tie.MeasureT-loop
-μ-loop c₀ seed₀ c seed = 51 - c
+μ-loop c₀ seed₀ c seed = 53 - c
 
 loop-holds : tie.Need-loop-holds Inv-loop μ-loop
 loop-holds c = search needs

@@ -15,37 +15,37 @@ enum-known-edit c = search needs
 
 store-entry-requires : tie.Need-store-entry-requires
 unfolding Finishable
-store-entry-requires c κs = rw (c .before .before .before .edit .given .1) at (c .before .before .before .before .before .before .before .pre)
+store-entry-requires c κs = (rw (c .before .before .before .edit .given .1) at (c .before .before .before .before .before .before .before .before .pre .0), c .before .before .before .before .before .before .before .before .pre .1)
 
 enum-known-edit-2 : tie.Need-enum-known-edit-2
 enum-known-edit-2 c = search needs
 
 store-entry-requires-2 : tie.Need-store-entry-requires-2
 unfolding Finishable
-store-entry-requires-2 c κs = rw (c .before .before .before .edit2 .given .1) at (c .before .before .before .before .before .before .before .pre)
+store-entry-requires-2 c κs = (rw (c .before .before .before .edit2 .given .1) at (c .before .before .before .before .before .before .before .before .pre .0), c .before .before .before .before .before .before .before .before .pre .1)
 
 add-result : tie.Need-add-result
 unfolding Finishable
-add-result c = let f = rw (c .before .before .before .before .before .before .before .before .edit2 .given .1) at (c .before .before .before .before .before .before .before .before .before .before .before .before .pre) in record { fits = omega (arith, f .0) }
+add-result c = let f = rw (c .before .before .before .before .before .before .before .before .edit2 .given .1) at (c .before .before .before .before .before .before .before .before .before .before .before .before .before .pre .0) in record { fits = omega (arith, f .0) }
 
 enum-known-edit-3 : tie.Need-enum-known-edit-3
 enum-known-edit-3 c = search needs
 
 lower-above-requires : tie.Need-lower-above-requires
 unfolding Finishable
-lower-above-requires c κs = let f = rw (c .before .before .edit3 .given .1) at (c .before .before .before .before .before .before .pre) in omega (arith, f .0, f .1)
+lower-above-requires c κs = let f = rw (c .before .before .edit3 .given .1) at (c .before .before .before .before .before .before .before .pre .0) in omega (arith, f .0, f .1)
 
 close-palette-gap-requires : tie.Need-close-palette-gap-requires
 unfolding Finishable
-close-palette-gap-requires c κs = let f = rw (c .before .before .before .before .before .edit3 .given .1) at (c .before .before .before .before .before .before .before .before .before .pre) in (f .0, f .2)
+close-palette-gap-requires c κs = let f = rw (c .before .before .before .before .before .edit3 .given .1) at (c .before .before .before .before .before .before .before .before .before .before .pre .0) in (f .0, f .2)
 
 close-lab-gap-requires : tie.Need-close-lab-gap-requires
 unfolding Finishable
-close-lab-gap-requires c κs = let f = rw (c .before .before .before .before .before .before .before .before .before .edit3 .given .1) at (c .before .before .before .before .before .before .before .before .before .before .before .before .before .pre) in (f .0, f .3)
+close-lab-gap-requires c κs = let f = rw (c .before .before .before .before .before .before .before .before .before .edit3 .given .1) at (c .before .before .before .before .before .before .before .before .before .before .before .before .before .before .pre .0) in (f .0, f .3)
 
 sub-result : tie.Need-sub-result
 unfolding Finishable
-sub-result c = let f = rw (c .before .before .before .before .before .before .before .before .before .before .before .before .edit3 .given .1) at (c .before .before .before .before .before .before .before .before .before .before .before .before .before .before .before .before .pre) in omega (arith, f .0)
+sub-result c = let f = rw (c .before .before .before .before .before .before .before .before .before .before .before .before .edit3 .given .1) at (c .before .before .before .before .before .before .before .before .before .before .before .before .before .before .before .before .before .pre .0) in omega (arith, f .0)
 
 enum-told-2 : tie.Need-enum-told-2
 enum-told-2 c = search needs

@@ -26,15 +26,15 @@ is-empty-requires c κs = search needs
 still-requires : tie.Need-still-requires
 still-requires c κs = search needs
 
-empty : (c : tie.After-is-empty) → c .is-empty .result ≡ emptyPixels (listOf (c .before .before .before .before .before .before .before .args .edit)) (c .before .before .before .before .before .before .before .args .n)
+empty : (c : tie.After-is-empty) → c .is-empty .result ≡ emptyPixels (listOf (c .before .before .before .before .before .before .before .before .args .edit)) (c .before .before .before .before .before .before .before .before .args .n)
 empty c = c .is-empty .ensures ∙ rw (c .before .list-of .ensures)
 
 returns-2 : tie.Need-returns-2
 returns-2 c w h = leaves-still _ _ _ _ _ _ _ _ _ _ (c .still .ensures) ∙ still-push _ _ _ _ (c .before .before .before .before .if1 .left) (sym (empty (c .before .before)) ∙ c .before .if2 .taken)
 
 -- past both tests what is asked is given
-asks : (c : tie.Else2) → let a = c .before .before .before .before .before .before .before .before .args in Finishes (a .k) (a .palette .now) (a .lab .now) (a .locks .now) (a .journal .now) (a .handle) (a .edit) (a .n)
-asks c = c .before .before .before .before .before .before .before .before .pre (c .before .before .before .if1 .left) (sym (empty (c .before)) ∙ c .if2 .left)
+asks : (c : tie.Else2) → let a = c .before .before .before .before .before .before .before .before .before .args in Finishes (a .k) (a .palette .now) (a .lab .now) (a .locks .now) (a .journal .now) (a .handle) (a .edit) (a .n)
+asks c = c .before .before .before .before .before .before .before .before .before .pre .0 (c .before .before .before .if1 .left) (sym (empty (c .before)) ∙ c .if2 .left)
 
 fill-edit-requires : tie.Need-fill-edit-requires
 fill-edit-requires c κs = let f = asks (c .before .before .before) in (f .entry-bytes, f .entry-numbers, f .entry-mark)
@@ -55,7 +55,7 @@ redo-locks-requires : tie.Need-redo-locks-requires
 redo-locks-requires c κs = asks (c .before .before .before .before .before .before .before .before .before) .marks
 
 finish-edit-requires : tie.Need-finish-edit-requires
-finish-edit-requires c κs = asks (c .before .before .before .before .before .before .before .before .before .before .before .before .before .before .before) .storage
+finish-edit-requires c κs = (asks (c .before .before .before .before .before .before .before .before .before .before .before .before .before .before .before) .storage, c .before .before .before .before .before .before .before .before .before .before .before .before .before .before .before .before .before .before .before .before .before .before .before .before .pre .1 (c .before .before .before .before .before .before .before .before .before .before .before .before .before .before .before .before .before .before .if1 .left))
 
 record-length-requires : tie.Need-record-length-requires
 record-length-requires c κs = asks (c .before .before .before .before .before .before .before .before .before .before .before .before .before .before .before .before .before .before .before .before .before) .short
@@ -81,7 +81,7 @@ same-length-5 c = search needs
 returns-3 : tie.Need-returns-3
 returns-3 c w h =
     done-push _ _ _ _ _ (c .before .before .before .before .before .before .before .before .before .before .before .before .before .before .before .before .before .before .before .before .before .before .before .before .before .before .if1 .left) (sym (empty (c .before .before .before .before .before .before .before .before .before .before .before .before .before .before .before .before .before .before .before .before .before .before .before .before)) ∙ c .before .before .before .before .before .before .before .before .before .before .before .before .before .before .before .before .before .before .before .before .before .before .before .if2 .left)
-    (finished-is _ _ _ _ _ _ _ _ _ (c .before .before .before .before .before .before .before .finish-edit .ensures w h) (c .before .before .before .before .before .before .before .before .before .before .before .before .before .redo-locks .ensures) (c .before .before .before .before .before .before .before .before .before .before .before .before .before .before .before .before .before .before .before .fill-edit .ensures w h _ _) (c .before .before .before .before .before .before .before .before .before .before .before .before .before .before .before .before .before .write-around .ensures) (c .before .record-length .ensures) (c .after-push .ensures))
+    (finished-is _ _ _ _ _ _ _ _ _ _ (c .before .before .before .before .before .before .before .finish-edit .ensures w h) (c .before .before .before .before .before .before .before .before .before .before .before .before .before .redo-locks .ensures) (c .before .before .before .before .before .before .before .before .before .before .before .before .before .before .before .before .before .before .before .fill-edit .ensures w h _ _) (c .before .before .before .before .before .before .before .before .before .before .before .before .before .before .before .before .before .write-around .ensures) (c .before .record-length .ensures) (c .after-push .ensures))
 
 pub finish-spec : {M : Type 1} → statement M
 finish-spec =

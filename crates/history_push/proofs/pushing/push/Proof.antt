@@ -1,12 +1,14 @@
 -- `push`: the checks; then the edit is recorded and done. Assumes nothing.
 use mathlib.Core.Path.{_≡_, sym, _∙_}
 use lib.ListN.{length}
+use Rattle.color_curve.specs.Curve.{Curve, curveOf}
 use Rattle.history_ledger.specs.Journal.{State}
 use Rattle.history_model.specs.Document.{Document, documentOf}
 use Rattle.history_model.specs.Editing.{Given, givenOf}
 use Rattle.history_model.specs.Calls.{stateOf}
 use Rattle.history_model.proofs.Answers.{leaves-refused}
 use Rattle.history_push_checks.specs.Steps.{pushNumber}
+use Rattle.history_push_checks.proofs.PushSteps.{number-fits}
 use Rattle.history_push.proofs.Pushed.{refused-push, push-is}
 use borrow.Author.Needs.{needs}
 use Rattle.history_push.proofs.pushing.push.Statement.{statement}
@@ -39,20 +41,23 @@ same-length-6 c = search needs
 returns : tie.Need-returns
 returns c =
     let no = c .before .before .before .before .push-no .ensures in
-    (leaves-refused _ _ _ _ _ _ _ _ _ _ _ (c .refused .ensures) ∙ refused-push _ _ _ _ (c .before .if1 .taken) ∙ push-is _ _ _ _ (no .value), search needs)
+    (leaves-refused _ _ _ _ _ _ _ _ _ _ _ (c .refused .ensures) ∙ refused-push _ _ _ _ (c .before .if1 .taken) ∙ push-is _ _ _ _ _ (no .value), search needs)
 
 -- what the call is handed, and that past the test its number is 0
 abbrev state : tie.Start → State Document
 state c = let a = c .args in stateOf (documentOf (a .w) (a .h) (a .k) (a .palette .now) (a .lab .now) (a .indices .now) (a .locks .now)) (a .journal .now) (a .handle)
 
+abbrev curve : tie.Start → Curve
+curve c = let a = c .args in curveOf (a .loaded) (a .curve .now)
+
 abbrev given : tie.Start → Given
 given c = let a = c .args in givenOf (a .limited) (a .permitted .now) (a .edit) (a .list .now)
 
-number : (c : tie.Else1) → 0 ≡ pushNumber (length (c .before .before .before .before .before .before .before .before .before .before .before .before .before .before .before .before .before .args .scratch .now)) (state (c .before .before .before .before .before .before .before .before .before .before .before .before .before .before .before .before .before)) (given (c .before .before .before .before .before .before .before .before .before .before .before .before .before .before .before .before .before))
+number : (c : tie.Else1) → 0 ≡ pushNumber (curve (c .before .before .before .before .before .before .before .before .before .before .before .before .before .before .before .before .before .before)) (length (c .before .before .before .before .before .before .before .before .before .before .before .before .before .before .before .before .before .before .args .scratch .now)) (state (c .before .before .before .before .before .before .before .before .before .before .before .before .before .before .before .before .before .before)) (given (c .before .before .before .before .before .before .before .before .before .before .before .before .before .before .before .before .before .before))
 number c = sym (c .if1 .left) ∙ c .before .before .before .push-no .ensures .value
 
 carry-out-requires : tie.Need-carry-out-requires
-carry-out-requires c κs = let no = c .before .before .before .before .before .before .before .before .push-no .ensures in let z = c .before .before .before .before .before .if1 .left in (no .stands z, no .fine z)
+carry-out-requires c κs = let no = c .before .before .before .before .before .before .before .before .push-no .ensures in let z = c .before .before .before .before .before .if1 .left in (no .stands z, (no .fine z, number-fits _ _ _ _ _ (no .value) z))
 
 same-length-7 : tie.Need-same-length-7
 same-length-7 c = search needs
@@ -74,8 +79,8 @@ same-length-12 c = search needs
 
 returns-2 : tie.Need-returns-2
 returns-2 c =
-    let a = c .before .before .before .before .before .before .before .before .before .before .before .before .before .before .before .before .before .before .before .before .before .before .before .before .before .before .before .before .before .before .before .before .args in
-    (c .before .before .before .before .before .before .before .before .before .carry-out .ensures (a .limited) (a .permitted .now) ∙ push-is (length (a .scratch .now)) (state (c .before .before .before .before .before .before .before .before .before .before .before .before .before .before .before .before .before .before .before .before .before .before .before .before .before .before .before .before .before .before .before .before)) (given (c .before .before .before .before .before .before .before .before .before .before .before .before .before .before .before .before .before .before .before .before .before .before .before .before .before .before .before .before .before .before .before .before)) 0 (number (c .before .before .before .before .before .before .before .before .before .before .before .before .before .before .before)), search needs)
+    let a = c .before .before .before .before .before .before .before .before .before .before .before .before .before .before .before .before .before .before .before .before .before .before .before .before .before .before .before .before .before .before .before .before .before .args in
+    (c .before .before .before .before .before .before .before .before .before .carry-out .ensures (a .limited) (a .permitted .now) ∙ push-is (curveOf (a .loaded) (a .curve .now)) (length (a .scratch .now)) (state (c .before .before .before .before .before .before .before .before .before .before .before .before .before .before .before .before .before .before .before .before .before .before .before .before .before .before .before .before .before .before .before .before .before)) (given (c .before .before .before .before .before .before .before .before .before .before .before .before .before .before .before .before .before .before .before .before .before .before .before .before .before .before .before .before .before .before .before .before .before)) 0 (number (c .before .before .before .before .before .before .before .before .before .before .before .before .before .before .before)), search needs)
 
 pub push-spec : {M : Type 1} → statement M
 push-spec =

@@ -11,7 +11,7 @@ enum-known-found : tie.Need-enum-known-found
 enum-known-found c = search needs
 
 redo-at-requires : tie.Need-redo-at-requires
-redo-at-requires c κs = (c .before .before .before .before .before .before .before .before .before .before .before .before .before .pre .0, (c .before .before .before .before .before .before .before .before .before .before .before .before .before .pre .1 .0, sym (c .before .before .before .before .before .before .before .before .before .before .before .before .before .pre .1 .1) ∙ c .before .before .before .before .before .before .found .given .1))
+redo-at-requires c κs = (c .before .before .before .before .before .before .before .before .before .before .before .before .before .before .pre .0, (c .before .before .before .before .before .before .before .before .before .before .before .before .before .before .pre .1 .0, sym (c .before .before .before .before .before .before .before .before .before .before .before .before .before .before .pre .1 .1) ∙ c .before .before .before .before .before .before .found .given .1))
 
 enum-told : tie.Need-enum-told
 enum-told c = search needs
@@ -38,7 +38,7 @@ returns : tie.Need-returns
 returns c = c .before .before .before .before .before .before .before .before .before .redo-at .ensures
 
 returns-2 : tie.Need-returns-2
-returns-2 c = leaves-refused _ _ _ _ _ _ _ _ _ _ _ (c .refused .ensures) ∙ step-none (forth (c .before .before .before .before .before .before .before .before .pre .0)) (sym (c .before .before .before .before .before .before .before .before .pre .1 .1) ∙ c .before .enum-told .given .1)
+returns-2 c = leaves-refused _ _ _ _ _ _ _ _ _ _ _ (c .refused .ensures) ∙ step-none (forth _ (c .before .before .before .before .before .before .before .before .before .pre .0)) (sym (c .before .before .before .before .before .before .before .before .before .pre .1 .1) ∙ c .before .enum-told .given .1)
 
 pub redo-found-spec : {M : Type 1} → statement M
 redo-found-spec =

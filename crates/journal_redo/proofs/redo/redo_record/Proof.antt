@@ -9,7 +9,7 @@ use Rattle.journal_redo.proofs.redo.redo_record.Statement.{statement}
 use Rattle.journal_redo.proofs.redo.redo_record.Tie as tie
 
 edit-at-requires : tie.Need-edit-at-requires
-edit-at-requires c κs = lies-bare _ _ (c .before .before .before .before .pre .0)
+edit-at-requires c κs = lies-bare _ _ (c .before .before .before .before .before .pre .0)
 
 list-of-requires : tie.Need-list-of-requires
 list-of-requires c κs = search needs
@@ -18,20 +18,20 @@ list-offset-requires : tie.Need-list-offset-requires
 list-offset-requires c κs = search needs
 
 -- the list stands in the journal
-room : (c : tie.After-list-offset) → let a = c .before .before .before .before .before .before .before .args in a .start + c .list-offset .result + 8 * a .count ≤ length (a .journal .now)
-room c = read-room (c .before .before .before .before .before .before .before .pre .0) (c .before .before .edit-at .ensures) (c .before .list-of .ensures) (c .list-offset .ensures)
+room : (c : tie.After-list-offset) → let a = c .before .before .before .before .before .before .before .before .args in a .start + c .list-offset .result + 8 * a .count ≤ length (a .journal .now)
+room c = read-room (c .before .before .before .before .before .before .before .before .pre .0) (c .before .before .edit-at .ensures) (c .before .list-of .ensures) (c .list-offset .ensures)
 
 add-at : tie.Need-add-at
 add-at c = omega (arith, room c)
 
 paint-list-in-requires : tie.Need-paint-list-in-requires
-paint-list-in-requires c κs = (room (c .before), list-paints (c .before .before .before .before .before .before .before .before .pre .0) (c .before .before .before .edit-at .ensures) (c .before .before .list-of .ensures) (c .before .list-offset .ensures) (c .before .before .before .before .before .before .before .before .pre .1 .0))
+paint-list-in-requires c κs = (room (c .before), list-paints (c .before .before .before .before .before .before .before .before .before .pre .0) (c .before .before .before .edit-at .ensures) (c .before .before .list-of .ensures) (c .before .list-offset .ensures) (c .before .before .before .before .before .before .before .before .before .pre .1 .0))
 
 redo-locks-requires : tie.Need-redo-locks-requires
-redo-locks-requires c κs = marks-move (c .before .before .before .before .before .before .before .before .before .before .before .pre .0) (c .before .before .before .before .before .before .edit-at .ensures) (c .before .before .before .before .before .list-of .ensures) (c .before .before .before .before .list-offset .ensures) (c .before .before .before .before .before .before .before .before .before .before .before .pre .1 .0) (c .before .before .before .before .before .before .before .before .before .before .before .pre .1 .1)
+redo-locks-requires c κs = marks-move (c .before .before .before .before .before .before .before .before .before .before .before .before .pre .0) (c .before .before .before .before .before .before .edit-at .ensures) (c .before .before .before .before .before .list-of .ensures) (c .before .before .before .before .list-offset .ensures) (c .before .before .before .before .before .before .before .before .before .before .before .before .pre .1 .0) (c .before .before .before .before .before .before .before .before .before .before .before .before .pre .1 .1 .0)
 
 finish-edit-requires : tie.Need-finish-edit-requires
-finish-edit-requires c κs = rest-finishes (c .before .before .before .before .before .before .before .before .before .before .before .before .before .before .before .before .before .pre .0) (c .before .before .before .before .before .before .before .before .before .before .before .before .edit-at .ensures) (c .before .before .before .before .before .before .before .before .before .before .before .list-of .ensures) (c .before .before .before .before .before .before .before .before .before .before .list-offset .ensures) (c .before .before .before .before .before .before .before .before .before .before .before .before .before .before .before .before .before .pre .1 .0)
+finish-edit-requires c κs = (rest-finishes (c .before .before .before .before .before .before .before .before .before .before .before .before .before .before .before .before .before .before .pre .0) (c .before .before .before .before .before .before .before .before .before .before .before .before .edit-at .ensures) (c .before .before .before .before .before .before .before .before .before .before .before .list-of .ensures) (c .before .before .before .before .before .before .before .before .before .before .list-offset .ensures) (c .before .before .before .before .before .before .before .before .before .before .before .before .before .before .before .before .before .before .pre .1 .0), c .before .before .before .before .before .before .before .before .before .before .before .before .before .before .before .before .before .before .pre .1 .1 .1)
 
 same-length : tie.Need-same-length
 same-length c = search needs
@@ -47,8 +47,8 @@ same-length-4 c = search needs
 
 returns : tie.Need-returns
 returns c = (
-  λ h. redone-by (c .before .before .before .before .before .before .before .before .before .before .before .before .before .before .before .before .before .before .before .before .before .before .before .pre .0) (c .before .before .before .before .before .before .before .before .before .before .before .before .before .before .before .before .before .before .edit-at .ensures) (c .before .before .before .before .before .before .before .before .before .before .before .before .before .before .before .before .before .list-of .ensures) (c .before .before .before .before .before .before .before .before .before .before .before .before .before .before .before .before .list-offset .ensures) _ h _ _ _ _ (c .before .before .before .before .before .before .before .before .before .before .before .before .before .before .paint-list-in .ensures) (c .before .before .before .before .before .finish-edit .ensures _ h),
-  marks-done (c .before .before .before .before .before .before .before .before .before .before .before .before .before .before .before .before .before .before .before .before .before .before .before .pre .0) (c .before .before .before .before .before .before .before .before .before .before .before .before .before .before .before .before .before .before .edit-at .ensures) (c .before .before .before .before .before .before .before .before .before .before .before .before .before .before .before .before .before .list-of .ensures) (c .before .before .before .before .before .before .before .before .before .before .before .before .before .before .before .before .list-offset .ensures) _ _ (c .before .before .before .before .before .before .before .before .before .before .before .redo-locks .ensures),
+  λ h. redone-by (c .before .before .before .before .before .before .before .before .before .before .before .before .before .before .before .before .before .before .before .before .before .before .before .before .pre .0) (c .before .before .before .before .before .before .before .before .before .before .before .before .before .before .before .before .before .before .edit-at .ensures) (c .before .before .before .before .before .before .before .before .before .before .before .before .before .before .before .before .before .list-of .ensures) (c .before .before .before .before .before .before .before .before .before .before .before .before .before .before .before .before .list-offset .ensures) _ _ h _ _ _ _ (c .before .before .before .before .before .before .before .before .before .before .before .before .before .before .paint-list-in .ensures) (c .before .before .before .before .before .finish-edit .ensures _ h),
+  marks-done (c .before .before .before .before .before .before .before .before .before .before .before .before .before .before .before .before .before .before .before .before .before .before .before .before .pre .0) (c .before .before .before .before .before .before .before .before .before .before .before .before .before .before .before .before .before .before .edit-at .ensures) (c .before .before .before .before .before .before .before .before .before .before .before .before .before .before .before .before .before .list-of .ensures) (c .before .before .before .before .before .before .before .before .before .before .before .before .before .before .before .before .list-offset .ensures) _ _ (c .before .before .before .before .before .before .before .before .before .before .before .redo-locks .ensures),
 )
 
 pub redo-record-spec : {M : Type 1} → statement M

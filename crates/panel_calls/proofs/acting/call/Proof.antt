@@ -53,6 +53,9 @@ undo-requires c κs = search needs
 enum-told-3 : tie.Need-enum-told-3
 enum-told-3 c = search needs
 
+slice-aggregate-redo : tie.Need-slice-aggregate-redo
+slice-aggregate-redo c = search needs
+
 redo-requires : tie.Need-redo-requires
 redo-requires c κs = search needs
 
@@ -229,7 +232,7 @@ returns-7 : tie.Need-returns-7
 unfolding callOf
 returns-7 c =
     let at-redo = c .before .before .before .before .before .before .before .before .before in
-    let at-enum-told3 = at-redo .before .before .before .before .before .before .before in
+    let at-enum-told3 = at-redo .before .before .before .before .before .before .before .before in
     let start = at-enum-told3 .before .before .before .before .before .before .before .before in
     rw (at-enum-told3 .enum-told3 .given .1, ← start .pre .1) (at-redo .redo .ensures .0)
 
@@ -262,6 +265,7 @@ call-spec =
     enum-told-2
     undo-requires
     enum-told-3
+    slice-aggregate-redo
     redo-requires
     enum-told-4
     mark-requires

@@ -9,8 +9,11 @@ slice-aggregate-push : tie.Need-slice-aggregate-push
 slice-aggregate-push c = search needs
 
 slice-aggregate-push-2 : tie.Need-slice-aggregate-push-2
-slice-aggregate-push-2 c =
-    let start = c .before .before .before .before .before .before .before .before .before .before .before .before in
+slice-aggregate-push-2 c = search needs
+
+slice-aggregate-push-3 : tie.Need-slice-aggregate-push-3
+slice-aggregate-push-3 c =
+    let start = c .before .before .before .before .before .before .before .before .before .before .before .before .before in
     sym (length-take-le _ _ (start .pre .0))
 
 push-requires : tie.Need-push-requires
@@ -37,7 +40,7 @@ same-length-6 c = search needs
 returns : tie.Need-returns
 returns c =
     let at-push = c .before .before .before .before .before .before .before .before .before .before .before in
-    let start = at-push .before .before .before .before .before .before .before .before .before .before .before .before .before .before .before in
+    let start = at-push .before .before .before .before .before .before .before .before .before .before .before .before .before .before .before .before in
     rw (start .pre .1) at (at-push .push .ensures .0)
 
 pub push-edit-spec : {M : Type 1} → statement M
@@ -46,6 +49,7 @@ push-edit-spec =
     (tie.spec
     slice-aggregate-push
     slice-aggregate-push-2
+    slice-aggregate-push-3
     push-requires
     same-length
     same-length-2

@@ -3,6 +3,7 @@ use mathlib.Core.Path.{refl}
 use Prim.Native.Nat.{_+_, _*_, _-_}
 use native.Mathlib.Omega.{arith}
 use denote.Ref.{now}
+use Rattle.base.specs.Checks.{firstOf}
 use Rattle.panel_read.proofs.Taking.{taken-palette, taken-labs, taken-indices}
 use borrow.Author.Needs.{needs}
 use Rattle.panel_read.proofs.opening.take_sheet.Statement.{statement}
@@ -29,8 +30,12 @@ part-take-bytes-end c = search needs
 take-bytes-requires : tie.Need-take-bytes-requires
 take-bytes-requires c κs = search needs
 
+slice-aggregate-fill-labs : tie.Need-slice-aggregate-fill-labs
+slice-aggregate-fill-labs c = search needs
+
 fill-labs-requires : tie.Need-fill-labs-requires
-fill-labs-requires c κs = search needs
+unfolding firstOf
+fill-labs-requires c κs = (search needs, search needs, refl)
 
 sub-take-indices : tie.Need-sub-take-indices
 sub-take-indices c = search needs
@@ -57,7 +62,7 @@ returns : tie.Need-returns
 returns c =
     let at-indices = c .before in
     let at-labs = c .before .before .before .before .before .before in
-    let at-bytes = at-labs .before .before .before .before .before in
+    let at-bytes = at-labs .before .before .before .before .before .before in
     let start = at-bytes .before .before .before .before .before .before in
     let a = start .args in
     let p = taken-palette (a .k) (now (a .bytes)) (6 + 3 * a .k - 6) _ _ (omega arith) (at-bytes .take-bytes .ensures) in (
@@ -77,6 +82,7 @@ take-sheet-spec =
     part-take-bytes-start
     part-take-bytes-end
     take-bytes-requires
+    slice-aggregate-fill-labs
     fill-labs-requires
     sub-take-indices
     part-take-indices-start

@@ -1,7 +1,8 @@
 -- `new`: the limits, the marks' number, the indices, then the LAB and the marks of the k entries. Assumes nothing.
-use mathlib.Core.Path.{sym, _∙_}
+use mathlib.Core.Path.{refl, sym, _∙_}
 use native.Mathlib.Omega.{arith}
 use borrow.Author.Needs.{needs}
+use Rattle.base.specs.Checks.{firstOf}
 use Rattle.sheet.specs.Sheet.{sheetOf}
 use Rattle.sheet.specs.Checks.{Limits}
 use Rattle.sheet.specs.Document.{newLab}
@@ -37,11 +38,15 @@ same-length-3 c = search needs
 returns-3 : tie.Need-returns-3
 returns-3 c = new-stray _ _ (past (c .before .before .before)) (c .before .before .if2 .left) (sym (c .before .any-stray .ensures) ∙ c .if3 .taken)
 
+slice-aggregate-fill-labs : tie.Need-slice-aggregate-fill-labs
+slice-aggregate-fill-labs c = search needs
+
 fill-labs-requires : tie.Need-fill-labs-requires
-fill-labs-requires c κs = let l = past (c .before .before .before .before) in (omega arith, omega arith)
+unfolding firstOf
+fill-labs-requires c κs = let l = past (c .before .before .before .before .before) in (omega arith, omega arith, refl)
 
 clear-locks-requires : tie.Need-clear-locks-requires
-clear-locks-requires c κs = let l = past (c .before .before .before .before .before .before .before .before) in omega (arith, c .before .before .before .before .before .before .before .if2 .left)
+clear-locks-requires c κs = let l = past (c .before .before .before .before .before .before .before .before .before) in omega (arith, c .before .before .before .before .before .before .before .before .if2 .left)
 
 same-length-4 : tie.Need-same-length-4
 same-length-4 c = search needs
@@ -52,7 +57,7 @@ same-length-5 c = search needs
 returns-4 : tie.Need-returns-4
 unfolding newLab
 returns-4 c =
-    let at = c .before .before .before .before .before .before .before .before in
+    let at = c .before .before .before .before .before .before .before .before .before in
     new-done _ _ (past (at .before .before .before)) (at .before .before .if2 .left) (sym (at .before .any-stray .ensures) ∙ at .if3 .left) _ _ (c .before .before .before .before .before .before .fill-labs .ensures) (c .before .before .clear-locks .ensures)
 
 pub new-spec : {M : Type 1} → statement M
@@ -67,6 +72,7 @@ new-spec =
     any-stray-requires
     same-length-3
     returns-3
+    slice-aggregate-fill-labs
     fill-labs-requires
     clear-locks-requires
     same-length-4

@@ -5,6 +5,7 @@ use native.Mathlib.Omega.{arith}
 use borrow.Author.Needs.{needs}
 use lib.ListN.{getD}
 use Rattle.base.specs.declared.Lab.{Lab}
+use Rattle.color_curve.specs.Curve.{curveOf, labBy}
 use Rattle.color_nearest.specs.declared.Near.{Near}
 use Rattle.color_nearest.specs.Nearest.{nearestOf}
 use Rattle.tool_snap.specs.Snap.{entryOf}
@@ -25,25 +26,30 @@ element-copy-out-v : tie.Need-element-copy-out-v
 element-copy-out-v c = search needs
 
 -- what a slot of this colour holds
-found : (c : tie.Then2) → let a = c .before .before .before .before .before .args in let n = c .before .before .before .number .result in
-    getD (a .cache .now) (n * 2654435761 / 65536 % 1024) 0 % 512 ≡ entryOf (a .lab .now) (a .k) (a .rgb) + 1
-found c = hit _ _ _ _ _ _ (c .before .before .before .before .before .pre .3) (c .before .before .before .number .ensures .colour) (c .before .if1 .taken) (c .if2 .taken)
+found : (c : tie.Then2) → let a = c .before .before .before .before .before .before .args in let n = c .before .before .before .number .result in
+    getD (a .cache .now) (n * 2654435761 / 65536 % 1024) 0 % 512 ≡ entryOf (labBy (curveOf (a .loaded) (a .curve .now))) (a .lab .now) (a .k) (a .rgb) + 1
+found c = hit _ _ _ _ _ _ _ (c .before .before .before .before .before .before .pre .cached) (c .before .before .before .number .ensures .colour) (c .before .if1 .taken) (c .if2 .taken)
 
 -- the entry that is computed
-computed : (c : tie.After-nearest-in) → let a = c .before .before .before .before .before .before .args in c .nearest-in .result .entry ≡ entryOf (a .lab .now) (a .k) (a .rgb)
+computed : (c : tie.After-nearest-in) → let a = c .before .before .before .before .before .before .before .before .args in c .nearest-in .result .entry ≡ entryOf (labBy (curveOf (a .loaded) (a .curve .now))) (a .lab .now) (a .k) (a .rgb)
 unfolding entryOf
 computed c =
-    let a = c .before .before .before .before .before .before .args in
-    ap (λ (s : Near). s .entry) (c .nearest-in .ensures) ∙ ap (λ (x : Lab). nearestOf x (a .lab .now) (a .k) .entry) (c .before .lab-in .ensures .value)
+    let a = c .before .before .before .before .before .before .before .before .args in
+    let same = c .before .before .colour .ensures ∙ c .before .before .before .before .before .number .ensures .colour in
+    ap (λ (s : Near). s .entry) (c .nearest-in .ensures)
+    ∙ ap (λ (x : Lab). nearestOf x (a .lab .now) (a .k) .entry) (c .before .lab-in .ensures .value ∙ ap (labBy (curveOf (a .loaded) (a .curve .now))) same)
 
 small : (c : tie.After-nearest-in) → c .nearest-in .result .entry ≤ 255
-small c = let a = c .before .before .before .before .before .before .args in omega (arith, computed c, entry-small (a .lab .now) (a .k) (a .rgb), c .before .before .before .before .before .before .pre .1)
+small c = omega (arith, entry-small _ _ _ _ (computed c), c .before .before .before .before .before .before .before .before .pre .k-small)
 
 sub-result : tie.Need-sub-result
 sub-result c = omega (arith, found c)
 
 returns : tie.Need-returns
-returns c = (omega (arith, found c), c .before .before .before .before .before .pre .3)
+returns c = (omega (arith, found c), c .before .before .before .before .before .before .pre .cached)
+
+colour-requires : tie.Need-colour-requires
+colour-requires c κs = c .before .before .number .ensures .small
 
 lab-in-requires : tie.Need-lab-in-requires
 lab-in-requires c κs = search needs
@@ -55,10 +61,10 @@ mul-cache : tie.Need-mul-cache
 mul-cache c = search needs
 
 add-cache : tie.Need-add-cache
-add-cache c = omega (arith, small c, c .before .before .before .before .number .ensures .small)
+add-cache c = omega (arith, small c, c .before .before .before .before .before .number .ensures .small)
 
 add-cache-2 : tie.Need-add-cache-2
-add-cache-2 c = omega (arith, small c, c .before .before .before .before .number .ensures .small)
+add-cache-2 c = omega (arith, small c, c .before .before .before .before .before .number .ensures .small)
 
 mul-cache-2 : tie.Need-mul-cache-2
 mul-cache-2 c = search needs
@@ -67,7 +73,7 @@ element-write-cache : tie.Need-element-write-cache
 element-write-cache c = search needs
 
 returns-2 : tie.Need-returns-2
-returns-2 c = (computed c, all-filled _ _ _ _ _ _ _ (c .before .before .before .before .before .before .pre .3) (c .before .before .before .before .number .ensures .colour) (computed c) (small c))
+returns-2 c = (computed c, all-filled _ _ _ _ _ _ _ _ (c .before .before .before .before .before .before .before .before .pre .cached) (c .before .before .before .before .before .number .ensures .colour) (computed c) (small c))
 
 pub cached-spec : {M : Type 1} → statement M
 cached-spec =
@@ -79,6 +85,7 @@ cached-spec =
     element-copy-out-v
     sub-result
     returns
+    colour-requires
     lab-in-requires
     nearest-in-requires
     mul-cache

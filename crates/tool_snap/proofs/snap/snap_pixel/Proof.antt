@@ -14,18 +14,18 @@ use Rattle.tool_snap.proofs.snap.snap_pixel.Tie as tie
 
 returns : tie.Need-returns
 unfolding snapped
-returns c = (rw (lt-ltb _ _ (c .if1 .taken)), c .before .before .pre .3)
+returns c = (rw (lt-ltb _ _ (c .if1 .taken)), c .before .before .before .pre .cached)
 
 returns-2 : tie.Need-returns-2
 unfolding snapped
-returns-2 c = (rw (le-ltb _ _ (c .before .if1 .left), eq-eqb _ _ (c .if2 .taken)), c .before .before .before .pre .3)
+returns-2 c = (rw (le-ltb _ _ (c .before .if1 .left), eq-eqb _ _ (c .if2 .taken)), c .before .before .before .before .pre .cached)
 
 cached-requires : tie.Need-cached-requires
 cached-requires c κs = search needs
 
 -- an entry is below 256
 small : (c : tie.After-cached) → c .cached .result ≤ 255
-small c = let a = c .before .before .before .before .before .args in omega (arith, c .cached .ensures .0, entry-small (a .lab .now) (a .k) (a .rgb), c .before .before .before .before .before .pre .1)
+small c = omega (arith, entry-small _ _ _ _ (c .cached .ensures .0), c .before .before .before .before .before .before .pre .k-small)
 
 cast-result : tie.Need-cast-result
 cast-result c = omega (arith, small c)

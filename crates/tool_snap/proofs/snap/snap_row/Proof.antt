@@ -5,6 +5,7 @@ use native.Mathlib.Omega.{arith}
 use borrow.Author.Needs.{needs}
 use mir.Syntax.{w16}
 use Rattle.base.proofs.Back.{back}
+use Rattle.color_curve.specs.Curve.{curveOf, labBy}
 use Rattle.tool_snap.specs.Snap.{colourAt, snapAt}
 use Rattle.tool_snap.specs.Cache.{allOk}
 use Rattle.tool_snap.proofs.Rows.{Row, row-none, row-next, row-all}
@@ -12,13 +13,15 @@ use Rattle.tool_snap.proofs.snap.snap_row.Statement.{statement}
 use Rattle.tool_snap.proofs.snap.snap_row.Tie as tie
 
 abbrev Inv-loop : tie.InvT-loop
-Inv-loop t lab k cache₀ rgba from n out₀ i₀ cache out i = (i ≤ n) × Row (snapAt lab k rgba) from out₀ out i × allOk lab k cache
+Inv-loop t loaded curve lab k cache₀ rgba from n out₀ i₀ cache out i =
+    let by = labBy (curveOf loaded curve) in
+    (i ≤ n) × Row (snapAt by lab k rgba) from out₀ out i × allOk by lab k cache
 
 abbrev μ-loop : tie.MeasureT-loop
-μ-loop t lab k cache₀ rgba from n out₀ i₀ cache out i = n - i
+μ-loop t loaded curve lab k cache₀ rgba from n out₀ i₀ cache out i = n - i
 
 loop-holds : tie.Need-loop-holds Inv-loop μ-loop
-loop-holds c = (search needs, row-none _ _ _, c .before .before .pre .3)
+loop-holds c = (search needs, row-none _ _ _, c .before .before .before .pre .0 .cached)
 
 add-at : tie.Need-add-at Inv-loop μ-loop
 add-at c = search needs
@@ -29,17 +32,17 @@ mul-at c = search needs
 shared-slice-read-snap-pixel : tie.Need-shared-slice-read-snap-pixel Inv-loop μ-loop
 shared-slice-read-snap-pixel c = search needs
 
-add-t13 : tie.Need-add-t13 Inv-loop μ-loop
-add-t13 c = search needs
+add-t15 : tie.Need-add-t15 Inv-loop μ-loop
+add-t15 c = search needs
 
-shared-slice-read-t17 : tie.Need-shared-slice-read-t17 Inv-loop μ-loop
-shared-slice-read-t17 c = search needs
+shared-slice-read-t19 : tie.Need-shared-slice-read-t19 Inv-loop μ-loop
+shared-slice-read-t19 c = search needs
 
-add-t18 : tie.Need-add-t18 Inv-loop μ-loop
-add-t18 c = search needs
+add-t20 : tie.Need-add-t20 Inv-loop μ-loop
+add-t20 c = search needs
 
-shared-slice-read-t20 : tie.Need-shared-slice-read-t20 Inv-loop μ-loop
-shared-slice-read-t20 c = search needs
+shared-slice-read-t22 : tie.Need-shared-slice-read-t22 Inv-loop μ-loop
+shared-slice-read-t22 c = search needs
 
 add-snap-pixel : tie.Need-add-snap-pixel Inv-loop μ-loop
 add-snap-pixel c = search needs
@@ -48,10 +51,10 @@ shared-slice-read-snap-pixel-2 : tie.Need-shared-slice-read-snap-pixel-2 Inv-loo
 shared-slice-read-snap-pixel-2 c = search needs
 
 snap-pixel-requires : tie.Need-snap-pixel-requires Inv-loop μ-loop
-snap-pixel-requires c κs = let a = c .before .before .before .before .before .before .before .before .before in (a .pre .0, a .pre .1, a .pre .2, c .before .before .before .before .before .before .loop .inv .2)
+snap-pixel-requires c κs = let a = c .before .before .before .before .before .before .before .before .before .before .pre .0 in record { tabled = a .tabled; fits = a .fits; k-small = a .k-small; lab-long = a .lab-long; cached = c .before .before .before .before .before .before .loop .inv .2 }
 
-mul-t18 : tie.Need-mul-t18 Inv-loop μ-loop
-mul-t18 c = search needs
+mul-t20 : tie.Need-mul-t20 Inv-loop μ-loop
+mul-t20 c = search needs
 
 slice-set-from-out : tie.Need-slice-set-from-out Inv-loop μ-loop
 slice-set-from-out c = search needs
@@ -82,14 +85,14 @@ snap-row-spec =
     add-at
     mul-at
     shared-slice-read-snap-pixel
-    add-t13
-    shared-slice-read-t17
-    add-t18
-    shared-slice-read-t20
+    add-t15
+    shared-slice-read-t19
+    add-t20
+    shared-slice-read-t22
     add-snap-pixel
     shared-slice-read-snap-pixel-2
     snap-pixel-requires
-    mul-t18
+    mul-t20
     slice-set-from-out
     add-i
     loop-less
