@@ -1,4 +1,4 @@
-//! Times the proved calls beside the Rust original and prints four tables; `bench/run` builds and runs it.
+//! Times the proved calls beside the Rust original and prints six tables; `bench/run` builds and runs it.
 //!
 //! Ours is the crates of compare/archives.txt, as `rt staticlib` compiles them. `color_platform`
 //! and `color_exact` are one and the same color.rs of pixelforge, built over the two stand-ins for its `libm`;
@@ -8,6 +8,7 @@
 #[path = "../compare/calls.rs"]
 #[allow(dead_code)]
 mod calls;
+mod forms;
 mod layers;
 mod moves;
 mod sheets;
@@ -145,6 +146,8 @@ fn main() {
     sheets::print();
     println!();
     moves::print();
+    println!();
+    forms::print();
     println!();
     layers::print();
 }

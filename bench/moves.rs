@@ -1,4 +1,4 @@
-//! Times push, undo and redo beside history.rs's, and prints their rows.
+//! Times push, undo and redo, in both forms of a journal (change request E9), beside history.rs's, and prints their rows.
 //!
 //! Ours is lent a sheet, which it checks in every call, and a journal; the Rust checks when a document is made, and
 //! keeps its edits in a Vec. So the Rust has two figures: the call alone, and the call with `with_lab`'s scan before it.
@@ -20,7 +20,7 @@ enum Kind {
 }
 
 #[derive(Clone)]
-struct Edit {
+pub struct Edit {
     kind: Kind,
     changes: Vec<PixelChange>,
 }
@@ -48,8 +48,8 @@ impl Edit {
         }
     }
 
-    /// As ours is lent it: kind and colours, the entry, and the list.
-    fn flat(&self) -> ([u8; 8], usize, Vec<u64>) {
+    /// As ours is lent it.
+    pub fn flat(&self) -> Flat {
         let (kind, index, [r, g, b]) = match self.kind {
             Kind::Pixels => (1, 0, [0; 3]),
             Kind::Removal(index) => (4, index, [0; 3]),
@@ -69,7 +69,7 @@ impl Edit {
 }
 
 /// One side of a row: a history of some edits.
-trait Side {
+pub trait Side {
     /// Takes back what is done, and starts a history anew.
     fn restart(&mut self);
     fn push(&mut self);
@@ -78,25 +78,34 @@ trait Side {
 }
 
 /// The palette count, and the handle's five numbers.
-type State = [usize; 6];
+pub type State = [usize; 6];
 
-struct Ours {
-    sheet: Sheet,
+/// An edit's kind and colours, its entry, and its list.
+pub type Flat = ([u8; 8], usize, Vec<u64>);
+
+/// The forms of a journal, as our calls are told them.
+pub const COORDINATES: u8 = 0;
+pub const PLACES: u8 = 1;
+
+pub struct Ours {
+    pub sheet: Sheet,
+    pub form: u8,
     /// The curve that is loaded, or none.
     curve: Option<Vec<f64>>,
-    edits: Vec<([u8; 8], usize, Vec<u64>)>,
-    journal: Vec<u8>,
+    edits: Vec<Flat>,
+    pub journal: Vec<u8>,
     scratch: Vec<u8>,
-    state: State,
-    refused: usize,
+    pub state: State,
+    pub refused: usize,
 }
 
 impl Ours {
-    fn of(sheet: Sheet, curve: Option<Vec<f64>>, edits: &[Edit]) -> Ours {
-        let size = edits.iter().map(|e| 37 + 8 * e.changes.len()).sum();
+    pub fn of(sheet: Sheet, form: u8, curve: Option<Vec<f64>>, edits: Vec<Flat>) -> Ours {
+        let size = edits.iter().map(|(_, _, list)| 37 + 8 * list.len()).sum();
         Ours {
             state: [sheet.k, 0, 0, 0, 0, 0],
-            edits: edits.iter().map(Edit::flat).collect(),
+            edits,
+            form,
             curve,
             journal: vec![0; size],
             scratch: vec![0; sheet.indices.len()],
@@ -114,6 +123,7 @@ impl Ours {
             &mut s.lab,
             &mut s.indices,
             &mut s.locks,
+            self.form,
             &self.journal,
             &mut self.state,
         )
@@ -131,6 +141,7 @@ impl Ours {
             &mut s.locks,
             self.curve.is_some(),
             self.curve.as_deref().unwrap_or(&[]),
+            self.form,
             journal,
             scratch,
             &mut self.state,
@@ -155,6 +166,7 @@ impl Ours {
             *index,
             &[0.0; 3],
             list,
+            self.form,
             &mut self.journal,
             &mut self.scratch,
             &mut self.state,
@@ -255,8 +267,8 @@ const STEPS: [(&str, Step); 3] = [
 ];
 
 pub fn print() {
-    println!("| what                                       | ours ns | Rust ns | ratio | with scan ns | ratio |");
-    println!("|--------------------------------------------|---------|---------|-------|--------------|-------|");
+    println!("| what                                       | ours ns | in places ns | ratio | Rust ns | ratio | with scan ns | ratio |");
+    println!("|--------------------------------------------|---------|--------------|-------|---------|-------|--------------|-------|");
     for k in [ENTRIES, 16] {
         let edits: Vec<Edit> = (0..100).map(|turn| scattered(64, 64, k, turn)).collect();
         rows(
@@ -290,11 +302,11 @@ pub fn print() {
     println!();
     println!("Pictures, palettes and LAB are the Rust's after every step, LAB that a set works out the exact build's. Ours makes");
     println!("checks 1 to 4 in every call, and 25 where a curve is loaded (the Rust has none); the Rust has made with_lab's when");
-    println!("the document was made, and makes none at undo and redo.");
+    println!("the document was made, and makes none at undo and redo. In places: with E9's records; its ratio is to ours.");
 }
 
 /// So many pixels of a square sheet set, each turn to another entry.
-fn scattered(count: usize, side: usize, k: usize, turn: usize) -> Edit {
+pub fn scattered(count: usize, side: usize, k: usize, turn: usize) -> Edit {
     let change = |i: usize| {
         let p = i * 61 % (side * side);
         PixelChange {
@@ -311,7 +323,7 @@ fn scattered(count: usize, side: usize, k: usize, turn: usize) -> Edit {
 }
 
 /// One of the entries set, each turn to another colour.
-fn set(turn: usize, k: usize) -> Edit {
+pub fn set(turn: usize, k: usize) -> Edit {
     Edit {
         kind: Kind::Set(turn % k, colour(1000 + turn as u32)),
         changes: Vec::new(),
@@ -319,9 +331,9 @@ fn set(turn: usize, k: usize) -> Edit {
 }
 
 /// The entry that is on every eighth pixel.
-const OFTEN: i16 = 100;
+pub const OFTEN: i16 = 100;
 
-fn often(p: usize, side: usize, k: usize) -> i16 {
+pub fn often(p: usize, side: usize, k: usize) -> i16 {
     match random(p, side, k) {
         _ if (p + p / side) % 8 == 0 => OFTEN,
         OFTEN => OFTEN + 1,
@@ -330,7 +342,7 @@ fn often(p: usize, side: usize, k: usize) -> i16 {
 }
 
 /// The removal of an entry, its pixels moved to the next one.
-fn removal(sheet: &Sheet, index: usize) -> Edit {
+pub fn removal(sheet: &Sheet, index: usize) -> Edit {
     let used = (0..sheet.indices.len()).filter(|&p| sheet.indices[p] as usize == index);
     let change = |p: usize| PixelChange {
         x: p % sheet.side,
@@ -347,36 +359,45 @@ fn removal(sheet: &Sheet, index: usize) -> Edit {
 fn rows(name: &str, sheet: Sheet, curve: Option<Vec<f64>>, edits: &[Edit]) {
     let mut alone = Theirs::of(&sheet, edits, false);
     let mut scanned = Theirs::of(&sheet, edits, true);
-    let mut ours = Ours::of(sheet, curve, edits);
+    let [mut ours, mut placed] = [COORDINATES, PLACES].map(|form| {
+        let edits = edits.iter().map(Edit::flat).collect();
+        Ours::of(sheet.clone(), form, curve.clone(), edits)
+    });
     for (timed, (step_name, _)) in STEPS.iter().enumerate() {
-        let [ours, alone, scanned] = figures(|side| {
+        let [ours, placed, alone, scanned] = figures(|side| {
             let side: &mut dyn Side = match side {
                 0 => &mut ours,
-                1 => &mut alone,
+                1 => &mut placed,
+                2 => &mut alone,
                 _ => &mut scanned,
             };
             round(side, timed, edits.len())
         });
         println!(
-            "| {:<42} | {ours:>7.0} | {alone:>7.0} | {:>5.2} | {scanned:>12.0} | {:>5.2} |",
+            "| {:<42} | {ours:>7.0} | {placed:>12.0} | {:>5.2} | {alone:>7.0} | {:>5.2} | {scanned:>12.0} | {:>5.2} |",
             format!("{step_name}: {name}"),
+            placed / ours,
             ours / alone,
             ours / scanned
         );
     }
     ours.restart();
+    placed.restart();
     alone.restart();
     for (step_name, step) in STEPS {
         step(&mut ours);
+        step(&mut placed);
         step(&mut alone);
-        assert!(
-            same(&ours, &alone),
-            "{step_name}: {name}: not the Rust's sheet"
-        );
+        for ours in [&ours, &placed] {
+            assert!(
+                same(ours, &alone),
+                "{step_name}: {name}: not the Rust's sheet"
+            );
+        }
     }
     assert_eq!(
-        (ours.refused, alone.refused, scanned.refused),
-        (0, 0, 0),
+        [ours.refused, placed.refused, alone.refused, scanned.refused],
+        [0; 4],
         "{name}"
     );
 }

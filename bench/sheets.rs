@@ -20,6 +20,7 @@ const NEWS: usize = 100;
 pub const ENTRIES: usize = STORAGE / 3;
 
 /// A square sheet as our calls are lent it.
+#[derive(Clone)]
 pub struct Sheet {
     pub side: usize,
     pub k: usize,
@@ -73,6 +74,7 @@ impl Sheet {
             &self.palette,
             &mut self.lab,
             &self.indices,
+            0,
             &[],
             &[self.k, 0, 0, 0, 0, 0],
             values,

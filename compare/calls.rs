@@ -107,16 +107,18 @@ ours! {
     call_merge_entries(sheet, locks: [bool], from: usize, into: usize, list: mut [u64], bytes: &mut [u8; 8], doubles: &mut [f64; 3], r: R,) -> u8;
 
     call_fresh(state: State,) -> ();
-    call_push(w: usize, h: usize, palette: mut [u8], lab: mut [f64], indices: mut [i16], locks: mut [bool], limited: bool, permitted: [u8], loaded: bool, curve: [f64], bytes: &[u8; 8], index: usize, doubles: &[f64; 3], list: [u64], journal: mut [u8], scratch: mut [u8], state: State,) -> u8;
-    call_undo(w: usize, h: usize, palette: mut [u8], lab: mut [f64], indices: mut [i16], locks: mut [bool], journal: [u8], state: State,) -> u8;
-    call_redo(w: usize, h: usize, palette: mut [u8], lab: mut [f64], indices: mut [i16], locks: mut [bool], loaded: bool, curve: [f64], journal: [u8], scratch: mut [u8], state: State,) -> u8;
-    call_mark_saved(journal: [u8], state: State,) -> u8;
-    call_asked(question: u8, journal: [u8], state: &[usize; 6], r: R,) -> u8;
-    call_next(question: u8, journal: [u8], state: &[usize; 6], number: usize, bytes: &mut [u8; 8], doubles: &mut [f64; 3], r: R,) -> u8;
+    call_push(w: usize, h: usize, palette: mut [u8], lab: mut [f64], indices: mut [i16], locks: mut [bool], limited: bool, permitted: [u8], loaded: bool, curve: [f64], bytes: &[u8; 8], index: usize, doubles: &[f64; 3], list: [u64], form: u8, journal: mut [u8], scratch: mut [u8], state: State,) -> u8;
+    call_undo(w: usize, h: usize, palette: mut [u8], lab: mut [f64], indices: mut [i16], locks: mut [bool], form: u8, journal: [u8], state: State,) -> u8;
+    call_redo(w: usize, h: usize, palette: mut [u8], lab: mut [f64], indices: mut [i16], locks: mut [bool], loaded: bool, curve: [f64], form: u8, journal: [u8], scratch: mut [u8], state: State,) -> u8;
+    call_mark_saved(form: u8, journal: [u8], state: State,) -> u8;
+    call_asked(question: u8, form: u8, journal: [u8], state: &[usize; 6], r: R,) -> u8;
+    call_next(question: u8, form: u8, journal: [u8], state: &[usize; 6], number: usize, bytes: &mut [u8; 8], doubles: &mut [f64; 3], r: R,) -> u8;
     call_replay(w: usize, h: usize, palette: mut [u8], lab: mut [f64], indices: mut [i16], locks: mut [bool], limited: bool, permitted: [u8], loaded: bool, curve: [f64], bytes: &[u8; 8], index: usize, doubles: &[f64; 3], list: [u64], scratch: mut [u8], state: State,) -> u8;
 
-    call_load_curve(w: usize, h: usize, palette: [u8], lab: mut [f64], indices: [i16], journal: [u8], state: &[usize; 6], curve: [f64],) -> u8;
+    call_load_curve(w: usize, h: usize, palette: [u8], lab: mut [f64], indices: [i16], form: u8, journal: [u8], state: &[usize; 6], curve: [f64],) -> u8;
     call_rgb8_to_lab_by(loaded: bool, curve: [f64], rgb: &[u8; 3], out: &mut [f64; 3],) -> u8;
+
+    call_convert(w: usize, h: usize, from: u8, journal: [u8], out: mut [u8], state: State,) -> u8;
 
     call_flatten(sizes: [usize], palettes: [u8], labs: [f64], indices: [i16], out: mut [u8], r: R,) -> u8;
     call_repaint(sizes: [usize], palettes: [u8], labs: [f64], indices: [i16], edited: usize, w: usize, h: usize, k: usize, palette: [u8], lab: [f64], earlier: [i16], out: mut [u8], r: R,) -> u8;

@@ -9,7 +9,7 @@ use crate::draw::Draw;
 use crate::drawn::{self, Pair};
 use crate::histories::*;
 use crate::inputs::{any_edit, tell};
-use crate::journal::{self, Handle, State, MAX_JOURNAL, NOWHERE};
+use crate::journal::{self, Form, Handle, State, MAX_JOURNAL, NOWHERE};
 use crate::locks::{any_edit_or_lock, any_lock};
 use crate::sheet::*;
 use crate::sheets::Permitted;
@@ -56,19 +56,23 @@ pub fn load_curve(st: &State, values: &[f64]) -> Pair {
         words
     };
     let (before, s) = (kept(), &st.sheet);
-    let mut lab = s.lab.clone();
-    let no = call_load_curve(
-        s.w,
-        s.h,
-        &s.palette,
-        &mut lab,
-        &s.indices,
-        &st.journal,
-        &st.numbers(),
-        values,
-    );
+    let ours = in_either_form(st, |form| {
+        let mut lab = s.lab.clone();
+        let no = call_load_curve(
+            s.w,
+            s.h,
+            &s.palette,
+            &mut lab,
+            &s.indices,
+            form,
+            &st.journal,
+            &st.numbers(),
+            values,
+        );
+        words(no, &lab)
+    });
     assert!(before == kept(), "lent to be read: {}", s.about());
-    [expected, words(no, &lab)]
+    [expected, ours]
 }
 
 pub fn rgb8_to_lab_by(curve: &Curve, rgb: [u8; 3]) -> Pair {
@@ -151,7 +155,7 @@ struct Lent {
 
 impl Lent {
     /// A sheet of 2 x 1 whose history has one record, which is undone, or none.
-    fn whole(record: bool, draw: &mut Draw) -> Lent {
+    fn whole(form: Form, record: bool, draw: &mut Draw) -> Lent {
         let mut sheet = good(2, 1, 2, draw);
         sheet.indices = vec![0, -1];
         sheet.curve = Curve::of(any_fit(draw));
@@ -160,7 +164,7 @@ impl Lent {
         } else {
             Handle::FRESH
         };
-        let mut journal = journal::record(&Op::PaletteAdd { rgb: draw.rgb() });
+        let mut journal = journal::record(form, sheet.w, &Op::PaletteAdd { rgb: draw.rgb() });
         journal.resize(60, BYTE);
         let [r, g, b] = draw.rgb();
         Lent {
@@ -180,6 +184,7 @@ impl Lent {
             out: 2,
             st: State {
                 sheet,
+                form,
                 journal,
                 handle,
             },
@@ -289,6 +294,7 @@ const CALLS: [(&str, Told); 5] = [
 
 /// Each rule broken in each way, in every call that takes a curve; and the curve itself.
 fn each_rule(t: &mut Table) {
+    let form = t.form;
     let mut draw = Draw::new(66);
     for _ in 0..4 {
         let fit = any_fit(&mut draw);
@@ -296,7 +302,7 @@ fn each_rule(t: &mut Table) {
         let unfit = broken(&fit).into_iter().map(|values| (25, values));
         for (no, values) in with_none.chain(unfit) {
             for (name, call) in CALLS {
-                let mut l = Lent::whole(name != "load_curve", &mut draw);
+                let mut l = Lent::whole(form, name != "load_curve", &mut draw);
                 l.st.sheet.curve = Curve::of(values.clone());
                 let pair = call(&l);
                 assert_eq!(pair[0][0], no, "{name}: {}", l.st.sheet.about());
@@ -308,6 +314,7 @@ fn each_rule(t: &mut Table) {
 
 /// Every fault of a call alone, and every pair: the first in the document's order is told.
 fn refusals(t: &mut Table) {
+    let form = t.form;
     let mut draw = Draw::new(62);
     let calls: [(&str, Told, bool, &[&[Fault]]); 5] = [
         (
@@ -347,7 +354,7 @@ fn refusals(t: &mut Table) {
         let faults = groups.concat();
         for (i, (one, make)) in faults.iter().enumerate() {
             for (j, (two, make_two)) in faults.iter().enumerate().skip(i) {
-                let mut l = Lent::whole(record, &mut draw);
+                let mut l = Lent::whole(form, record, &mut draw);
                 // the later one first: a fault may undo one of its own number
                 if j != i {
                     make_two(&mut l);
@@ -366,9 +373,10 @@ fn refusals(t: &mut Table) {
 
 /// Sentences that can be read in two ways, each with the smallest input that tells them apart.
 fn readings(t: &mut Table) {
+    let form = t.form;
     let mut draw = Draw::new(63);
     let mut one = |name: &'static str, call: Told, no: u8, record: bool, make: fn(&mut Lent)| {
-        let mut l = Lent::whole(record, &mut draw);
+        let mut l = Lent::whole(form, record, &mut draw);
         make(&mut l);
         let pair = call(&l);
         assert_eq!(pair[0][0], u64::from(no), "{name}");
@@ -438,6 +446,7 @@ fn readings(t: &mut Table) {
 
 /// The journal's limit, in loading.
 fn limits(t: &mut Table) {
+    let form = t.form;
     let mut draw = Draw::new(64);
     let sheet = good(3, 2, 2, &mut draw);
     let values = any_fit(&mut draw);
@@ -447,7 +456,15 @@ fn limits(t: &mut Table) {
         let (s, state) = (&sheet, [sheet.k, 0, 0, 0, 0, 0]);
         let mut lab = s.lab.clone();
         let no = call_load_curve(
-            s.w, s.h, &s.palette, &mut lab, &s.indices, &journal, &state, &values,
+            s.w,
+            s.h,
+            &s.palette,
+            &mut lab,
+            &s.indices,
+            form.number(),
+            &journal,
+            &state,
+            &values,
         );
         t.tell("load_curve", &[expected], &[no.into()], || {
             format!("a journal of {length} bytes")
@@ -458,9 +475,9 @@ fn limits(t: &mut Table) {
 // Any inputs.
 
 /// A record of any kind, by an index about k.
-fn any_record(k: usize, draw: &mut Draw) -> Vec<u8> {
-    let index = draw.below(k.min(254) + 1);
-    journal::record_of(&match draw.below(6) {
+fn any_record(form: Form, s: &Sheet, draw: &mut Draw) -> Vec<u8> {
+    let index = draw.below(s.k.min(254) + 1);
+    let edit = match draw.below(6) {
         0 => Edit::Lock {
             index,
             old: draw.once_in(2),
@@ -482,12 +499,13 @@ fn any_record(k: usize, draw: &mut Draw) -> Vec<u8> {
             new: draw.rgb(),
             old_lab: [draw.number(), draw.number(), draw.number()],
         }),
-    })
+    };
+    journal::record_of(form, s.w, &edit)
 }
 
 /// A history of two records, of which some are undone; now and then its handle or a byte of it is wrong.
-fn any_history(k: usize, draw: &mut Draw) -> (Vec<u8>, Handle) {
-    let (one, two) = (any_record(k, draw), any_record(k, draw));
+fn any_history(form: Form, s: &Sheet, draw: &mut Draw) -> (Vec<u8>, Handle) {
+    let (one, two) = (any_record(form, s, draw), any_record(form, s, draw));
     let (a, b) = (one.len(), one.len() + two.len());
     let mut journal = [one, two].concat();
     journal.resize(b + draw.from(&[0, 4, 40]), BYTE);
@@ -535,6 +553,7 @@ fn any_image(s: &Sheet, draw: &mut Draw) -> (Vec<u8>, (usize, usize)) {
 
 /// Every call that takes a curve, and undo, on any sheets with any marks, histories and curves.
 fn any_state(t: &mut Table, draw: &mut Draw) {
+    let form = t.form;
     let mut sheet = any(draw).with_any_locks(draw);
     sheet.curve = any_curve(draw);
     let (k, n) = (sheet.k, sheet.w * sheet.h);
@@ -543,7 +562,7 @@ fn any_state(t: &mut Table, draw: &mut Draw) {
         let doc = sheet.curve.under(|| new(&sheet)).expect("well-formed");
         sheet.lab[..3 * k].copy_from_slice(&doc.palette_lab);
     }
-    let (journal, handle) = any_history(k, draw);
+    let (journal, handle) = any_history(form, &sheet, draw);
     let (rgba, image) = any_image(&sheet, draw);
     let e = match draw.below(8) {
         0 => any_lock(k, draw),
@@ -557,6 +576,7 @@ fn any_state(t: &mut Table, draw: &mut Draw) {
         scratch: draw.room(n),
         st: State {
             sheet,
+            form,
             journal,
             handle,
         },
@@ -604,6 +624,7 @@ fn any_state(t: &mut Table, draw: &mut Draw) {
 
 /// A sheet that was opened by `new`, now and then with a first curve loaded, then with one that stays.
 fn opened(t: &mut Table, draw: &mut Draw) -> State {
+    let form = t.form;
     let k = draw.from(&[0, 1, 1, 2, 2, 3, 4, 5, 253, 254, 255]);
     let mut sheet = good(draw.below(5), draw.below(5), k, draw);
     let (mut lab, mut locks) = (sheet.lab.clone(), sheet.locks.clone());
@@ -616,6 +637,7 @@ fn opened(t: &mut Table, draw: &mut Draw) -> State {
         journal: (0..room).map(|_| draw.next() as u8).collect(),
         handle: Handle::FRESH,
         sheet,
+        form,
     };
     for _ in 0..1 + draw.below(2) {
         let values = any_fit(draw);
@@ -774,6 +796,11 @@ fn beside(t: &mut Table, st: &State, scratch: usize, draw: &mut Draw) {
 
 pub fn run(t: &mut Table) {
     colours(t);
+    histories(t);
+}
+
+/// The calls beside a history, in the table's form.
+pub fn histories(t: &mut Table) {
     readings(t);
     each_rule(t);
     refusals(t);

@@ -5,7 +5,7 @@
 
 use crate::draw::Draw;
 use crate::histories::{any_push, applied, our_push, our_redo, our_undo};
-use crate::journal::{self, Handle, State, NOWHERE};
+use crate::journal::{self, Form, Handle, State, NOWHERE};
 use crate::locks::any_edit_or_lock;
 use crate::sheet::*;
 use crate::sheets::Permitted;
@@ -58,9 +58,22 @@ fn both_ends(f: &mut Figures, st: &mut State, what: &dyn Fn() -> String) {
     while step(f, st, false, what) {}
 }
 
+/// Values past every journal here, at which sums may wrap.
+pub const WIDE: [usize; 9] = [
+    1 << 16,
+    1 << 32,
+    (1 << 61) - 1,
+    1 << 61,
+    (1 << 61) + 1,
+    1 << 63,
+    NOWHERE - 8,
+    NOWHERE - 1,
+    NOWHERE,
+];
+
 /// A history of some pushes of every kind, which stands at its end; of locks, too, from any marks on, where they are asked
 /// for.
-fn history(locks: bool, draw: &mut Draw) -> State {
+pub fn history(form: Form, locks: bool, draw: &mut Draw) -> State {
     let k = draw.from(&[2, 3, 4, 4, 254]);
     let mut sheet = good(1 + draw.below(4), 1 + draw.below(3), k, draw);
     if locks {
@@ -72,6 +85,7 @@ fn history(locks: bool, draw: &mut Draw) -> State {
     };
     let mut st = State {
         sheet,
+        form,
         journal: vec![0xee; 400],
         handle: Handle::FRESH,
     };
@@ -97,18 +111,21 @@ fn history(locks: bool, draw: &mut Draw) -> State {
 
 /// Prints the figures, and answers whether nothing differs.
 pub fn run() -> bool {
-    println!("Damage, no entry locked:");
-    let plain = histories(false, &mut Draw::new(10));
-    println!();
-    println!("Damage to journals that hold records of locks, from any marks on:");
-    plain & histories(true, &mut Draw::new(46))
+    let mut same = true;
+    for form in Form::BOTH {
+        println!("\nDamage, {form:?}, no entry locked:");
+        same &= histories(form, false, &mut Draw::new(10));
+        println!("\nDamage, {form:?}, to journals that hold records of locks, from any marks on:");
+        same &= histories(form, true, &mut Draw::new(46));
+    }
+    same
 }
 
-fn histories(locks: bool, draw: &mut Draw) -> bool {
+fn histories(form: Form, locks: bool, draw: &mut Draw) -> bool {
     let (mut bytes, mut fields) = (Figures::default(), Figures::default());
     let (mut histories, mut length, mut records) = (0, 0, 0);
     for _ in 0..16 {
-        let st = history(locks, draw);
+        let st = history(form, locks, draw);
         histories += 1;
         length += st.journal.len();
         records += st.handle.count;
@@ -129,19 +146,8 @@ fn histories(locks: bool, draw: &mut Draw) -> bool {
         let mut at = st;
         loop {
             let numbers = at.handle.numbers();
-            let wide = [
-                1 << 16,
-                1 << 32,
-                (1 << 61) - 1,
-                1 << 61,
-                (1 << 61) + 1,
-                1 << 63,
-                NOWHERE - 8,
-                NOWHERE - 1,
-                NOWHERE,
-            ];
             for field in 0..5 {
-                for value in (0..at.journal.len() + 9).chain(wide) {
+                for value in (0..at.journal.len() + 9).chain(WIDE) {
                     if value == numbers[field] {
                         continue;
                     }

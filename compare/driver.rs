@@ -11,6 +11,7 @@ mod curves;
 mod damage;
 mod draw;
 mod drawn;
+mod forms;
 mod histories;
 mod inputs;
 mod journal;
@@ -25,6 +26,7 @@ mod spell;
 mod table;
 mod tiled;
 
+use journal::Form;
 use std::sync::atomic::Ordering::Relaxed;
 use std::time::Instant;
 
@@ -42,6 +44,15 @@ fn main() {
     layers::run(&mut t);
     panel::run(&mut t);
     spell::run(&mut t);
+    t.form = Form::Places;
+    histories::run(&mut t);
+    locks::histories(&mut t);
+    curves::histories(&mut t);
+    layers::histories(&mut t);
+    for form in Form::BOTH {
+        t.form = form;
+        forms::run(&mut t);
+    }
     let same = t.print();
     println!();
     println!(
@@ -54,7 +65,6 @@ fn main() {
         sheets::DISTANCES.load(Relaxed),
         sheets::INFINITE.load(Relaxed)
     );
-    println!();
     let sound = damage::run();
     println!();
     println!("{:.0} seconds.", start.elapsed().as_secs_f64());

@@ -1,5 +1,5 @@
 //! Histories: push, undo, redo, mark and what is asked of a history, beside history.rs and op.rs, and beside document 01's
-//! ledger of whole pictures. Small journals, short scratch and damaged sheets are among them.
+//! ledger of whole pictures, in both forms of a journal. Small journals, short scratch and damaged sheets are among them.
 
 use crate::calls::*;
 use crate::curve::Curve;
@@ -33,6 +33,7 @@ pub fn our_push(st: &mut State, p: &Permitted, e: &Flat, list: &[u64], scratch: 
         e.index,
         &e.lab,
         list,
+        st.form.number(),
         &mut st.journal,
         &mut room,
         &mut n,
@@ -51,6 +52,7 @@ pub fn our_undo(st: &mut State) -> u8 {
         &mut s.lab,
         &mut s.indices,
         &mut s.locks,
+        st.form.number(),
         &st.journal,
         &mut n,
     );
@@ -70,6 +72,7 @@ pub fn our_redo(st: &mut State, scratch: usize) -> u8 {
         &mut s.locks,
         s.curve.loaded,
         &s.curve.values,
+        st.form.number(),
         &st.journal,
         &mut room,
         &mut n,
@@ -105,10 +108,19 @@ pub fn mark_saved(st: &State) -> Pair {
     };
     let mut expected = vec![no.into()];
     sizes(&mut expected, &Handle { saved, ..st.handle }.numbers());
-    let mut n = st.numbers();
-    let mut ours = vec![call_mark_saved(&st.journal, &mut n).into()];
-    sizes(&mut ours, &n[1..]);
+    let ours = in_either_form(st, |form| {
+        let mut n = st.numbers();
+        let no = call_mark_saved(form, &st.journal, &mut n);
+        truth(no, &n[1..])
+    });
     [expected, ours]
+}
+
+/// What is answered in the state's form, which is what is answered in the other.
+pub fn in_either_form(st: &State, call: impl Fn(u8) -> Vec<u64>) -> Vec<u64> {
+    let ours = call(st.form.number());
+    assert!(ours == call(st.form.other().number()), "the other form");
+    ours
 }
 
 fn truth(no: u8, r: &[usize]) -> Vec<u64> {
@@ -124,9 +136,12 @@ fn asked(st: &State, question: u8, yes: bool) -> Pair {
     } else {
         truth(no, &R)
     };
-    let mut r = R;
-    let told = call_asked(question, &st.journal, &st.numbers(), &mut r);
-    [expected, truth(told, &r)]
+    let ours = in_either_form(st, |form| {
+        let mut r = R;
+        let no = call_asked(question, form, &st.journal, &st.numbers(), &mut r);
+        truth(no, &r)
+    });
+    [expected, ours]
 }
 
 pub fn is_dirty(st: &State) -> Pair {
@@ -174,6 +189,7 @@ fn shown(st: &State, question: u8, number: usize, expected: Vec<u64>) -> Pair {
     let (mut b, mut f, mut r) = (BYTES, DOUBLES, R);
     let no = call_next(
         question,
+        st.form.number(),
         &st.journal,
         &st.numbers(),
         number,
@@ -187,8 +203,7 @@ fn shown(st: &State, question: u8, number: usize, expected: Vec<u64>) -> Pair {
 pub fn next_undo(st: &State) -> Pair {
     let h = st.handle;
     let expected = shown_or(st, h.position == 0, || {
-        journal::read_back(&st.journal, h.offset)
-            .filter(|r| journal::back(h, r).sound(st.journal.len()))
+        journal::read_back(st).filter(|r| journal::back(h, r).sound(st.journal.len()))
     });
     shown(st, NEXT_UNDO, 0, expected)
 }
@@ -196,7 +211,7 @@ pub fn next_undo(st: &State) -> Pair {
 pub fn next_redo(st: &State) -> Pair {
     let h = st.handle;
     let expected = shown_or(st, h.position == h.count, || {
-        journal::read_forth(&st.journal, h.offset, h.end)
+        journal::read_forth(st, h.offset, h.end)
             .filter(|r| journal::forth(h, r).sound(st.journal.len()))
     });
     shown(st, NEXT_REDO, 0, expected)
@@ -209,7 +224,7 @@ pub fn applied(st: &State, number: usize) -> Pair {
     let expected = shown_or(st, h.position <= number, || {
         let mut at = 0;
         for i in 0..=number {
-            let r = journal::read_forth(&st.journal, at, h.offset)?;
+            let r = journal::read_forth(st, at, h.offset)?;
             let (left, room) = (h.position - i - 1, h.offset - at - r.length);
             if room < 8 * left || (room == 0) != (left == 0) {
                 return None;
@@ -274,22 +289,24 @@ pub fn push(
     }
     let (mut history, mut doc) = (twin.0.clone(), twin.1.clone());
     doc.fixed = p.fixed();
-    let record = match edit.clone() {
+    let pushed = match edit.clone() {
         Edit::Op(op) => {
             match st.sheet.curve.under(|| history.push(&mut doc, op)) {
                 Err(told) => return kept(refusal(&told.0)),
                 Ok(pushed) => assert!(pushed),
             }
-            journal::record(history.next_undo().unwrap())
+            Edit::Op(history.next_undo().unwrap().clone())
         }
         Edit::Lock { index, .. } if index >= st.sheet.k => return kept(7),
         // the sheet's own mark is the old one
-        Edit::Lock { index, new, .. } => journal::record_of(&Edit::Lock {
+        Edit::Lock { index, new, .. } => Edit::Lock {
             index,
             old: st.sheet.locks[index],
             new,
-        }),
+        },
     };
+    // "'journal full' uses the lengths of the form in use"
+    let record = journal::record_of(st.form, st.sheet.w, &pushed);
     let h = st.handle;
     let end = h.offset + record.len();
     if end > st.journal.len() {
@@ -696,7 +713,7 @@ fn questions(t: &mut Table, st: &State, history: &History, draw: &mut Draw) {
             None => assert_eq!(pair[0][0], 255),
             Some(op) => {
                 let at = pair[0][2] as usize;
-                let record = journal::record(op);
+                let record = journal::record(st.form, st.sheet.w, op);
                 assert!(
                     st.journal[at..at + record.len()] == record[..],
                     "not the Rust's record"
@@ -712,7 +729,7 @@ fn questions(t: &mut Table, st: &State, history: &History, draw: &mut Draw) {
         for (number, op) in history.applied().iter().enumerate() {
             let [expected, ours] = applied(st, number);
             assert_eq!(expected[2], at as u64, "not where the record starts");
-            let record = journal::record(op);
+            let record = journal::record(st.form, st.sheet.w, op);
             assert!(
                 st.journal[at..at + record.len()] == record[..],
                 "not the Rust's applied record"
@@ -743,12 +760,31 @@ fn opening(draw: &mut Draw) -> Sheet {
 
 /// One history, call by call.
 fn session(t: &mut Table, draw: &mut Draw) {
+    let form = t.form;
     let sheet = opening(draw);
-    let room = draw.from(&[0, 7, 8, 9, 17, 18, 36, 60, 120, 300, 300, 700, 700, 2000]);
+    // of one change with its record, and one byte short of it
+    let one = 10 + form.stride();
+    let room = draw.from(&[
+        0,
+        7,
+        8,
+        9,
+        one - 1,
+        one,
+        36,
+        60,
+        120,
+        300,
+        300,
+        700,
+        700,
+        2000,
+    ]);
     let mut st = State {
         journal: (0..room).map(|_| draw.next() as u8).collect(),
         handle: Handle::FRESH,
         sheet,
+        form,
     };
     let mut fresh = [st.sheet.k, 1, 1, 1, 1, 1];
     call_fresh(&mut fresh);
@@ -795,6 +831,17 @@ fn session(t: &mut Table, draw: &mut Draw) {
                         no,
                         "the ledger's answer: {}",
                         about(&format!("{e:?} {list:x?}"))
+                    );
+                }
+                if no == 0 {
+                    tight(
+                        t,
+                        &before,
+                        (&history, &doc),
+                        &p,
+                        &e,
+                        &list,
+                        after.handle.end,
                     );
                 }
                 if let Some((h, d)) = twin {
@@ -869,8 +916,42 @@ fn session(t: &mut Table, draw: &mut Draw) {
     }
 }
 
+/// A push that is accepted, into a journal that ends where its record does, and into one that is a byte shorter.
+fn tight(
+    t: &mut Table,
+    before: &State,
+    twin: (&History, &Document),
+    p: &Permitted,
+    e: &Flat,
+    list: &[u64],
+    end: usize,
+) {
+    for (room, number) in [(end, 0), (end - 1, 14)] {
+        let mut st = before.clone();
+        st.journal.truncate(room);
+        // what is undone does not lie past the journal
+        st.handle = Handle {
+            end: st.handle.offset,
+            count: st.handle.position,
+            saved: NOWHERE,
+            ..st.handle
+        };
+        let scratch = st.sheet.w * st.sheet.h;
+        let (no, after, _) = push(&st, twin, p, e, list, scratch);
+        assert_eq!(no, number, "a record of its length");
+        let ours = our_push(&mut st, p, e, list, scratch);
+        t.tell(
+            "push, exact and one byte short",
+            &told(no, &after),
+            &told(ours, &st),
+            || format!("{e:?} {list:x?} in {room}, {:?}", st.form),
+        );
+    }
+}
+
 /// Pushes, replays, undos and redos on sheets and handles that are wrong from the start.
 fn wrong(t: &mut Table, draw: &mut Draw) {
+    let form = t.form;
     let sheet = any(draw);
     let journal = vec![3, 1, 2, 3, 8, 0, 0, 0, 3, 4, 5, 6, 8, 0, 0, 0, 0, 0, 0, 0];
     let handles = [
@@ -887,6 +968,7 @@ fn wrong(t: &mut Table, draw: &mut Draw) {
     ];
     let st = State {
         sheet,
+        form,
         journal,
         handle: Handle::of(draw.from(&handles)),
     };
@@ -947,6 +1029,7 @@ fn wrong(t: &mut Table, draw: &mut Draw) {
 
 /// The limits: 1,048,576 changes and one more, pushed and replayed; a journal of one byte too many.
 fn limits(t: &mut Table, draw: &mut Draw) {
+    let form = t.form;
     let sheet = good(3, 2, 2, draw);
     let e = Flat {
         bytes: [1, 5, 0, 0, 0, 0, 0, 0],
@@ -961,9 +1044,11 @@ fn limits(t: &mut Table, draw: &mut Draw) {
         let list: Vec<u64> = (0..n)
             .map(|i| (i % 3) as u64 + ((i % 2) as u64) * (1 << 48))
             .collect();
-        for room in [10 + 8 * n, 9 + 8 * n] {
+        let length = 10 + form.stride() * n;
+        for room in [length, length - 1] {
             let st = State {
                 sheet: sheet.clone(),
+                form,
                 journal: vec![0; room],
                 handle: Handle::FRESH,
             };
@@ -1028,7 +1113,7 @@ fn limits(t: &mut Table, draw: &mut Draw) {
             n
         ],
     };
-    let journal = journal::record(&op);
+    let journal = journal::record(form, sheet.w, &op);
     for (offset, position) in [(journal.len(), 1), (0, 0)] {
         let handle = Handle {
             offset,
@@ -1039,6 +1124,7 @@ fn limits(t: &mut Table, draw: &mut Draw) {
         };
         let mut st = State {
             sheet: sheet.clone(),
+            form,
             journal: journal.clone(),
             handle,
         };
@@ -1062,6 +1148,7 @@ fn limits(t: &mut Table, draw: &mut Draw) {
         let mut journal = vec![0u8; length];
         let mut s = sheet.clone();
         let (mut n, mut r, mut room) = ([s.k, 0, 0, 0, 0, 0], R, [0; 6]);
+        let f = form.number();
         let add = [3, 0, 0, 0, 0, 9, 9, 9];
         let ours = [
             (
@@ -1081,6 +1168,7 @@ fn limits(t: &mut Table, draw: &mut Draw) {
                     0,
                     &[0.0; 3],
                     &[],
+                    f,
                     &mut journal,
                     &mut room,
                     &mut n,
@@ -1095,6 +1183,7 @@ fn limits(t: &mut Table, draw: &mut Draw) {
                     &mut s.lab,
                     &mut s.indices,
                     &mut s.locks,
+                    f,
                     &journal,
                     &mut n,
                 ),
@@ -1110,28 +1199,34 @@ fn limits(t: &mut Table, draw: &mut Draw) {
                     &mut s.locks,
                     s.curve.loaded,
                     &s.curve.values,
+                    f,
                     &journal,
                     &mut room,
                     &mut n,
                 ),
             ),
-            ("mark_saved", call_mark_saved(&journal, &mut n)),
-            ("is_dirty", call_asked(IS_DIRTY, &journal, &n, &mut r)),
-            ("can_undo", call_asked(CAN_UNDO, &journal, &n, &mut r)),
-            ("can_redo", call_asked(CAN_REDO, &journal, &n, &mut r)),
+            ("mark_saved", call_mark_saved(f, &journal, &mut n)),
+            ("is_dirty", call_asked(IS_DIRTY, f, &journal, &n, &mut r)),
+            ("can_undo", call_asked(CAN_UNDO, f, &journal, &n, &mut r)),
+            ("can_redo", call_asked(CAN_REDO, f, &journal, &n, &mut r)),
         ];
         for (name, no) in ours {
             t.tell(name, &[expected], &[no.into()], || {
                 format!("a journal of {length} bytes")
             });
         }
-        let (mut b, mut f) = (BYTES, DOUBLES);
+        let (mut b, mut d) = (BYTES, DOUBLES);
         let looks = [
             ("next_undo", NEXT_UNDO),
             ("next_redo", NEXT_REDO),
             ("applied", APPLIED),
         ]
-        .map(|(name, q)| (name, call_next(q, &journal, &n, 0, &mut b, &mut f, &mut r)));
+        .map(|(name, q)| {
+            (
+                name,
+                call_next(q, f, &journal, &n, 0, &mut b, &mut d, &mut r),
+            )
+        });
         for ((name, no), within) in looks.into_iter().zip([0, 255, 0]) {
             let expected = if expected == 0 { within } else { 1 };
             t.tell(name, &[expected], &[no.into()], || {

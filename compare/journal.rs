@@ -1,10 +1,11 @@
-//! Document 01's journal, read from its text: the handle and when it is sound, the four forms of a record, and when a
+//! Document 01's journal, read from its text: the handle and when it is sound, the four kinds of a record, and when a
 //! record is sound to undo or redo. What a sound step does to the sheet is the Rust's `revert` and `apply`. The record of a
-//! lock, and what a step does to the lock marks, are document 02's, E5, read from its text.
+//! lock, and what a step does to the lock marks, are document 02's, E5, read from its text; so is the form with place
+//! numbers, E9.
 
 use crate::sheet::*;
 use pixelforge::config::Config;
-use pixelforge::editor::{Document, Op, Origin};
+use pixelforge::editor::{Document, Op, Origin, PixelChange};
 use pixelforge::pyjson::Json;
 
 /// A saved position that is none.
@@ -57,10 +58,88 @@ impl Handle {
     }
 }
 
+/// How a history's records hold a change: document 01's column and row, or document 02's place (E9). "A history is in
+/// one form throughout, which each core call on a journal is told".
+#[derive(Clone, Copy, Debug, Default, PartialEq, Eq)]
+pub enum Form {
+    #[default]
+    Coordinates,
+    Places,
+}
+
+impl Form {
+    pub const BOTH: [Form; 2] = [Form::Coordinates, Form::Places];
+
+    pub fn other(self) -> Form {
+        match self {
+            Form::Coordinates => Form::Places,
+            Form::Places => Form::Coordinates,
+        }
+    }
+
+    /// As ours is told it.
+    pub fn number(self) -> u8 {
+        u8::from(self == Form::Places)
+    }
+
+    /// The byte of document 01's kind: "17 for pixels and 20 for remove ..; other kinds do not change".
+    pub fn kind_byte(self, kind: u8) -> u8 {
+        match (self, kind) {
+            (Form::Places, 1) => 17,
+            (Form::Places, 4) => 20,
+            _ => kind,
+        }
+    }
+
+    /// Document 01's kind, or 5 for a lock, of a record's first byte; none for a kind of the other form.
+    pub fn kind(self, byte: u8) -> Option<u8> {
+        (1..=5).find(|&kind| self.kind_byte(kind) == byte)
+    }
+
+    /// The bytes of a change: "lengths 10+7n and 37+7n".
+    pub fn stride(self) -> usize {
+        match self {
+            Form::Coordinates => 8,
+            Form::Places => 7,
+        }
+    }
+
+    /// "place y × w + x in three bytes, then old and new in two each".
+    pub fn change_bytes(self, w: usize, c: &PixelChange) -> Vec<u8> {
+        let bytes = packed(c).to_le_bytes();
+        match self {
+            Form::Coordinates => bytes.to_vec(),
+            Form::Places => {
+                let place = (c.y * w + c.x).to_le_bytes();
+                [&place[..3], &bytes[4..]].concat()
+            }
+        }
+    }
+
+    /// The change of so many bytes, on a sheet of this width. Without a width every place is off the sheet.
+    pub fn change(self, w: usize, b: &[u8]) -> PixelChange {
+        let field = |at: usize| i64::from(i16::from_le_bytes([b[at], b[at + 1]]));
+        match self {
+            Form::Coordinates => unpacked(u64::from_le_bytes(b.try_into().unwrap())),
+            Form::Places => {
+                let place =
+                    usize::from(b[0]) + (usize::from(b[1]) << 8) + (usize::from(b[2]) << 16);
+                PixelChange {
+                    x: place.checked_rem(w).unwrap_or(place),
+                    y: place.checked_div(w).unwrap_or(0),
+                    old: field(3),
+                    new: field(5),
+                }
+            }
+        }
+    }
+}
+
 /// What the history's calls are lent.
 #[derive(Clone)]
 pub struct State {
     pub sheet: Sheet,
+    pub form: Form,
     pub journal: Vec<u8>,
     pub handle: Handle,
 }
@@ -90,10 +169,10 @@ impl State {
     }
 }
 
-/// An edit's record: "kind 5, index, old mark, new mark, length, 8 bytes" of a lock.
-pub fn record_of(e: &Edit) -> Vec<u8> {
+/// An edit's record on a sheet of this width: "kind 5, index, old mark, new mark, length, 8 bytes" of a lock.
+pub fn record_of(form: Form, w: usize, e: &Edit) -> Vec<u8> {
     match e {
-        Edit::Op(op) => record(op),
+        Edit::Op(op) => record(form, w, op),
         Edit::Lock { index, old, new } => {
             vec![5, *index as u8, u8::from(*old), u8::from(*new), 8, 0, 0, 0]
         }
@@ -101,11 +180,11 @@ pub fn record_of(e: &Edit) -> Vec<u8> {
 }
 
 /// The record of one of the Rust's edits.
-pub fn record(op: &Op) -> Vec<u8> {
+pub fn record(form: Form, w: usize, op: &Op) -> Vec<u8> {
     let mut to = Vec::new();
-    let changes = |to: &mut Vec<u8>, list: &[u64]| {
+    let changes = |to: &mut Vec<u8>, list: &[PixelChange]| {
         to.extend((list.len() as u32).to_le_bytes());
-        list.iter().for_each(|n| to.extend(n.to_le_bytes()));
+        list.iter().for_each(|c| to.extend(form.change_bytes(w, c)));
     };
     let lab = |to: &mut Vec<u8>, lab: &[f64; 3]| {
         lab.iter()
@@ -116,8 +195,8 @@ pub fn record(op: &Op) -> Vec<u8> {
             tool,
             changes: list,
         } => {
-            to.extend([1, tool.parse().unwrap()]);
-            changes(&mut to, &list_of(list));
+            to.extend([form.kind_byte(1), tool.parse().unwrap()]);
+            changes(&mut to, list);
         }
         Op::PaletteSet {
             index,
@@ -140,10 +219,10 @@ pub fn record(op: &Op) -> Vec<u8> {
             lab: old,
             remap,
         } => {
-            to.extend([4, *index as u8]);
+            to.extend([form.kind_byte(4), *index as u8]);
             to.extend(rgb);
             lab(&mut to, old);
-            changes(&mut to, &list_of(remap));
+            changes(&mut to, remap);
         }
     }
     let length = to.len() as u32 + 4;
@@ -165,22 +244,21 @@ fn four(b: &[u8], at: usize) -> Option<usize> {
     Some(u32::from_le_bytes(four.try_into().unwrap()) as usize)
 }
 
-/// The record at the front of some bytes, which start at `start` in the journal. Kind, count and length agree, or none; "a
-/// recorded mark other than 0 or 1 gets 4".
-fn read(b: &[u8], start: usize) -> Option<Read> {
-    let (count_at, fixed) = match *b.first()? {
+/// The record at the front of some bytes, which start at `start` in the journal of a sheet of this width. Kind, count and
+/// length agree, or none; "a recorded mark other than 0 or 1 gets 4".
+fn read(form: Form, w: usize, b: &[u8], start: usize) -> Option<Read> {
+    let kind = form.kind(*b.first()?)?;
+    let (count_at, fixed) = match kind {
         1 => (Some(2), 10),
         2 => (None, 36),
-        3 => (None, 8),
         4 => (Some(29), 37),
-        5 => (None, 8),
-        _ => return None,
+        _ => (None, 8),
     };
     let count = count_at.map_or(Some(0), |at| four(b, at))?;
-    if b[0] == 1 && count == 0 {
+    if kind == 1 && count == 0 {
         return None;
     }
-    let length = fixed + 8 * count;
+    let length = fixed + form.stride() * count;
     if length > b.len() || four(b, length - 4)? != length {
         return None;
     }
@@ -192,19 +270,19 @@ fn read(b: &[u8], start: usize) -> Option<Read> {
             ))
         })
     };
-    let list_at = length - 4 - 8 * count;
-    let list: Vec<u64> = b[list_at..length - 4]
-        .chunks_exact(8)
-        .map(|c| u64::from_le_bytes(c.try_into().unwrap()))
+    let list_at = length - 4 - form.stride() * count;
+    let changes: Vec<PixelChange> = b[list_at..length - 4]
+        .chunks_exact(form.stride())
+        .map(|c| form.change(w, c))
         .collect();
-    if b[0] == 5 && (b[2] > 1 || b[3] > 1) {
+    if kind == 5 && (b[2] > 1 || b[3] > 1) {
         return None;
     }
-    let op = match b[0] {
+    let op = match kind {
         5 => None,
         1 => Some(Op::Pixels {
             tool: b[1].to_string(),
-            changes: changes_of(&list),
+            changes,
         }),
         2 => Some(Op::PaletteSet {
             index: b[1].into(),
@@ -217,7 +295,7 @@ fn read(b: &[u8], start: usize) -> Option<Read> {
             index: b[1].into(),
             rgb: rgb(2),
             lab: lab(5),
-            remap: changes_of(&list),
+            remap: changes,
         }),
     };
     let lock = Edit::Lock {
@@ -234,16 +312,22 @@ fn read(b: &[u8], start: usize) -> Option<Read> {
     })
 }
 
-/// The record that ends at an offset.
-pub fn read_back(journal: &[u8], offset: usize) -> Option<Read> {
+/// The record that ends at the standing offset.
+pub fn read_back(st: &State) -> Option<Read> {
+    let (journal, offset) = (&st.journal, st.handle.offset);
     let length = four(journal, offset.checked_sub(4)?)?;
     let start = offset.checked_sub(length)?;
-    read(&journal[start..offset], start).filter(|r| r.length == length)
+    read(st.form, st.sheet.w, &journal[start..offset], start).filter(|r| r.length == length)
 }
 
 /// The record that starts at an offset, inside the bytes before an end.
-pub fn read_forth(journal: &[u8], offset: usize, end: usize) -> Option<Read> {
-    read(&journal[offset..end], offset)
+pub fn read_forth(st: &State, offset: usize, end: usize) -> Option<Read> {
+    read_at(st.form, st.sheet.w, &st.journal[..end], offset)
+}
+
+/// The same of the bytes of a journal.
+pub fn read_at(form: Form, w: usize, journal: &[u8], offset: usize) -> Option<Read> {
+    read(form, w, &journal[offset..], offset)
 }
 
 /// The handle one record back, or forth.
@@ -322,7 +406,7 @@ fn marks_undone(locks: &mut [bool], k: usize, e: &Edit) {
 /// the new mark".
 fn can_revert(doc: &Document, locks: &[bool], e: &Edit) -> bool {
     let k = doc.palette.len();
-    let inside = |c: &pixelforge::editor::PixelChange| c.x < doc.width() && c.y < doc.height();
+    let inside = |c: &PixelChange| c.x < doc.width() && c.y < doc.height();
     match e {
         Edit::Op(Op::Pixels { changes, .. }) => changes.iter().all(inside),
         Edit::Op(Op::PaletteSet { index, .. }) => *index < k,
@@ -350,7 +434,7 @@ pub fn undo(st: &State) -> (u8, State) {
     if st.handle.position == 0 {
         return kept(255);
     }
-    let Some(r) = read_back(&st.journal, st.handle.offset) else {
+    let Some(r) = read_back(st) else {
         return kept(4);
     };
     let handle = back(st.handle, &r);
@@ -371,6 +455,7 @@ pub fn undo(st: &State) -> (u8, State) {
             sheet,
             journal: st.journal.clone(),
             handle,
+            ..*st
         },
     )
 }
@@ -405,7 +490,7 @@ pub fn redo(st: &State, scratch: usize) -> (u8, State) {
     if scratch < st.sheet.w * st.sheet.h {
         return kept(16);
     }
-    let Some(mut r) = read_forth(&st.journal, st.handle.offset, st.handle.end) else {
+    let Some(mut r) = read_forth(st, st.handle.offset, st.handle.end) else {
         return kept(4);
     };
     let handle = forth(st.handle, &r);
@@ -424,6 +509,7 @@ pub fn redo(st: &State, scratch: usize) -> (u8, State) {
             sheet,
             journal: st.journal.clone(),
             handle,
+            ..*st
         },
     )
 }

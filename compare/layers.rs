@@ -776,6 +776,7 @@ fn expected_all(no: u8, twins: &[Twin]) -> Vec<u64> {
 
 /// One symbol, call by call.
 fn session(t: &mut Table, draw: &mut Draw) {
+    let form = t.form;
     let (w, h) = (draw.below(6), draw.below(6));
     let (n, count) = (w * h, 1 + draw.below(8));
     let mut twins: Vec<Twin> = (0..count)
@@ -788,6 +789,7 @@ fn session(t: &mut Table, draw: &mut Draw) {
                 ledger: Ledger::open(&sheet),
                 st: State {
                     sheet,
+                    form,
                     journal: noise(room, draw),
                     handle: Handle::FRESH,
                 },
@@ -856,6 +858,7 @@ fn session(t: &mut Table, draw: &mut Draw) {
                     e.index,
                     &e.lab,
                     &list,
+                    form.number(),
                     journal,
                     &mut room,
                     state,
@@ -868,7 +871,17 @@ fn session(t: &mut Table, draw: &mut Draw) {
                 twin.st = after;
                 assert_eq!(twin.history.undo(&mut twin.doc), no == 0, "the Rust's undo");
                 assert_eq!(twin.ledger.undo(), no, "the ledger's undo");
-                let told = call_undo(w, h, palette, lab, indices, locks, journal, state);
+                let told = call_undo(
+                    w,
+                    h,
+                    palette,
+                    lab,
+                    indices,
+                    locks,
+                    form.number(),
+                    journal,
+                    state,
+                );
                 (no, told)
             }
             7..=8 => {
@@ -889,6 +902,7 @@ fn session(t: &mut Table, draw: &mut Draw) {
                     locks,
                     curve.loaded,
                     &curve.values,
+                    form.number(),
                     journal,
                     &mut room,
                     state,
@@ -900,7 +914,7 @@ fn session(t: &mut Table, draw: &mut Draw) {
                 twin.st.handle.saved = twin.st.handle.position;
                 twin.history.mark_saved();
                 twin.ledger.mark();
-                (0, call_mark_saved(journal, state))
+                (0, call_mark_saved(form.number(), journal, state))
             }
         };
         ours.lent.sizes[3 * i + 2] = ours.states[i][0];
@@ -955,6 +969,11 @@ pub fn run(t: &mut Table) {
     refusals(t);
     any_symbols(t);
     large(t);
+    histories(t);
+}
+
+/// Sessions, in the table's form.
+pub fn histories(t: &mut Table) {
     let mut draw = Draw::new(36);
     for _ in 0..3_000 {
         session(t, &mut draw);

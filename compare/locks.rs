@@ -62,6 +62,7 @@ fn questions(t: &mut Table, st: &State, records: &[Vec<u8>], draw: &mut Draw) {
 
 /// One history from any marks on, call by call.
 fn session(t: &mut Table, draw: &mut Draw) {
+    let form = t.form;
     let k = draw.from(&[0, 1, 1, 2, 2, 3, 4, 5, 253, 254, 255]);
     let mut sheet = good(draw.below(5), draw.below(5), k, draw);
     sheet.locks = any_locks(MARKS, draw);
@@ -70,6 +71,7 @@ fn session(t: &mut Table, draw: &mut Draw) {
         journal: (0..room).map(|_| draw.next() as u8).collect(),
         handle: Handle::FRESH,
         sheet,
+        form,
     };
     let mut ledger = Ledger::open(&st.sheet);
     let mut records: Vec<Vec<u8>> = Vec::new();
@@ -196,6 +198,7 @@ fn any_record(k: usize, draw: &mut Draw) -> [u8; 8] {
 
 /// Undo, redo, replay, push and what is asked of a history, on any sheets with any marks and any lock records.
 fn any_state(t: &mut Table, draw: &mut Draw) {
+    let form = t.form;
     let sheet = any(draw).with_any_locks(draw);
     let k = sheet.k;
     let mut journal = [any_record(k, draw), any_record(k, draw)].concat();
@@ -211,6 +214,7 @@ fn any_state(t: &mut Table, draw: &mut Draw) {
     let handle = Handle::of(draw.from(&handles));
     let st = State {
         sheet,
+        form,
         journal,
         handle,
     };
@@ -346,6 +350,7 @@ fn any_sheet(t: &mut Table, draw: &mut Draw) {
 /// The smallest inputs of document 02's sentences: every sheet of one pixel or none with 0 to 2 entries, all marks, and of
 /// each every lock pushed, undone, redone and replayed, and every pair of marks recorded that a byte about 0 and 1 can be.
 fn tiny_locks(t: &mut Table) {
+    let form = t.form;
     let free = Permitted {
         limited: false,
         list: Vec::new(),
@@ -372,6 +377,7 @@ fn tiny_locks(t: &mut Table) {
                 for room in [7, 8] {
                     let mut st = State {
                         sheet: s.clone(),
+                        form,
                         journal: vec![BYTE; room],
                         handle: Handle::FRESH,
                     };
@@ -387,6 +393,7 @@ fn tiny_locks(t: &mut Table) {
                     let handle = Handle::of([8 * position, 8, position, 1, 0]);
                     let mut st = State {
                         sheet: s.clone(),
+                        form,
                         journal: journal.clone(),
                         handle,
                     };
@@ -420,6 +427,14 @@ fn tiny_locks(t: &mut Table) {
 }
 
 pub fn run(t: &mut Table) {
+    let mut draw = histories(t);
+    for _ in 0..15_000 {
+        any_sheet(t, &mut draw);
+    }
+}
+
+/// The calls of a history, in the table's form; what is drawn next comes back.
+pub fn histories(t: &mut Table) -> Draw {
     let mut draw = Draw::new(45);
     tiny_locks(t);
     for _ in 0..6_000 {
@@ -428,7 +443,5 @@ pub fn run(t: &mut Table) {
     for _ in 0..20_000 {
         any_state(t, &mut draw);
     }
-    for _ in 0..15_000 {
-        any_sheet(t, &mut draw);
-    }
+    draw
 }

@@ -4,7 +4,7 @@
 use crate::curve::Curve;
 use crate::draw::Draw;
 use crate::histories;
-use crate::journal::{self, Handle, State};
+use crate::journal::{self, Form, Handle, State};
 use crate::sheet::*;
 use crate::sheets::Permitted;
 use crate::table::Table;
@@ -84,6 +84,7 @@ pub fn opened(b: &[u8]) -> Result<Open, u8> {
             history: History::new(),
             st: State {
                 sheet,
+                form: Form::Coordinates,
                 journal: vec![0; JOURNAL],
                 handle: Handle::FRESH,
             },

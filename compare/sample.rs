@@ -1,12 +1,13 @@
 //! The lines that the program `test_sample` must print. Its inputs are dealt from seeds, here as in
 //! crates/test_inputs and crates/test_sample, and the answers are the ones that the comparison expects: document 01's
-//! checks, the Rust, E3's distances, E5's locks, and the Rust under E6's curves.
+//! checks, the Rust, E3's distances, E5's locks, the Rust under E6's curves, and E9's forms of a journal.
 
 use crate::curve::{Curve, VALUES};
 use crate::curves;
 use crate::drawn;
+use crate::forms::{self, Given};
 use crate::histories;
-use crate::journal::{self, Handle, State, NOWHERE};
+use crate::journal::{self, Form, Handle, State, NOWHERE};
 use crate::sheet::*;
 use crate::sheets::{self, Permitted};
 use crate::tiled;
@@ -17,7 +18,7 @@ use pixelforge::editor::History;
 const EACH: u64 = 60;
 const HISTORIES: u64 = 24;
 const STEPS: u64 = 60;
-const NAMES: [&str; 65] = [
+const NAMES: [&str; 66] = [
     "check",
     "with_lab",
     "new",
@@ -83,6 +84,7 @@ const NAMES: [&str; 65] = [
     "any_stray_below",
     "load_curve",
     "rgb8_to_lab_by",
+    "convert",
 ];
 
 // As in crates/test_inputs.
@@ -113,6 +115,14 @@ fn pick(x: u64, n: usize) -> usize {
 
 fn once_in(x: u64, n: usize) -> bool {
     pick(x, n) == 0
+}
+
+fn form(x: u64) -> Form {
+    if once_in(x, 2) {
+        Form::Places
+    } else {
+        Form::Coordinates
+    }
 }
 
 fn near(x: u64) -> i32 {
@@ -389,6 +399,7 @@ fn load_curve(sheet: Sheet, d: &Deck) -> Vec<u64> {
     });
     let st = State {
         sheet,
+        form: form(d[15]),
         journal: vec![0; 16],
         handle,
     };
@@ -487,11 +498,12 @@ fn loose(c: usize, d: &Deck) -> Vec<u64> {
 }
 
 fn call_of(x: u64) -> usize {
-    match pick(x, 24) {
+    match pick(x, 26) {
         0..=9 => 45,
         10..=12 => 46,
         13..=15 => 47,
-        n => n + 32,
+        n @ 16..=23 => n + 32,
+        _ => 65,
     }
 }
 
@@ -548,6 +560,10 @@ fn step(c: usize, d: &Deck, st: &mut State) -> Vec<u64> {
         52 => histories::next_undo(st),
         53 => histories::next_redo(st),
         54 => histories::applied(st, pick(d[21], 4)),
+        65 => {
+            let room = if once_in(d[26], 2) { 40 } else { 140 };
+            forms::convert(&Given::of(st), &vec![BYTE; room])
+        }
         _ => {
             let list = dealt(d[25], 2, change);
             let edit = flat(kind(d[23]), d);
@@ -565,6 +581,7 @@ fn history(seed: u64) {
     opened.locks[..opened.k].fill(false);
     let mut st = State {
         sheet: opened,
+        form: form(d[15]),
         journal: bytes_of(d[14], 120),
         handle: Handle::FRESH,
     };

@@ -1,5 +1,6 @@
 //! What was compared, call by call.
 
+use crate::journal::Form;
 use std::collections::BTreeMap;
 
 #[derive(Default)]
@@ -11,7 +12,9 @@ struct Row {
 
 #[derive(Default)]
 pub struct Table {
-    rows: Vec<(&'static str, Row)>,
+    /// The form of the histories that are compared; each has its own rows.
+    pub form: Form,
+    rows: Vec<((&'static str, Form), Row)>,
 }
 
 /// Differences shown of a call.
@@ -19,9 +22,10 @@ const SHOWN: u64 = 5;
 
 impl Table {
     fn row(&mut self, name: &'static str) -> &mut Row {
-        let at = self.rows.iter().position(|(n, _)| *n == name);
+        let key = (name, self.form);
+        let at = self.rows.iter().position(|(k, _)| *k == key);
         let at = at.unwrap_or_else(|| {
-            self.rows.push((name, Row::default()));
+            self.rows.push((key, Row::default()));
             self.rows.len() - 1
         });
         &mut self.rows[at].1
@@ -36,6 +40,7 @@ impl Table {
         ours: &[u64],
         what: impl FnOnce() -> String,
     ) {
+        let form = self.form;
         let row = self.row(name);
         row.compared += 1;
         if expected[0] != 0 && expected[0] != 255 {
@@ -45,7 +50,7 @@ impl Table {
             row.differing += 1;
             if row.differing <= SHOWN {
                 let at = expected.iter().zip(ours).position(|(a, b)| a != b);
-                println!("{name}: {}", what());
+                println!("{name}, {form:?}: {}", what());
                 println!(
                     "  expected number {}, ours {}; first other word {at:?} of {}",
                     expected[0],
@@ -68,14 +73,18 @@ impl Table {
         println!("| call | compared | refused, by number | differing |");
         println!("|---|---|---|---|");
         let (mut compared, mut refused, mut differing) = (0, 0, 0);
-        for (name, row) in &self.rows {
+        for ((name, form), row) in &self.rows {
+            let form = match form {
+                Form::Coordinates => "",
+                Form::Places => ", in places",
+            };
             let by: Vec<String> = row
                 .refused
                 .iter()
                 .map(|(no, n)| format!("{no}: {n}"))
                 .collect();
             println!(
-                "| `{name}` | {} | {} | {} |",
+                "| `{name}{form}` | {} | {} | {} |",
                 row.compared,
                 by.join(", "),
                 row.differing

@@ -19,7 +19,8 @@ TYPES = {
     'locks': 'bool',
     # an edit and the history
     'no': 'u8', 'edit': Enum('Edit'), 'kind': Enum('ListKind'), 'replay': Bool(), 'limited': Bool(), 'permitted': 'u8',
-    'loaded': Bool(), 'curve': 'f64', 'list': 'Change', 'journal': 'u8', 'offset': 'usize', 'handle': Struct('Handle'), 'marks': 'u8',
+    'loaded': Bool(), 'curve': 'f64', 'list': 'Change', 'form': Enum('Form'), 'journal': 'u8', 'offset': 'usize',
+    'handle': Struct('Handle'), 'marks': 'u8',
     # the tools
     'area': Enum('Area'), 's': Struct('Selection'), 'points': 'i32', 'size': 'usize', 'index': 'i16', 'filled': Bool(),
     'ax': 'i32', 'ay': 'i32', 'bx': 'i32', 'b-y': 'i32', 'x': 'i32', 'y': 'i32', 'dx': 'i32', 'dy': 'i32',
@@ -68,7 +69,7 @@ sheet specs Sheet sheetOf
 STATE_WORDS = words('''
 base specs Limits maxChanges maxJournal
 base specs Checks orElse firstOf
-color_curve specs Curve curveOf labBy CurveFits
+color_curve specs Curve curveOf srgb labBy CurveFits
 sheet specs Sheet sheetOf
 edit specs Change as flat
 edit specs List listOf emptyPixels
@@ -84,7 +85,7 @@ struct_edit specs Walk packedAll flatAll walkedOf putUpto paintUpto checkUpto ma
 history_ledger specs Journal pushOf pushed undoOf redoOf markOf
 history_ledger specs Calls Outcome
 history_model specs Document documentOf documentRest documentDone
-history_model specs Editing givenOf editingBy editing
+history_model specs Editing givenOf editingBy
 history_model specs Calls stateOf leaves Standing Acceptable outcomeOf
 history_model specs Replay replayChecks replayed replayOf
 history_model proofs ReplayChecks replayable
@@ -169,15 +170,15 @@ loop('struct_edit::check_list', parameters('no, kind, replay, w, h, k, &[indices
      step='checked-next %s marks i zero e' % CHECKS, end='stopped %s marks i n upto done' % CHECKS,
      fit='(n ≤ length list) × (no ≡ 0 → Checkable kind w h (length indices) (length marks))', uses=LISTED,
      story='The marks are lent to each check; the loop stops at the first that applies.')
-loop('struct_edit::put_list', parameters('kind, &mut [journal], offset, &[indices], w, &[list], n'), Unit(),
-     'journal′ ≡ putUpto kind offset w indices list journal n', list='list', count='n', index='i',
-     turn=Call('One', 'struct_edit::put_one', 'kind, lend journal, offset, i, indices, w, list[i]', Unit(),
-               'journal′ ≡ putOne kind offset i w indices (flatOf each) journal-now',
-               asked='PutsOne kind offset (length journal-now) i w (length indices) (flatOf each)',
-               why='puttable-at kind list i offset w (length indices) (lt-of-lt-of-le below (fit .0)) journal-kept (fit'
+loop('struct_edit::put_list', parameters('kind, form, &mut [journal], offset, &[indices], w, &[list], n'), Unit(),
+     'journal′ ≡ putUpto form kind offset w indices list journal n', list='list', count='n', index='i',
+     turn=Call('One', 'struct_edit::put_one', 'kind, form, lend journal, offset, i, indices, w, list[i]', Unit(),
+               'journal′ ≡ putOne form kind offset i w indices (flatOf each) journal-now',
+               asked='PutsOne form kind offset (length journal-now) i w (length indices) (flatOf each)',
+               why='puttable-at form kind list i offset w (length indices) (lt-of-lt-of-le below (fit .0)) journal-kept (fit'
                ' .1 (lt-of-le-of-lt zero-le below))'),
-     after={'journal': 'putUpto kind offset w indices list journal i'}, end='ap journal-at done',
-     fit='(n ≤ length list) × (0 < n → Puttable kind w (length indices) (length journal - offset) (flatAll list))',
+     after={'journal': 'putUpto form kind offset w indices list journal i'}, end='ap journal-at done',
+     fit='(n ≤ length list) × (0 < n → Puttable form kind w (length indices) (length journal - offset) (flatAll list))',
      uses=LISTED, story='The journal is lent to the writing of each change.')
 loop('struct_edit::paint_list', parameters('kind, &mut [indices], w, &[list], n'), Unit(),
      'indices′ ≡ paintUpto kind w list indices n', list='list', count='n', index='painted',
@@ -479,11 +480,11 @@ def stepping(name, path, by, said, end, own='', curve='', also=None):
     """`undo` and `redo`: what the call by value leaves is stored."""
     lends = [x for x in (own and 'give scratch',) if x]
     function('struct_history::moving::' + name,
-             parameters(LENT_DOCUMENT, *([curve] if curve else []), '&[journal], &mut handle', *([own] if own else [])),
+             parameters(LENT_DOCUMENT, *([curve] if curve else []), 'form, &[journal], &mut handle', *([own] if own else [])),
              ANSWER, said % ('leavesLent r w h k′ palette′ lab′ indices′ locks′ journal handle′ ≡ %s %s' % (by, STATE)),
              [Call('Step', path, ', '.join(
                  ['w, h, *k, give palette, give lab, give indices, give locks', *(['loaded, curve'] if curve else []),
-                  'journal, *handle', *lends]), MOVED,
+                  'form, journal, *handle', *lends]), MOVED,
                    'leavesLent (r .answer) w h (r .k) palette′ lab′ indices′ locks′ journal (r .handle) ≡ %s %s'
                    % (by.replace('(length scratch)', '(length scratch-now)'),
                       state('-now', 'k-now', 'handle-now', 'journal')),
@@ -493,13 +494,13 @@ def stepping(name, path, by, said, end, own='', curve='', also=None):
              ' returned is stored, and the borrows are closed at it.' % path)
 
 
-stepping('undo', 'history_undo::undo', 'undoOf editing', '%s', 'e₁')
-stepping('redo', 'history_redo::redo', 'redoOf (editingBy %s) (length scratch)' % SESSION,
+stepping('undo', 'history_undo::undo', 'undoOf (editingBy form srgb)', '%s', 'e₁')
+stepping('redo', 'history_redo::redo', 'redoOf (editingBy form %s) (length scratch)' % SESSION,
          '(%s) × (length scratch′ ≡ length scratch)', 'e₁, l₁-scratch', own='&mut [scratch: u8]', curve=CURVE,
          also='length scratch′ ≡ length scratch-now')
-function('struct_history::moving::mark_saved', parameters('&[journal], &mut handle'), ANSWER,
+function('struct_history::moving::mark_saved', parameters('form, &[journal], &mut handle'), ANSWER,
          'outcomeOf r handle′ ≡ markOf (length journal) handle',
-         [Call('Step', 'history::mark_saved', 'journal, *handle', MARKED, 'outcomeOf (r .answer) (r .handle) ≡ markOf'
+         [Call('Step', 'history::mark_saved', 'form, journal, *handle', MARKED, 'outcomeOf (r .answer) (r .handle) ≡ markOf'
                ' (length journal) handle-now', to='s'),
           Store('handle', 'handle'), Give('answer')], 'e₁', uses=STATE_WORDS,
          story='The borrow of the handle is opened and the handle copied out, `history::mark_saved` is called, what it'
@@ -612,20 +613,20 @@ PUSH_WORDS = STATE_WORDS + words('''
 struct_push_checks proofs Listed list-asks settle-asks numbered
 struct_push proofs Carrying puts-ask paints-ask finish-asks carried-out
 ''')
-ALL = ('%s (length marks) w h k palette lab indices locks journal handle limited permitted edit list r₁ e₁ r₂ %s (e₂'
-       ' (packedAll list) (length-map list packedOf))' % (SESSION, last(2, 15)))
-function('struct_push_checks::push_no', parameters(DOCUMENT, EDIT, '&[journal], handle, &mut [marks]'), Uint('u8'),
-         'PushNumbered %s (length marks) %s %s r' % (SESSION, STATE, GIVEN),
+ALL = ('form %s (length marks) w h k palette lab indices locks journal handle limited permitted edit list r₁ e₁ r₂ %s (e₂'
+       ' form (packedAll list) (length-map list packedOf))' % (SESSION, last(2, 15)))
+function('struct_push_checks::push_no', parameters(DOCUMENT, EDIT, 'form, &[journal], handle, &mut [marks]'), Uint('u8'),
+         'PushNumbered form %s (length marks) %s %s r' % (SESSION, STATE, GIVEN),
          [Len('n', 'list'), Len('size', 'journal'), Field('offset', 'handle', 'offset'), kind_of(),
           Call('Beginning', 'history_push_checks::begin', 'w, h, k, palette, lab, indices, locks, limited, permitted,'
                ' loaded, curve, edit, n, journal, handle, lend marks',
-               Uint('u8'), '(ns : List ℕ) → length ns ≡ n → Begun %s (length marks-now) %s (givenOf limited permitted edit'
+               Uint('u8'), '(f : Form) (ns : List ℕ) → length ns ≡ n → Begun f %s (length marks-now) %s (givenOf limited permitted edit'
                ' ns) r marks′' % (SESSION, STATE), to='begun'),
           checking('begun', 'false', 'list-asks %s (length %s) (l₂-marks)' % (ALL, last(2, 15))),
-          Call('Settling', 'history_push_checks::settle', 'checked, edit, n, w, h, indices, share marks, size, offset',
+          Call('Settling', 'history_push_checks::settle', 'checked, edit, n, w, h, indices, share marks, form, size, offset',
                Uint('u8'),
                '(cs : List flat.Change) → (checked ≡ 0 → MarksFor (listOf edit) w (w * h) cs marks-now) → r ≡ orElse'
-               ' (orElse checked (firstOf (leftChecks (bare w h 0 indices) (listOf edit) cs))) (fullNumber offset edit n'
+               ' (orElse checked (firstOf (leftChecks (bare w h 0 indices) (listOf edit) cs))) (fullNumber form offset edit n'
                ' size)', to='',
                asked='(checked ≡ 0 → Checkable (listOf edit) w h (length indices) (length marks-now)) × (checked ≡ 0 →'
                ' (n ≤ maxChanges) × (offset ≤ maxJournal))',
@@ -636,54 +637,54 @@ function('struct_push_checks::push_no', parameters(DOCUMENT, EDIT, '&[journal], 
 
 def carried(no, at):
     return ('(limited : Bool) (permitted : List ℕ) → leaves r w h palette′ lab′ indices′ locks′ journal′ ≡ pushedOr {0}'
-            ' (isStill {2}) {1} (pushed (editingBy {3}) {1} {2})'.format(no, at, GIVEN, SESSION))
+            ' (isStill {2}) {1} (pushed (editingBy form {3}) {1} {2})'.format(no, at, GIVEN, SESSION))
 
 
 def carries(no, at):
     return ('({0} ≡ 0 → Standing {1}) × ({0} ≡ 0 → emptyPixels (listOf edit) (length (flatAll list)) ≡ false → Acceptable'
-            ' {1} edit (flatAll list)) × ({0} ≡ 0 → CurveFits {2})'.format(no, at, SESSION))
+            ' form {1} edit (flatAll list)) × ({0} ≡ 0 → CurveFits {2})'.format(no, at, SESSION))
 
 
-EACH = 'w h k palette lab indices locks journal handle edit list r₁ e₁ no r₂ e₂ (fit .0) (fit .1)'
+EACH = 'form w h k palette lab indices locks journal handle edit list r₁ e₁ no r₂ e₂ (fit .0) (fit .1)'
 function('struct_push::recording::carry_out',
          parameters('no, w, h, k, &mut [palette], &mut [lab], &mut [indices], &mut [locks]', CURVE, 'edit, &[list],'
-                    ' &mut [journal], handle'),
+                    ' form, &mut [journal], handle'),
          MOVED, carried('no', STATE),
          [Len('n', 'list'), Field('offset', 'handle', 'offset'), kind_of(), walked(),
-          Call('Writing', 'struct_edit::put_list', 'kind, lend journal, offset, share indices, w, list, m', Unit(),
-               'journal′ ≡ putUpto kind offset w indices-now list journal-now m',
-               asked='(m ≤ length list) × (0 < m → Puttable kind w (length indices-now) (length journal-now - offset)'
+          Call('Writing', 'struct_edit::put_list', 'kind, form, lend journal, offset, share indices, w, list, m', Unit(),
+               'journal′ ≡ putUpto form kind offset w indices-now list journal-now m',
+               asked='(m ≤ length list) × (0 < m → Puttable form kind w (length indices-now) (length journal-now - offset)'
                ' (flatAll list))', why='puts-ask %s' % EACH),
           painting('paints-ask %s' % EACH),
           Call('Finishing', 'history_push::finish',
-               'no, k, give palette, give lab, give indices, give locks, loaded, curve, edit, n, give journal, handle', MOVED,
+               'no, k, give palette, give lab, give indices, give locks, loaded, curve, edit, n, form, give journal, handle', MOVED,
                '(w h : ℕ) → leaves r w h palette′ lab′ indices′ locks′ journal′ ≡ pushedOr no (emptyPixels (listOf edit)'
-               ' n) {0} (finished (labBy {1}) {0} edit n)'.format(state('-now'), SESSION),
-               to='', asked='(no ≡ 0 → emptyPixels (listOf edit) n ≡ false → Finishes k palette-now lab-now locks-now'
+               ' n) {0} (finished form (labBy {1}) {0} edit n)'.format(state('-now'), SESSION),
+               to='', asked='(no ≡ 0 → emptyPixels (listOf edit) n ≡ false → Finishes form k palette-now lab-now locks-now'
                ' journal-now handle edit n) × (no ≡ 0 → CurveFits %s)' % SESSION,
-               why='finish-asks %s %s (l₃-journal), fit .2' % (EACH, last(3, 1)))],
+               why='finish-asks %s %s (l₃-journal), fit .2' % (EACH, last(3, 2)))],
          'λ (limited : Bool) (permitted : List ℕ). e₅ w h ∙ carried-out %s %s limited permitted %s %s e₄ e₃'
-         % (EACH, SESSION, last(4, 1), last(3, 1)),
+         % (EACH, SESSION, last(4, 1), last(3, 2)),
          fit=carries('no', STATE), uses=PUSH_WORDS, story='Journal and indices are lent to the loops, and then given'
          ' to the last step.')
 
 function('struct_push::recording::push',
-         parameters(LENT_DOCUMENT, EDIT, '&mut [journal], &mut handle, &mut [scratch: u8]'), ANSWER,
-         '(leavesLent r w h k′ palette′ lab′ indices′ locks′ journal′ handle′ ≡ pushOf (editingBy %s) (length scratch)'
+         parameters(LENT_DOCUMENT, EDIT, 'form, &mut [journal], &mut handle, &mut [scratch: u8]'), ANSWER,
+         '(leavesLent r w h k′ palette′ lab′ indices′ locks′ journal′ handle′ ≡ pushOf (editingBy form %s) (length scratch)'
          ' %s %s) × (length scratch′ ≡ length scratch)' % (SESSION, STATE, GIVEN),
          [Deref('count', 'k'), Deref('held', 'handle'),
           Call('Numbering', 'struct_push_checks::push_no',
                'w, h, count, share palette, share lab, share indices, share locks, limited, permitted, loaded,'
-               ' curve, edit, list, share journal, held, lend scratch',
-               Uint('u8'), 'PushNumbered %s (length scratch-now) %s %s r' % (SESSION, CALLED, GIVEN), to='number'),
+               ' curve, edit, list, form, share journal, held, lend scratch',
+               Uint('u8'), 'PushNumbered form %s (length scratch-now) %s %s r' % (SESSION, CALLED, GIVEN), to='number'),
           Call('Carrying', 'struct_push::recording::carry_out',
-               'number, w, h, count, give palette, give lab, give indices, give locks, loaded, curve, edit, list, give journal,'
+               'number, w, h, count, give palette, give lab, give indices, give locks, loaded, curve, edit, list, form, give journal,'
                ' held', MOVED,
                carried('number', CALLED), to='s',
-               asked=carries('number', CALLED), why='(λ z. e₁ .stands z), (λ z t. e₁ .fine z t), λ z. number-fits %s (length scratch) %s %s r₁ (e₁ .value) z'
+               asked=carries('number', CALLED), why='(λ z. e₁ .stands z), (λ z t. e₁ .fine z t), λ z. number-fits form %s (length scratch) %s %s r₁ (e₁ .value) z'
                % (SESSION, STATE, GIVEN)),
           Store('k', 'k'), Store('handle', 'handle'), Give('answer')],
-         '(e₂ limited permitted ∙ push-is %s (length scratch) %s %s r₁ (e₁ .value), l₁-scratch)' % (SESSION, STATE, GIVEN),
+         '(e₂ limited permitted ∙ push-is form %s (length scratch) %s %s r₁ (e₁ .value), l₁-scratch)' % (SESSION, STATE, GIVEN),
          uses=PUSH_WORDS,
          story='The borrows of palette count and handle are opened and both copied out; sheet, marks and journal'
          ' are lent as `&` for the checks and then given.')
@@ -708,27 +709,27 @@ def marked(k, now=''):
 
 
 PENCIL = 'pencilCall %s area points 1 (pos 1) %s'
-UNLOADED = '(editingBy (curveOf false curve))'
+UNLOADED = '(editingBy form (curveOf false curve))'
 PUSHED = 'pushOf ' + UNLOADED + ' (length marks) (stateOf %s journal handle) (givenOf false permitted edit %s)'
 MAKING = 'r ≡ movedOf answer colors held'
 LEAVES = 'leaves r 6 4 palette′ lab′ indices′ locks′ journal′ ≡ '
 function(
     'example_structs::lent::recorded',
     parameters('k, &mut [palette], &mut [lab], &mut [indices], &mut [locks], &[permitted], &[curve], edit, &[list],'
-               ' &mut [journal], handle, &mut [marks]'), MOVED, LEAVES + PUSHED % (marked('k'), '(packedAll list)'),
+               ' form, &mut [journal], handle, &mut [marks]'), MOVED, LEAVES + PUSHED % (marked('k'), '(packedAll list)'),
     [Let('colors', 'k'), Let('held', 'handle'),
      Call('Pushing', 'editor::structs::push', '6usize, 4usize, &mut colors, give palette, give lab, give indices,'
-          ' give locks, false, permitted, false, curve, edit, list, give journal, &mut held, give marks', ANSWER,
+          ' give locks, false, permitted, false, curve, edit, list, form, give journal, &mut held, give marks', ANSWER,
           '(leavesLent r 6 4 colors′ palette′ lab′ indices′ locks′ journal′ held′ ≡ pushOf %s (length marks-now)'
           ' (stateOf %s journal-now held-now) (givenOf false permitted edit (packedAll list))) × (length marks′ ≡'
           ' length marks-now)' % (UNLOADED, marked('colors-now', '-now')), to='answer'),
      Call('Making', 'example_structs::lent::moved', 'answer, colors, held', MOVED, MAKING, to='')],
-    'ap (λ (m : Moved). leaves m 6 4 %s %s %s %s %s) e₂ ∙ e₁ .0' % tuple(last(1, i) for i in (3, 4, 5, 6, 13)),
+    'ap (λ (m : Moved). leaves m 6 4 %s %s %s %s %s) e₂ ∙ e₁ .0' % tuple(last(1, i) for i in (3, 4, 5, 6, 14)),
     uses=EXAMPLE, story='Palette count and handle are put into locals, which are lent to push.')
 function(
     'example_structs::lent::stroke',
     parameters('k, &mut [palette], &mut [lab], &mut [indices], &mut [locks], area, &[points], &mut [scratch],'
-               ' &[permitted], &[curve], edit, &mut [journal], handle, &mut [marks]'), MOVED,
+               ' &[permitted], &[curve], edit, form, &mut [journal], handle, &mut [marks]'), MOVED,
     LEAVES + PUSHED % (marked('k'), '(changesOf (%s blanks))' % (PENCIL % (small('k'), '(length scratch)'))),
     [Call('Blank', 'example_structs::lent::blank', '', Array('Change', 24), 'r ≡ replicate 24 noChange', to='list'),
      Call('Drawing', 'editor::structs::pencil', '6usize, 4usize, k, share palette, share lab, share indices, area,'
@@ -737,7 +738,7 @@ function(
           % (PENCIL % (small('k', '-now'), '(length scratch-now)')), to='drawn'),
      Call('Counting', 'example_structs::lent::count', 'drawn', USIZE, 'r ≡ countOf drawn', to='n'),
      Call('Recording', 'example_structs::lent::recorded', 'k, give palette, give lab, give indices, give locks, permitted,'
-          ' curve, edit, front list n, give journal, handle, give marks', MOVED,
+          ' curve, edit, front list n, form, give journal, handle, give marks', MOVED,
           LEAVES + 'pushOf ' + UNLOADED + ' (length marks-now) (stateOf %s journal-now handle) (givenOf false permitted edit'
           ' (packedAll list-now))' % marked('k', '-now'), to='',
           fits='subst (λ (l : List Change). r₃ ≤ length l) e₁ (drawn-fits %s area points 1 (pos 1) (length scratch) r₂'
@@ -755,12 +756,12 @@ def lent(name, call, by, own=(), curve=(), also=None):
         now, marked('colors-now', '-now'))
     function(
         'example_structs::lent::' + name,
-        parameters('k, &mut [palette], &mut [lab], &mut [indices], &mut [locks]', *curve, '&[journal], handle', *own), MOVED,
+        parameters('k, &mut [palette], &mut [lab], &mut [indices], &mut [locks]', *curve, 'form, &[journal], handle', *own), MOVED,
         'leaves r 6 4 palette′ lab′ indices′ locks′ journal ≡ %s (stateOf %s journal handle)' % (by, marked('k')),
         [Let('colors', 'k'), Let('held', 'handle'),
          Call('Step', 'editor::structs::' + call,
               ', '.join(['6usize, 4usize, &mut colors, give palette, give lab, give indices, give locks',
-                         *(['false, curve'] if curve else []), 'journal, &mut held', *(['give marks'] if own else [])]), ANSWER, '(%s)%s' % (said, also) if also else said, to='answer'),
+                         *(['false, curve'] if curve else []), 'form, journal, &mut held', *(['give marks'] if own else [])]), ANSWER, '(%s)%s' % (said, also) if also else said, to='answer'),
          Call('Making', 'example_structs::lent::moved', 'answer, colors, held', MOVED, MAKING, to='')],
         'ap (λ (m : Moved). leaves m 6 4 {0} {1} {2} {3} journal) e₂ ∙ e₁{4}'
         .format(*(last(1, i) for i in (3, 4, 5, 6)), ' .0' if also else ''), uses=EXAMPLE,
@@ -768,13 +769,13 @@ def lent(name, call, by, own=(), curve=(), also=None):
         ' returned.')
 
 
-lent('undone', 'undo', 'undoOf editing')
+lent('undone', 'undo', 'undoOf (editingBy form srgb)')
 lent('redone', 'redo', 'redoOf %s (length marks)' % UNLOADED, ['&mut [marks]'], ['&[curve]'],
      ' × (length marks′ ≡ length marks-now)')
-function('example_structs::lent::saved', parameters('&[journal], handle'), HANDLE,
+function('example_structs::lent::saved', parameters('form, &[journal], handle'), HANDLE,
          'r ≡ markOf (length journal) handle .leaves',
          [Let('held', 'handle'),
-          Call('Marking', 'editor::structs::mark_saved', 'journal, &mut held', ANSWER,
+          Call('Marking', 'editor::structs::mark_saved', 'form, journal, &mut held', ANSWER,
                'outcomeOf r held′ ≡ markOf (length journal) held-now', to='answer'),
           Return('held')],
          'ap (λ (o : Outcome Handle). o .leaves) e₁', uses=EXAMPLE,

@@ -87,7 +87,7 @@ denote.Index row place-is elem-out elem-back elem-put looks-slice shuts-slice op
 # the crate that declares a type
 DECLARED = {'Area': 'selection', 'Selection': 'selection', 'Shifted': 'selection', 'ListKind': 'edit'}
 TYPES = ['Edit', 'Change', 'Handle', 'Area', 'Selection', 'Counted', 'Shifted', 'Removed', 'Removal', 'MadeOp',
-         'Moved', 'Replayed', 'Marked', 'Answer', 'ListKind']
+         'Moved', 'Replayed', 'Marked', 'Answer', 'Form', 'ListKind']
 
 
 def words_of(text):

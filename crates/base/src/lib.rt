@@ -199,6 +199,13 @@ pub struct Change {
     pub new: i16,
 }
 
+// How the records of a history hold a change: column, row, old and new in two bytes each; or, document 02, E9, its
+// place in three, and old and new in two each. A history is in one form throughout.
+pub enum Form {
+    Coordinates,
+    Places,
+}
+
 // The saved position of a handle that has none.
 pub const NOWHERE: usize = 18_446_744_073_709_551_615;
 
@@ -224,6 +231,12 @@ pub struct Marked {
     pub handle: Handle,
 }
 
+// What `convert` answers, and the handle that it leaves.
+pub struct Converted {
+    pub answer: Answer,
+    pub handle: Handle,
+}
+
 // What `replay` answers, and the palette count after it.
 pub struct Replayed {
     pub answer: Answer,
@@ -237,7 +250,7 @@ pub enum Truth {
 }
 
 // What a look at a record answers: the edit, where its record starts and how long it is, and where its
-// changes start, 8 bytes each, and how many there are.
+// changes start, 8 bytes each in coordinates and 7 in places, and how many there are.
 pub enum Next {
     Record {
         edit: Edit,

@@ -1,11 +1,12 @@
 // Change request E6's calls under plain C names, for compare/ and bench/, in the manner of `c_exports`. What the
 // calls answer stands in their own contracts; of the wrappers it is proved that they are safe and end.
 use base::Triple;
+use c_flat::form_of;
 use c_flat::handle_of;
 use c_flat::rgb_of;
 use c_flat::tell_lab;
 
-// The palette count and the handle go in a list of six, as to `call_push`.
+// The palette count and the handle go in a list of six, as to `call_push`, and the journal's form is a number.
 #[no_mangle]
 pub extern "C" fn call_load_curve(
     w: usize,
@@ -13,13 +14,25 @@ pub extern "C" fn call_load_curve(
     palette: &[u8],
     lab: &mut [f64],
     indices: &[i16],
+    form: u8,
     journal: &[u8],
     state: &[usize; 6],
     curve: &[f64],
 ) -> u8 {
     let k = state[0];
     let handle = handle_of(state);
-    history_curve::load_curve(w, h, k, palette, lab, indices, journal, handle, curve).number()
+    history_curve::load_curve(
+        w,
+        h,
+        k,
+        palette,
+        lab,
+        indices,
+        form_of(form),
+        journal,
+        handle,
+        curve,
+    ).number()
 }
 
 #[no_mangle]

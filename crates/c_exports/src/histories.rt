@@ -1,22 +1,16 @@
-// The calls of `history`. The palette count and the handle's five numbers go in and come back in a list of six.
-use base::Handle;
+// The calls of `history`. The palette count and the handle's five numbers go in and come back in a list of six. A journal's
+// form is a number: 0 coordinates, else places.
 use base::Moved;
 use base::Next;
 use base::Truth;
 use c_flat::NO_EDIT;
 use c_flat::NONE;
 use c_flat::edit_of;
+use c_flat::form_of;
 use c_flat::handle_of;
 use c_flat::is_edit;
 use c_flat::tell_edit;
-
-fn tell_handle(handle: Handle, state: &mut [usize; 6]) {
-    state[1] = handle.offset;
-    state[2] = handle.end;
-    state[3] = handle.position;
-    state[4] = handle.count;
-    state[5] = handle.saved;
-}
+use c_flat::tell_handle;
 
 fn tell_moved(m: Moved, state: &mut [usize; 6]) -> u8 {
     let handle = m.handle;
@@ -47,6 +41,7 @@ pub extern "C" fn call_push(
     index: usize,
     doubles: &[f64; 3],
     list: &[u64],
+    form: u8,
     journal: &mut [u8],
     scratch: &mut [u8],
     state: &mut [usize; 6],
@@ -72,6 +67,7 @@ pub extern "C" fn call_push(
             curve,
             edit,
             list,
+            form_of(form),
             journal,
             handle,
             scratch,
@@ -88,13 +84,25 @@ pub extern "C" fn call_undo(
     lab: &mut [f64],
     indices: &mut [i16],
     locks: &mut [bool],
+    form: u8,
     journal: &[u8],
     state: &mut [usize; 6],
 ) -> u8 {
     let k = state[0];
     let handle = handle_of(state);
     tell_moved(
-        history::undo(w, h, k, palette, lab, indices, locks, journal, handle),
+        history::undo(
+            w,
+            h,
+            k,
+            palette,
+            lab,
+            indices,
+            locks,
+            form_of(form),
+            journal,
+            handle,
+        ),
         state,
     )
 }
@@ -109,6 +117,7 @@ pub extern "C" fn call_redo(
     locks: &mut [bool],
     loaded: bool,
     curve: &[f64],
+    form: u8,
     journal: &[u8],
     scratch: &mut [u8],
     state: &mut [usize; 6],
@@ -126,6 +135,7 @@ pub extern "C" fn call_redo(
             locks,
             loaded,
             curve,
+            form_of(form),
             journal,
             handle,
             scratch,
@@ -135,8 +145,8 @@ pub extern "C" fn call_redo(
 }
 
 #[no_mangle]
-pub extern "C" fn call_mark_saved(journal: &[u8], state: &mut [usize; 6]) -> u8 {
-    let m = history::mark_saved(journal, handle_of(state));
+pub extern "C" fn call_mark_saved(form: u8, journal: &[u8], state: &mut [usize; 6]) -> u8 {
+    let m = history::mark_saved(form_of(form), journal, handle_of(state));
     let handle = m.handle;
     let answer = m.answer;
     tell_handle(handle, state);
@@ -158,15 +168,16 @@ fn tell_truth(t: Truth, r: &mut [usize; 5]) -> u8 {
 #[no_mangle]
 pub extern "C" fn call_asked(
     question: u8,
+    form: u8,
     journal: &[u8],
     state: &[usize; 6],
     r: &mut [usize; 5],
 ) -> u8 {
     let handle = handle_of(state);
     let t = match question {
-        0 => history_queries::is_dirty(journal, handle),
-        1 => history_queries::can_undo(journal, handle),
-        _ => history_queries::can_redo(journal, handle),
+        0 => history_queries::is_dirty(form_of(form), journal, handle),
+        1 => history_queries::can_undo(form_of(form), journal, handle),
+        _ => history_queries::can_redo(form_of(form), journal, handle),
     };
     tell_truth(t, r)
 }
@@ -197,6 +208,7 @@ fn tell_next(n: Next, bytes: &mut [u8; 8], doubles: &mut [f64; 3], r: &mut [usiz
 #[no_mangle]
 pub extern "C" fn call_next(
     question: u8,
+    form: u8,
     journal: &[u8],
     state: &[usize; 6],
     number: usize,
@@ -206,9 +218,9 @@ pub extern "C" fn call_next(
 ) -> u8 {
     let handle = handle_of(state);
     let n = match question {
-        0 => history_queries::next_undo(journal, handle),
-        1 => history_queries::next_redo(journal, handle),
-        _ => history_queries::applied(journal, handle, number),
+        0 => history_queries::next_undo(form_of(form), journal, handle),
+        1 => history_queries::next_redo(form_of(form), journal, handle),
+        _ => history_queries::applied(form_of(form), journal, handle, number),
     };
     tell_next(n, bytes, doubles, r)
 }

@@ -1,7 +1,8 @@
-// Structs and enums as numbers in small arrays, and back, for `c_exports`, `c_tools` and `c_curve`. Of these
-// functions it is proved that they are safe and end.
+// Structs and enums as numbers in small arrays, and back, for `c_exports`, `c_tools`, `c_curve` and `c_convert`. Of
+// these functions it is proved that they are safe and end.
 use base::Counted;
 use base::Edit;
+use base::Form;
 use base::Got;
 use base::Handle;
 use base::Lab;
@@ -37,6 +38,23 @@ pub fn handle_of(state: &[usize; 6]) -> Handle {
         position: state[3],
         count: state[4],
         saved: state[5],
+    }
+}
+
+pub fn tell_handle(handle: Handle, state: &mut [usize; 6]) {
+    state[1] = handle.offset;
+    state[2] = handle.end;
+    state[3] = handle.position;
+    state[4] = handle.count;
+    state[5] = handle.saved;
+}
+
+// The form of a journal: 0 coordinates, else places.
+pub fn form_of(n: u8) -> Form {
+    if n == 0 {
+        Form::Coordinates
+    } else {
+        Form::Places
     }
 }
 

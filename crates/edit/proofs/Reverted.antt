@@ -24,7 +24,16 @@ use Rattle.edit.proofs.Entries.{palette-store, lab-store, set-length, r
 use Rattle.edit.proofs.Passed.{Passed, passed}
 use Rattle.edit.proofs.Removing.{remove-back}
 use Rattle.edit.proofs.Fits.{Long, shown-fits}
-use Rattle.edit.proofs.Redone.{redone-view}
+use Rattle.edit.proofs.Redone.{SameSize, redone-view}
+
+-- ---- no undo changes the size of a sheet
+pub reverted-size : (s : Sheet) (e : Edit) (cs : List Change) → SameSize s (reverted s e cs)
+unfolding reverted
+reverted-size s (Pixels tool) cs = record { w = refl; h = refl }
+reverted-size s (PaletteSet i old new lab) cs = record { w = refl; h = refl }
+reverted-size s (PaletteAdd c) cs = record { w = refl; h = refl }
+reverted-size s (PaletteRemove i c lab) cs = record { w = refl; h = refl }
+reverted-size s (PaletteLock i old new) cs = record { w = refl; h = refl }
 
 -- what undo makes of a sheet t, by the record of an edit of s
 pub record Undone (s t : Sheet) (locks : List Bool) (e : Edit) (cs : List Change) : Type 0 where

@@ -1,18 +1,17 @@
 -- A change that is not off the sheet stands in the picture, and so does one that is read out of a list of such. Assumes nothing.
 use mathlib.Core.Path.{_≡_}
 use mathlib.Core.Bool.{false}
-use mathlib.Core.List.{List, map}
+use mathlib.Core.List.{List}
 use Prim.Native.Nat.{ℕ, _*_, _<_}
 use borrow.Author.Tests.{leb-false, lt-leb}
 use lib.Dec.{leb}
-use lib.ListN.{length, getD}
 use Rattle.base.specs.Lists.{some}
 use Rattle.base.proofs.Scan.{or-left, or-right}
 use Rattle.base.proofs.Nowhere.{nowhere-weaker}
 use Rattle.sheet.proofs.Places as places
-use Rattle.edit.specs.Change.{Change, unpacked, place, outside}
+use Rattle.edit.specs.Change.{Change, place, outside}
 use Rattle.edit_pixels.specs.Inside.{past}
-use Rattle.edit_pixels.proofs.Unpacking.{none-unpacked}
+use Rattle.edit_pixels.proofs.Nth.{Nth, nth-not}
 
 module _ (w h n : ℕ) (e : n ≡ w * h) where
   pub inside : (c : Change) → outside w h c ≡ false → place w c < n
@@ -23,6 +22,6 @@ module _ (w h n : ℕ) (e : n ≡ w * h) where
   unfolding past
   none-past = nowhere-weaker (outside w h) (past w n) (λ c o. lt-leb n (place w c) (inside c o))
 
-pub inside-at : (w n : ℕ) (list : List ℕ) (i : ℕ) → some (past w n) (map unpacked list) ≡ false → i < length list → place w (unpacked (getD list i 0)) < n
+pub inside-at : (w n : ℕ) {cs : List Change} {i : ℕ} {c : Change} → some (past w n) cs ≡ false → Nth cs i c → place w c < n
 unfolding past
-inside-at w n list i e h = leb-false n (place w (unpacked (getD list i 0))) (none-unpacked (past w n) list i e h)
+inside-at w n {c = c} e a = leb-false n (place w c) (nth-not a (past w n) e)

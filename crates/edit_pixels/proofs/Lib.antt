@@ -5,5 +5,5 @@ pub mod Passing
 pub mod Targets
 pub mod Places
 pub mod Painting
-pub mod Unpacking
+pub mod Nth
 pub mod Fitting

@@ -11,10 +11,12 @@ use edit_pixels::old_of;
 use edit_pixels::place_of;
 ghost use mathlib.Core.Path.{_≡_};
 ghost use mathlib.Core.Bool.{_||_};
+ghost use mathlib.Core.List.{[], _∷_};
 ghost use Prim.Native.Nat.{ℕ, _*_, _<_, _≤_};
 ghost use lib.IntN.{pos, negsuc};
 ghost use lib.ListN.{length, set};
-ghost use Rattle.base.specs.Checks.{firstOf};
+ghost use Rattle.base.specs.Numbers.{badRemap};
+ghost use Rattle.base.specs.Checks.{_when_, firstOf};
 ghost use Rattle.base.specs.Ints.{eqZ};
 ghost use Rattle.sheet.specs.Sheet.{stray};
 ghost use Rattle.edit.specs.Change.{unpacked, place};
@@ -41,21 +43,33 @@ fn is_misdirected(w: usize, k: usize, index: usize, indices: &[i16], c: u64) -> 
     either(!here, either(!old, is_bad_target(new_of(c), index, k)))
 }
 
-// The number of the first check that applies to one change of a remap, or 0.
-pub fn move_no(w: usize, h: usize, k: usize, index: usize, indices: &[i16], c: u64) -> u8
-    requires { ⌜ (index ≤ 255) × (length (now indices) ≡ w * h) ⌝ }
-    ensures { λ r. ⌜ r ≡ firstOf (remapChecks (bare w h k (now (indices .entry))) index (unpacked c)) ⌝ }
+// Number 12 of a change that stands in the picture, or 0: then its place is marked in a scratch of a byte a pixel.
+pub fn mark_inside(
+    w: usize,
+    k: usize,
+    index: usize,
+    indices: &[i16],
+    marks: &mut [u8],
+    c: u64,
+) -> u8
+    requires { ⌜
+        (index ≤ 255) × (place w (unpacked c) < length (now indices)) × (length (now indices) ≤ length (now marks))
+        ⌝ }
+    ensures { λ r. ⌜
+        ((h : ℕ) → r
+        ≡ firstOf (badRemap when misdirected (bare w h k (now (indices .entry))) index (unpacked c) ∷ []))
+        × (now (marks .exit) ≡ whenNone r (set (now (marks .entry)) (place w (unpacked c)) 1) (now (marks .entry)))
+        ⌝ }
 {
-    if is_outside(w, h, c) {
-        return OFF_THE_SHEET;
-    }
     if is_misdirected(w, k, index, indices, c) {
         return BAD_REMAP;
     }
+    let p = place_of(w, c);
+    marks[p] = 1;
     0
 }
 
-// The same; the place of a change to which no check applies is marked in a scratch of a byte a pixel.
+// The number of the first check that applies to one change of a remap, or 0: then its place is marked.
 pub fn mark_move(
     w: usize,
     h: usize,
@@ -71,11 +85,8 @@ pub fn mark_move(
         × (now (marks .exit) ≡ whenNone r (set (now (marks .entry)) (place w (unpacked c)) 1) (now (marks .entry)))
         ⌝ }
 {
-    let no = move_no(w, h, k, index, indices, c);
-    if no != 0 {
-        return no;
+    if is_outside(w, h, c) {
+        return OFF_THE_SHEET;
     }
-    let p = place_of(w, c);
-    marks[p] = 1;
-    0
+    mark_inside(w, k, index, indices, marks, c)
 }

@@ -84,3 +84,5 @@ pub use history_queries::next_undo;
 // a maker's own curve: document 02, E6
 pub use color_curve::rgb8_to_lab_by;
 pub use history_curve::load_curve;
+// a journal from one form to the other: document 02, E9
+pub use history_convert::convert;

@@ -4,6 +4,7 @@
 // The program owns every buffer and lends it to the calls. A list of changes is numbers here, one of 64 bits a change.
 use base::Counted;
 use base::Edit;
+use base::Form;
 use base::Handle;
 use editor::fresh;
 use editor::is_dirty;
@@ -18,6 +19,9 @@ use example_print::show;
 use example_print::show_dirty;
 use selection::Area;
 ghost use Prim.Native.Nat.{_≤_};
+
+// How the history holds its changes, throughout: by column and row, 8 bytes each.
+const FORM: Form = Form::Coordinates;
 
 // A sheet with its history: what a program keeps from step to step.
 struct Drawing {
@@ -117,6 +121,7 @@ fn stroke(d: Drawing, points: &[i32]) -> Drawing {
         &[],
         edit,
         &list[0..n],
+        FORM,
         &mut journal,
         d.handle,
         &mut marks,
@@ -150,6 +155,7 @@ fn back(d: Drawing) -> Drawing {
         &mut lab,
         &mut indices,
         &mut locks,
+        FORM,
         &journal,
         d.handle,
     );
@@ -185,6 +191,7 @@ fn forth(d: Drawing) -> Drawing {
         &mut locks,
         false,
         &[],
+        FORM,
         &journal,
         d.handle,
         &mut marks,
@@ -206,7 +213,7 @@ fn forth(d: Drawing) -> Drawing {
 // The sheet as it is now is the one that was saved.
 fn save(d: Drawing) -> Drawing {
     let journal = d.journal;
-    let marked = mark_saved(&journal, d.handle);
+    let marked = mark_saved(FORM, &journal, d.handle);
     let handle = marked.handle;
     let mut saved = d;
     saved.handle = handle;
@@ -216,7 +223,7 @@ fn save(d: Drawing) -> Drawing {
 // Whether the sheet is another than the one that was saved.
 fn dirty(d: Drawing) {
     let journal = d.journal;
-    show_dirty(is_dirty(&journal, d.handle))
+    show_dirty(is_dirty(FORM, &journal, d.handle))
 }
 
 fn main() {

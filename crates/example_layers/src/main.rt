@@ -9,6 +9,7 @@ mod print;
 
 use base::Answer;
 use base::Edit;
+use base::Form;
 use base::Handle;
 use base::Lab;
 use base::Moved;
@@ -24,6 +25,9 @@ use layer::flatten;
 use layer::repaint;
 use print::draw;
 use print::show;
+
+// How each layer's history holds its changes, throughout: by column and row.
+const FORM: Form = Form::Coordinates;
 
 // A call of a history.
 enum Act {
@@ -73,11 +77,12 @@ fn act_on(
             &[],
             edit,
             &list,
+            FORM,
             journal,
             handle,
             &mut marks,
         ),
-        Act::Undo => undo(6, 4, 1, palette, lab, indices, locks, journal, handle),
+        Act::Undo => undo(6, 4, 1, palette, lab, indices, locks, FORM, journal, handle),
         Act::Redo => redo(
             6,
             4,
@@ -88,6 +93,7 @@ fn act_on(
             locks,
             false,
             &[],
+            FORM,
             journal,
             handle,
             &mut marks,

@@ -5,6 +5,7 @@ use base::Answer;
 use base::Change;
 use base::Counted;
 use base::Edit;
+use base::Form;
 use base::Handle;
 use base::Moved;
 use editor::structs::mark_saved;
@@ -17,14 +18,14 @@ ghost use mathlib.Core.Path.{_≡_};
 ghost use mathlib.Core.Bool.{false};
 ghost use lib.IntN.{pos};
 ghost use lib.ListN.{length, replicate};
-ghost use Rattle.color_curve.specs.Curve.{curveOf};
+ghost use Rattle.color_curve.specs.Curve.{curveOf, srgb};
 ghost use Rattle.sheet.specs.Sheet.{sheetOf};
 ghost use Rattle.change_list.specs.Listed.{countOf};
 ghost use Rattle.tool_draw.specs.Calls.{pencilCall};
 ghost use Rattle.struct_edit.specs.Walk.{packedAll};
 ghost use Rattle.history_ledger.specs.Journal.{pushOf, undoOf, redoOf, markOf};
 ghost use Rattle.history_model.specs.Document.{documentOf};
-ghost use Rattle.history_model.specs.Editing.{editingBy, editing, givenOf};
+ghost use Rattle.history_model.specs.Editing.{editingBy, givenOf};
 ghost use Rattle.history_model.specs.Calls.{stateOf, leaves};
 ghost use Rattle.example_structs.specs.Lent.{movedOf, blanks, changesOf, noChange};
 
@@ -69,6 +70,7 @@ fn recorded(
     curve: &[f64],
     edit: Edit,
     list: &[Change],
+    form: Form,
     journal: &mut [u8],
     handle: Handle,
     marks: &mut [u8],
@@ -78,7 +80,7 @@ fn recorded(
         documentOf 6 4 k (now (palette .entry)) (now (lab .entry)) (now (indices .entry)) (now (locks .entry)) in
         leaves r 6 4 (now (palette .exit)) (now (lab .exit)) (now (indices .exit)) (now (locks .exit))
         (now (journal .exit))
-        ≡ pushOf (editingBy (curveOf false (now (curve .entry)))) (length (now (marks .entry))) (stateOf document (now (journal .entry)) handle)
+        ≡ pushOf (editingBy form (curveOf false (now (curve .entry)))) (length (now (marks .entry))) (stateOf document (now (journal .entry)) handle)
         (givenOf false (now (permitted .entry)) edit (packedAll (now (list .entry))))
         ) ⌝ }
 {
@@ -98,6 +100,7 @@ fn recorded(
         curve,
         edit,
         list,
+        form,
         journal,
         &mut held,
         marks,
@@ -118,6 +121,7 @@ pub(crate) fn stroke(
     permitted: &[u8],
     curve: &[f64],
     edit: Edit,
+    form: Form,
     journal: &mut [u8],
     handle: Handle,
     marks: &mut [u8],
@@ -129,7 +133,7 @@ pub(crate) fn stroke(
         let drawn = pencilCall sheet area (now (points .entry)) 1 (pos 1) (length (now (scratch .entry))) blanks in
         leaves r 6 4 (now (palette .exit)) (now (lab .exit)) (now (indices .exit)) (now (locks .exit))
         (now (journal .exit))
-        ≡ pushOf (editingBy (curveOf false (now (curve .entry)))) (length (now (marks .entry))) (stateOf document (now (journal .entry)) handle)
+        ≡ pushOf (editingBy form (curveOf false (now (curve .entry)))) (length (now (marks .entry))) (stateOf document (now (journal .entry)) handle)
         (givenOf false (now (permitted .entry)) edit (changesOf drawn))
         ) ⌝ }
 {
@@ -159,6 +163,7 @@ pub(crate) fn stroke(
         curve,
         edit,
         &list[..n],
+        form,
         journal,
         handle,
         marks,
@@ -172,6 +177,7 @@ pub(crate) fn undone(
     lab: &mut [f64],
     indices: &mut [i16],
     locks: &mut [bool],
+    form: Form,
     journal: &[u8],
     handle: Handle,
 ) -> Moved
@@ -180,7 +186,7 @@ pub(crate) fn undone(
         documentOf 6 4 k (now (palette .entry)) (now (lab .entry)) (now (indices .entry)) (now (locks .entry)) in
         leaves r 6 4 (now (palette .exit)) (now (lab .exit)) (now (indices .exit)) (now (locks .exit))
         (now (journal .entry))
-        ≡ undoOf editing (stateOf document (now (journal .entry)) handle)
+        ≡ undoOf (editingBy form srgb) (stateOf document (now (journal .entry)) handle)
         ) ⌝ }
 {
     let mut colors = k;
@@ -193,6 +199,7 @@ pub(crate) fn undone(
         lab,
         indices,
         locks,
+        form,
         journal,
         &mut held,
     );
@@ -207,6 +214,7 @@ pub(crate) fn redone(
     indices: &mut [i16],
     locks: &mut [bool],
     curve: &[f64],
+    form: Form,
     journal: &[u8],
     handle: Handle,
     marks: &mut [u8],
@@ -216,7 +224,7 @@ pub(crate) fn redone(
         documentOf 6 4 k (now (palette .entry)) (now (lab .entry)) (now (indices .entry)) (now (locks .entry)) in
         leaves r 6 4 (now (palette .exit)) (now (lab .exit)) (now (indices .exit)) (now (locks .exit))
         (now (journal .entry))
-        ≡ redoOf (editingBy (curveOf false (now (curve .entry)))) (length (now (marks .entry))) (stateOf document (now (journal .entry)) handle)
+        ≡ redoOf (editingBy form (curveOf false (now (curve .entry)))) (length (now (marks .entry))) (stateOf document (now (journal .entry)) handle)
         ) ⌝ }
 {
     let mut colors = k;
@@ -231,6 +239,7 @@ pub(crate) fn redone(
         locks,
         false,
         curve,
+        form,
         journal,
         &mut held,
         marks,
@@ -239,10 +248,10 @@ pub(crate) fn redone(
 }
 
 // The handle once the sheet as it is now is the one that was saved.
-pub(crate) fn saved(journal: &[u8], handle: Handle) -> Handle
+pub(crate) fn saved(form: Form, journal: &[u8], handle: Handle) -> Handle
     ensures { λ r. ⌜ r ≡ markOf (length (now (journal .entry))) handle .leaves ⌝ }
 {
     let mut held = handle;
-    let answer = mark_saved(journal, &mut held);
+    let answer = mark_saved(form, journal, &mut held);
     held
 }

@@ -5,6 +5,7 @@
 mod lent;
 
 use base::Edit;
+use base::Form;
 use base::Handle;
 use editor::fresh;
 use editor::is_dirty;
@@ -13,6 +14,9 @@ use example_print::Step;
 use example_print::show;
 use example_print::show_dirty;
 use selection::Area;
+
+// How the history holds its changes, throughout: by place, 7 bytes each.
+const FORM: Form = Form::Places;
 
 // A sheet with its history: what a program keeps from step to step.
 struct Drawing {
@@ -68,6 +72,7 @@ fn stroke(d: Drawing, points: &[i32]) -> Drawing {
         b"",
         &[],
         Edit::Pixels { tool: 1 },
+        FORM,
         &mut journal,
         d.handle,
         &mut marks,
@@ -99,6 +104,7 @@ fn back(d: Drawing) -> Drawing {
         &mut lab,
         &mut indices,
         &mut locks,
+        FORM,
         &journal,
         d.handle,
     );
@@ -131,6 +137,7 @@ fn forth(d: Drawing) -> Drawing {
         &mut indices,
         &mut locks,
         &[],
+        FORM,
         &journal,
         d.handle,
         &mut marks,
@@ -152,7 +159,7 @@ fn forth(d: Drawing) -> Drawing {
 // The sheet as it is now is the one that was saved.
 fn save(d: Drawing) -> Drawing {
     let journal = d.journal;
-    let handle = lent::saved(&journal, d.handle);
+    let handle = lent::saved(FORM, &journal, d.handle);
     let mut saved = d;
     saved.handle = handle;
     saved
@@ -161,7 +168,7 @@ fn save(d: Drawing) -> Drawing {
 // Whether the sheet is another than the one that was saved.
 fn dirty(d: Drawing) {
     let journal = d.journal;
-    show_dirty(is_dirty(&journal, d.handle))
+    show_dirty(is_dirty(FORM, &journal, d.handle))
 }
 
 fn main() {

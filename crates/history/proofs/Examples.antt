@@ -25,7 +25,7 @@ use Rattle.history_model.specs.Editing.{tooLong, undoneBy}
 use Rattle.history.specs.Examples.{Examples}
 
 pub examples : Examples
-unfolding flatMap span climb odd units ofFields ofBits toBits size pixelChecks firstOf refusedOr lists.some unfit labAt eqZ view stray limitChecks permittedChecks markChecks indexChecks labChecks sheetChecks rgbAt unpacked place outside painted filledIn barred misdirected remapChecks named leftFrom headChecks changeChecks leftChecks ownChecks storage.storedBy storage.closedBy storage.reinsertedBy storage.lowered storage.raised locksDone locksBack bears filledEdit filledList filledChanges paintedList restDone redone reverted canRevert le unle leAt record-forms.changeBytes record-forms.labBytes record-forms.listBytes record-forms.bodyOf record-forms.recordLength record-forms.recordOf record-forms.rgbIn record-forms.doubleIn record-forms.labIn record-forms.changesIn record-forms.byKind record-forms.contents record-forms.closed record-forms.agreed record-forms.readForth record-forms.ofLength record-forms.readBack undoable clauses sound savedPosition play written pushed pushOf stepOver undoOf markOf emptyPixels tooLong undoneBy
+unfolding flatMap span climb odd units ofFields ofBits toBits size pixelChecks firstOf refusedOr lists.some unfit labAt eqZ view stray limitChecks permittedChecks markChecks indexChecks labChecks sheetChecks rgbAt unpacked place outside painted filledIn barred misdirected remapChecks named leftFrom headChecks changeChecks leftChecks ownChecks storage.storedBy storage.closedBy storage.reinsertedBy storage.lowered storage.raised locksDone locksBack bears filledEdit filledList filledChanges paintedList restDone redone reverted canRevert le unle leAt record-forms.changeBytes record-forms.labBytes record-forms.listBytes record-forms.bodyOf record-forms.recordLength record-forms.recordOf record-forms.rgbIn record-forms.doubleIn record-forms.labIn record-forms.changeIn record-forms.changesIn record-forms.byKind record-forms.contents record-forms.closed record-forms.agreed record-forms.readForth record-forms.ofLength record-forms.readBack undoable clauses sound savedPosition play written pushed pushOf stepOver undoOf markOf emptyPixels tooLong undoneBy
 examples =
     record {
       removed-done = refl;

@@ -1,5 +1,6 @@
-// The saved mark. It looks at no sheet.
+// The saved mark. It looks at no sheet; it is told the form as every call on a journal is (document 02, E9).
 use base::Answer;
+use base::Form;
 use base::Handle;
 use base::Marked;
 use history_ledger::marked;
@@ -10,7 +11,7 @@ ghost use Rattle.history_ledger.specs.Journal.{markOf};
 ghost use Rattle.history_model.specs.Calls.{outcomeOf};
 
 // Saves the standing position.
-pub fn mark_saved(journal: &[u8], handle: Handle) -> Marked
+pub fn mark_saved(_form: Form, journal: &[u8], handle: Handle) -> Marked
     ensures { λ r. ⌜ outcomeOf (r .answer) (r .handle) ≡ markOf (length (now (journal .entry))) handle ⌝ }
 {
     let no = handle_no(journal.len(), handle);

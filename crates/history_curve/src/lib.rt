@@ -2,6 +2,7 @@
 // on the session lends it to each call that takes a curve. It may be loaded only while the history has no records.
 use base::Answer;
 use base::BAD_SHEET;
+use base::Form;
 use base::Handle;
 use base::JOURNAL_DAMAGED;
 use base::JOURNAL_IN_USE;
@@ -55,7 +56,8 @@ fn load_no(
 }
 
 // Loads a curve: 1 to 4, 26 and 25, then the LAB of the k entries is worked out from its values. LAB storage past them
-// keeps, and so do handle and journal. A curve may be loaded again.
+// keeps, and so do handle and journal. A curve may be loaded again. The form is told as to every call on a journal
+// (document 02, E9).
 pub fn load_curve(
     w: usize,
     h: usize,
@@ -63,6 +65,7 @@ pub fn load_curve(
     palette: &[u8],
     lab: &mut [f64],
     indices: &[i16],
+    _form: Form,
     journal: &[u8],
     handle: Handle,
     curve: &[f64],

@@ -14,6 +14,7 @@ use Rattle.base.specs.Triples.{labAt}
 use Rattle.sheet.specs.Sheet.{Sheet}
 use Rattle.sheet.specs.Checks.{WellFormed}
 use Rattle.base.specs.declared.Edit.{Edit}
+use Rattle.base.specs.declared.Form.{Form}
 use Rattle.base.specs.declared.Edit.the-variants.{Pixels, PaletteSet, PaletteAdd, PaletteRemove, PaletteLock}
 use Rattle.edit.specs.Change.{Change}
 use Rattle.edit.specs.Apply.{filledEdit}
@@ -27,13 +28,13 @@ use Rattle.history_model.specs.Document.{Document}
 use Rattle.history_model.specs.Calls.{Acceptable}
 
 -- ---- the edit filled in has the same length
-pub filled-length : (s : Sheet) (locks : List Bool) (e : Edit) (n : ℕ) → recordLength (filledEdit s locks e) n ≡ recordLength e n
+pub filled-length : (form : Form) (s : Sheet) (locks : List Bool) (e : Edit) (n : ℕ) → recordLength form (filledEdit s locks e) n ≡ recordLength form e n
 unfolding recordLength filledEdit
-filled-length s locks (Pixels tool) n = refl
-filled-length s locks (PaletteSet i old new lab) n = refl
-filled-length s locks (PaletteAdd c) n = refl
-filled-length s locks (PaletteRemove i c lab) n = refl
-filled-length s locks (PaletteLock i old new) n = refl
+filled-length form s locks (Pixels tool) n = refl
+filled-length form s locks (PaletteSet i old new lab) n = refl
+filled-length form s locks (PaletteAdd c) n = refl
+filled-length form s locks (PaletteRemove i c lab) n = refl
+filled-length form s locks (PaletteLock i old new) n = refl
 
 -- ---- and can be written: a well-formed sheet's LAB is numbers
 a-number : (v : Float) → unfit v ≡ false → T (not (isNan v))
@@ -60,8 +61,8 @@ module _ (s : Sheet) (locks : List Bool) (f : WellFormed s) where
   by-kind (PaletteLock i old new) cs p = omega (arith, f .limits .k-small, p)
   by-kind (PaletteRemove i c lab) cs p = (omega (arith, f .limits .k-small, p .entry), numbers i (p .entry))
 
-pub framed : {st : State Document} {e : Edit} {cs : List Change} → WellFormed (st .sheet .sheet) → Acceptable st e cs → Framed (filledEdit (st .sheet .sheet) (st .sheet .locks) e)
-framed {st} {e} {cs} f a = by-kind (st .sheet .sheet) (st .sheet .locks) f e cs (passed false (st .sheet .sheet) (st .sheet .locks) (a .permitted) e cs (a .passes))
+pub framed : {form : Form} {st : State Document} {e : Edit} {cs : List Change} → WellFormed (st .sheet .sheet) → Acceptable form st e cs → Framed (filledEdit (st .sheet .sheet) (st .sheet .locks) e)
+framed {form} {st} {e} {cs} f a = by-kind (st .sheet .sheet) (st .sheet .locks) f e cs (passed false (st .sheet .sheet) (st .sheet .locks) (a .permitted) e cs (a .passes))
 
-pub not-refused : {st : State Document} {e : Edit} {cs : List Change} → Acceptable st e cs → Unrefused (st .sheet .sheet) e cs
-not-refused {st} a = record { replay = false; locks = st .sheet .locks; permitted = a .permitted; passes = a .passes }
+pub not-refused : {form : Form} {st : State Document} {e : Edit} {cs : List Change} → Acceptable form st e cs → Unrefused (st .sheet .sheet) e cs
+not-refused {form} {st} a = record { replay = false; locks = st .sheet .locks; permitted = a .permitted; passes = a .passes }

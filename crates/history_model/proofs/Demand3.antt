@@ -9,6 +9,7 @@ use mir.Facts.{sfits-toZ}
 use borrow.Author.Tests.{lt-leb}
 use lib.Dec.{T, lit<, leb}
 use lib.Ieee.{Float, binary64, fits}
+use Rattle.base.specs.declared.Form.{Form}
 use Rattle.base.specs.declared.Rgb.{Rgb}
 use Rattle.base.specs.Lists.{some}
 use Rattle.base.specs.Checks.{firstOf}
@@ -26,7 +27,7 @@ use Rattle.history_ledger.specs.Journal.{undoOf, stepOver}
 use Rattle.history_ledger.specs.Algebra.{WellFormedIn}
 use Rattle.history_ledger.specs.Demand.{TypedCall, TypedCalls}
 use Rattle.history_model.specs.Document.{documentChecks}
-use Rattle.history_model.specs.Editing.{editingBy, editing}
+use Rattle.history_model.specs.Editing.{TypedSheet, editingBy, editing}
 use Rattle.history_model.specs.Handed.{Byte, Double, Colour, rgbOf, HandedEdit, HandedSheet, HandedPush, sheetBy, editBy, callBy}
 use Rattle.history_model.specs.Handed.HandedEdit.{pixels, set, add, remove, lock}
 use Rattle.history_model.specs.Demand3.{Demand3}
@@ -81,18 +82,21 @@ unfolding some
 doubles-typed [] = refl
 doubles-typed (d ∷ l) = rw (double _ (d .in-64-bits), doubles-typed l)
 
+pub handed-typed : (lent : HandedSheet) → TypedSheet (sheetBy lent .sheet)
+handed-typed lent = record { palette = bytes-typed (lent .palette); lab = doubles-typed (lent .lab) }
+
 -- a handed sheet that none of 1 to 3 refuses
-pub handed-fits : (c : Curve) (lent : HandedSheet) → firstOf (documentChecks (sheetBy lent)) ≡ 0 → WellFormedIn (editingBy c) (sheetBy lent)
-handed-fits c lent passes = record { typed = record { palette = bytes-typed (lent .palette); lab = doubles-typed (lent .lab) }; passes = passes }
+pub handed-fits : (f : Form) (c : Curve) (lent : HandedSheet) → firstOf (documentChecks (sheetBy lent)) ≡ 0 → WellFormedIn (editingBy f c) (sheetBy lent)
+handed-fits f c lent passes = record { typed = handed-typed lent; passes = passes }
 
 pub demand-3 : Demand3
 unfolding view undoOf stepOver
 demand-3 =
     record {
       whole-history =
-          λ c fits lent passes shorter longer b b′ scratch scratch′ r r′ handed.
-          whole-history (editingBy c) (keeps c fits) (sheetBy lent) (handed-fits c lent passes)
+          λ f c fits lent passes shorter longer b b′ scratch scratch′ r r′ handed.
+          whole-history (editingBy f c) (keeps f c fits) (sheetBy lent) (handed-fits f c lent passes)
           shorter longer b b′ scratch scratch′ r r′ (map callBy handed) (calls-typed handed);
-      journal-full = λ c fits. full-exactly (editingBy c) (keeps c fits);
-      undo-alike = λ c st. refl;
+      journal-full = λ f c fits. full-exactly (editingBy f c) (keeps f c fits);
+      undo-alike = λ f c st. refl;
     }

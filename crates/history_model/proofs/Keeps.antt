@@ -13,6 +13,7 @@ use lib.Seq.{length-take-le}
 use Rattle.base.specs.Limits.{maxChanges}
 use Rattle.base.specs.Numbers.{journalFull}
 use Rattle.base.specs.Checks.{Check, firstOf}
+use Rattle.base.specs.declared.Form.{Form}
 use Rattle.base.specs.declared.Rgb.{Rgb}
 use Rattle.base.specs.declared.Lab.{Lab}
 use Rattle.base.specs.Lists as lists
@@ -88,6 +89,11 @@ count-shown : (s : Sheet) (p : Picture) → view s ≡ p → s .k ≡ p .k
 unfolding view
 count-shown s p e = ap (λ (q : Picture). q .k) e
 
+-- its places are of the same width before and after an edit
+same-width : (s t : Sheet) → view s ≡ view t → s .w ≡ t .w
+unfolding view
+same-width s t e = ap (λ (q : Picture). q .w) e
+
 -- ---- an empty list of pixels
 pub empty-short : (l : ListKind) (cs : List Change) → emptyPixels l (length cs) ≡ true → tooLong cs ≡ false
 unfolding emptyPixels tooLong
@@ -157,6 +163,14 @@ next-places curve p (PaletteAdd c) cs = refl
 next-places curve p (PaletteRemove i c lab) cs = refl
 next-places curve p (PaletteLock i old new) cs = refl
 
+next-width : (curve : Rgb → Lab) (s t : Sheet) (e : Edit) (cs : List Change) → view t ≡ nextPicture curve (view s) e cs → t .w ≡ s .w
+unfolding nextPicture view
+next-width curve s t (Pixels tool) cs v = ap (λ (q : Picture). q .w) v
+next-width curve s t (PaletteSet i old new lab) cs v = ap (λ (q : Picture). q .w) v
+next-width curve s t (PaletteAdd c) cs v = ap (λ (q : Picture). q .w) v
+next-width curve s t (PaletteRemove i c lab) cs v = ap (λ (q : Picture). q .w) v
+next-width curve s t (PaletteLock i old new) cs v = ap (λ (q : Picture). q .w) v
+
 -- ---- a curve that fits gives finite doubles of 64 bits
 finite-curve : (c : Curve) → CurveFits c → FiniteCurve (labBy c)
 finite-curve c f rgb h = by-finite c f rgb (omega (arith, h .r-byte)) (omega (arith, h .g-byte)) (omega (arith, h .b-byte))
@@ -165,7 +179,7 @@ pub double : (b : Bool) → T b → not b ≡ false
 double true h = refl
 double false h = absurd h
 
-doubles : (c : Curve) (rgb : Rgb) → lists.some (λ (v : Float). not (fits binary64 v)) (numbersOf (labBy c rgb)) ≡ false
+pub doubles : (c : Curve) (rgb : Rgb) → lists.some (λ (v : Float). not (fits binary64 v)) (numbersOf (labBy c rgb)) ≡ false
 unfolding lists.some
 doubles c rgb =
     let f = by-fits c rgb in
@@ -173,12 +187,12 @@ doubles c rgb =
     rw (double (fits binary64 (x .l)) (f .l), double (fits binary64 (x .a)) (f .a), double (fits binary64 (x .b)) (f .b))
 
 -- ---- in a session with such a curve
-module _ (session : Curve) (curve-fits : CurveFits session) where
+module _ (form : Form) (session : Curve) (curve-fits : CurveFits session) where
   abbrev curve : Rgb → Lab
   curve = labBy session
 
   abbrev A : algebra.Algebra
-  A = editingBy session
+  A = editingBy form session
 
   well-formed : {d : Document} → algebra.WellFormedIn A d → Marked (d .sheet) (d .locks)
   well-formed {d} f = marked (d .sheet) (d .locks) (f .passes)
@@ -204,11 +218,11 @@ module _ (session : Curve) (curve-fits : CurveFits session) where
           new-bytes = accepted .new-bytes;
         }
 
-    fit : Fit (filledEdit (d .sheet) (d .locks) (g .edit)) (filledChanges (d .sheet) (g .edit) (ownList (listOf (g .edit)) (g .changes)))
-    fit = recordable (d .sheet) (d .locks) (accepted .fits) (a .fits .typed) (g .edit) (g .changes) (a .not-empty) (a .not-long) (a .typed .changes-fit)
-
     passed-edit : Passed (d .sheet) (g .edit) (g .changes)
     passed-edit = passed false (d .sheet) (d .locks) (g .permitted) (g .edit) (g .changes) (accepted .unrefused)
+
+    fit : Fit form (d .sheet .w) (filledEdit (d .sheet) (d .locks) (g .edit)) (filledChanges (d .sheet) (g .edit) (ownList (listOf (g .edit)) (g .changes)))
+    fit = recordable (d .sheet) (d .locks) (accepted .fits) (a .fits .typed .lab) form (g .edit) (g .changes) passed-edit (a .not-empty) (a .not-long) (a .typed .changes-fit)
 
     -- its marks: 255, of so many entries
     marks : Marks (d .locks) (d .sheet .k)
@@ -250,11 +264,11 @@ module _ (session : Curve) (curve-fits : CurveFits session) where
       λ i. record { picture = p i; locks = l i }
 
   encode-length : (d : Document) (g : Given) → Accepts A d g
-      → length (recordOf (filledEdit (d .sheet) (d .locks) (g .edit)) (filledChanges (d .sheet) (g .edit) (g .changes))) ≡ recordLength (g .edit) (length (g .changes))
+      → length (recordOf form (d .sheet .w) (filledEdit (d .sheet) (d .locks) (g .edit)) (filledChanges (d .sheet) (g .edit) (g .changes))) ≡ recordLength form (g .edit) (length (g .changes))
   encode-length d g a =
-      ap length (own-record (d .sheet) (d .locks) (g .edit) (g .changes))
-      ∙ length-record (filledEdit (d .sheet) (d .locks) (g .edit)) (filledChanges (d .sheet) (g .edit) (ownList (listOf (g .edit)) (g .changes)))
-      ∙ own-length (d .sheet) (d .locks) (accepted a .fits) (a .fits .typed) (g .edit) (g .changes)
+      ap length (own-record form (d .sheet .w) (d .sheet) (d .locks) (g .edit) (g .changes))
+      ∙ length-record form (d .sheet .w) (filledEdit (d .sheet) (d .locks) (g .edit)) (filledChanges (d .sheet) (g .edit) (ownList (listOf (g .edit)) (g .changes)))
+      ∙ own-length (d .sheet) (d .locks) (accepted a .fits) (a .fits .typed .lab) form (g .edit) (g .changes)
 
   -- ---- its record, read from either end
   taken-back : (t : Document) (e : Edit) (cs : List Change) → canRevert (t .sheet) e cs ≡ true → bears (t .locks) e ≡ true → WellFormed (reverted (t .sheet) e cs)
@@ -279,7 +293,7 @@ module _ (session : Curve) (curve-fits : CurveFits session) where
       rw (le-leb _ maxChanges (own-count (d .sheet) (g .edit) (g .changes) (ltb-false maxChanges (length (g .changes)) h)), c)
 
   back-reads : (before : List ℕ) (d : Document) (g : Given) (t : Document) → Accepts A d g → algebra.WellFormedIn A t → shown t ≡ nextShown curve (shown d) (g .edit) (g .changes)
-      → Reads A (undoneBy t (readBack (before ++ recordOf (filledEdit (d .sheet) (d .locks) (g .edit)) (filledChanges (d .sheet) (g .edit) (g .changes))))) (recordLength (g .edit) (length (g .changes))) (shown d)
+      → Reads A (undoneBy t (readBack form (t .sheet .w) (before ++ recordOf form (d .sheet .w) (filledEdit (d .sheet) (d .locks) (g .edit)) (filledChanges (d .sheet) (g .edit) (g .changes))))) (recordLength form (g .edit) (length (g .changes))) (shown d)
   unfolding undoneBy
   back-reads before d g t a f v =
       let s = d .sheet in
@@ -301,10 +315,10 @@ module _ (session : Curve) (curve-fits : CurveFits session) where
         sheet = documentBack t e cs;
         reads =
             rw (
-              own-record s (d .locks) (g .edit) (g .changes),
-              read-back e cs before (fit a),
+              own-record form (s .w) s (d .locks) (g .edit) (g .changes),
+              ap (λ (n : ℕ). readBack form n (before ++ recordOf form (s .w) e cs)) (next-width curve s (t .sheet) (g .edit) (g .changes) pictures) ∙ read-back form (s .w) e cs before (fit a),
               taken-back t e cs (u .can) has (u .fits),
-              own-length s (d .locks) (accepted a .fits) (a .fits .typed) (g .edit) (g .changes),
+              own-length s (d .locks) (accepted a .fits) (a .fits .typed .lab) form (g .edit) (g .changes),
             );
         fits =
             record {
@@ -315,7 +329,7 @@ module _ (session : Curve) (curve-fits : CurveFits session) where
       }
 
   forth-reads : (after : List ℕ) (d : Document) (g : Given) (t : Document) → Accepts A d g → algebra.WellFormedIn A t → shown t ≡ shown d
-      → Reads A (redoneBy curve t (readForth (recordOf (filledEdit (d .sheet) (d .locks) (g .edit)) (filledChanges (d .sheet) (g .edit) (g .changes)) ++ after))) (recordLength (g .edit) (length (g .changes))) (nextShown curve (shown d) (g .edit) (g .changes))
+      → Reads A (redoneBy curve t (readForth form (t .sheet .w) (recordOf form (d .sheet .w) (filledEdit (d .sheet) (d .locks) (g .edit)) (filledChanges (d .sheet) (g .edit) (g .changes)) ++ after))) (recordLength form (g .edit) (length (g .changes))) (nextShown curve (shown d) (g .edit) (g .changes))
   unfolding redoneBy
   forth-reads after d g t a f v =
       let s = d .sheet in
@@ -332,10 +346,10 @@ module _ (session : Curve) (curve-fits : CurveFits session) where
         sheet = documentDone curve t e cs;
         reads =
             rw (
-              own-record s (d .locks) (g .edit) (g .changes),
-              read-forth e cs after (fit a),
+              own-record form (s .w) s (d .locks) (g .edit) (g .changes),
+              ap (λ (n : ℕ). readForth form n (recordOf form (s .w) e cs ++ after)) (same-width (t .sheet) s (ap (λ (p : Shown). p .picture) v)) ∙ read-forth form (s .w) e cs after (fit a),
               taken-forth d t g (a .not-long) (u .unrefused),
-              own-length s (d .locks) (accepted a .fits) (a .fits .typed) (g .edit) (g .changes),
+              own-length s (d .locks) (accepted a .fits) (a .fits .typed .lab) form (g .edit) (g .changes),
             );
         fits =
             record {
@@ -361,7 +375,7 @@ module _ (session : Curve) (curve-fits : CurveFits session) where
         make-shows = make-shows;
         paint-places = λ p g. next-places curve (p .picture) (g .edit) (g .changes);
         encode-length = encode-length;
-        size-least = λ g. size-least (g .edit) (length (g .changes));
+        size-least = λ g. size-least form (g .edit) (length (g .changes));
         back-reads = back-reads;
         forth-reads = forth-reads;
       }

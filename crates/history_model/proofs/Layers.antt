@@ -25,6 +25,6 @@ own-typed i (c ∷ handed) = go (eqb i (c .layer)) (own-typed i handed)
 
 pub demand-3-of-layers : Demand3OfLayers
 unfolding view
-demand-3-of-layers c fits lent i passes journals longer b b′ handed r scratch′ r′ =
-    own-histories (editingBy c) (keeps c fits) (λ j. sheetBy (lent j)) i (handed-fits c (lent i) passes) journals longer b b′
+demand-3-of-layers f c fits lent i passes journals longer b b′ handed r scratch′ r′ =
+    own-histories (editingBy f c) (keeps f c fits) (λ j. sheetBy (lent j)) i (handed-fits f c (lent i) passes) journals longer b b′
     (map callOn handed) (own-typed i handed) r scratch′ r′

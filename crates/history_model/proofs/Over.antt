@@ -6,6 +6,7 @@ use mathlib.Core.Option.{Option, none, some}
 use Prim.Native.Nat.{ℕ}
 use lib.ListN.{length}
 use Rattle.base.specs.declared.Edit.{Edit}
+use Rattle.base.specs.declared.Form.{Form}
 use Rattle.base.specs.declared.Handle.{Handle}
 use Rattle.edit.specs.Change.{Change}
 use Rattle.journal_record.specs.declared.Found.{Found}
@@ -23,7 +24,7 @@ use Rattle.history_model.specs.Calls.{stateOf}
 use Rattle.history_model.proofs.Steps.{over-none, over-not, over-unsound, over-done}
 
 -- a direction: what its search of the journal reads and answers, which records it takes, what it makes of the sheet and of the handle
-pub record Direction (st : State Document) : Type 0 where
+pub record Direction (form : Form) (st : State Document) : Type 0 where
   pub reading : Reading
   pub found : Found
   pub inside : ℕ → Bool
@@ -34,9 +35,9 @@ pub record Direction (st : State Document) : Type 0 where
   pub by-none : by none ≡ none
   pub by-some : (r : ℕ × Edit × List Change) → by (some r) ≡ taken (takes (r .1) (r .2)) (r .0) (makes (r .1) (r .2))
   pub nothing : found ≡ Unsound → reading ≡ none
-  pub searched : (kind start n count : ℕ) → found ≡ Record kind start n count → Searched (st .journal) reading kind start n count × (inside n ≡ true)
+  pub searched : (kind start n count : ℕ) → found ≡ Record kind start n count → Searched form (st .sheet .sheet .w) (st .journal) reading kind start n count × (inside n ≡ true)
 
-module _ {st : State Document} (d : Direction st) where
+module _ {form : Form} {st : State Document} (d : Direction form st) where
   abbrev step : Outcome (State Document)
   step = stepOver editing st (d .by (d .reading)) (d .inside) (d .stepped)
 
@@ -48,9 +49,9 @@ module _ {st : State Document} (d : Direction st) where
     edit = editAt (st .journal) kind start
 
     abbrev changes : List Change
-    changes = changesAt (st .journal) kind start count
+    changes = changesAt form (st .sheet .sheet .w) (st .journal) kind start count
 
-    pub step-lies : Lies (st .journal) kind start count
+    pub step-lies : Lies form (st .journal) kind start count
     step-lies = d .searched kind start n count found .0 .lies
 
     read : d .by (d .reading) ≡ taken (d .takes edit changes) n (d .makes edit changes)

@@ -10,6 +10,8 @@ use lib.Ieee.{Float, nan, binary64, fits}
 use lib.Ieee.Fits.{nan-fits}
 use lib.ListN.{length, getD, length-map}
 use Rattle.base.specs.Limits.{maxChanges}
+use Rattle.base.specs.declared.Form.{Form}
+use Rattle.base.specs.declared.Form.the-variants.{Coordinates, Places}
 use Rattle.base.specs.Lists.{some}
 use Rattle.base.proofs.Nowhere.{first-not, rest-not}
 use Rattle.base.specs.Triples.{labAt}
@@ -17,15 +19,18 @@ use Rattle.sheet.specs.Sheet.{Sheet}
 use Rattle.sheet.specs.Checks.{WellFormed}
 use Rattle.base.specs.declared.Edit.{Edit}
 use Rattle.base.specs.declared.Edit.the-variants.{Pixels, PaletteSet, PaletteAdd, PaletteRemove, PaletteLock}
-use Rattle.edit.specs.Change.{Change, place, filledIn}
+use Rattle.edit.specs.Change.{Change, place, outside, filledIn}
+use Rattle.edit.proofs.Passed.{Passed}
 use Rattle.edit.specs.declared.ListKind.{ListKind}
 use Rattle.edit.specs.declared.ListKind.the-variants.{NoList, PixelList, RemapList}
 use Rattle.edit.specs.List.{listOf, emptyPixels, filledList}
 use Rattle.edit.specs.Apply.{filledEdit, filledChanges}
 use Rattle.edit_pixels.proofs.Fitting.{pixel-fits}
-use Rattle.journal_write.specs.Fit.{FitChanges, FitLab, FitEdit, Fit}
+use Rattle.journal_write.specs.Fit.{FitChanges, FitPlaces, FitLab, FitEdit, Fit}
+use Rattle.journal_write.proofs.Placed.{fit-places}
 use Rattle.journal_record.specs.Record.{recordLength, recordOf, bodyOf}
-use Rattle.history_model.specs.Editing.{TypedSheet, tooLong}
+use Rattle.journal_record.proofs.Strides.{stride-most}
+use Rattle.history_model.specs.Editing.{tooLong}
 
 -- ---- the list of an edit that has one: set and add do not look at theirs
 abbrev pub ownList : ListKind → List Change → List Change
@@ -34,7 +39,7 @@ ownList PixelList cs = cs
 ownList (RemapList i) cs = cs
 
 -- ---- a sheet's numbers fit
-abbrev wide : Float → Bool
+abbrev pub wide : Float → Bool
 wide v = not (fits binary64 v)
 
 held-fits : (v : Float) → wide v ≡ false → T (fits binary64 v)
@@ -49,11 +54,16 @@ double-fits [] n e = nan-fits binary64
 double-fits (v ∷ l) zero e = held-fits v (first-not wide v l e)
 double-fits (v ∷ l) (suc n) e = double-fits l n (rest-not wide v l e)
 
-entry-fits : (s : Sheet) → TypedSheet s → (i : ℕ) → FitLab (labAt (s .lab) i)
+entry-fits : (s : Sheet) → some wide (s .lab) ≡ false → (i : ℕ) → FitLab (labAt (s .lab) i)
 unfolding labAt
-entry-fits s t i = record { l-fits = double-fits (s .lab) _ (t .lab); a-fits = double-fits (s .lab) _ (t .lab); b-fits = double-fits (s .lab) _ (t .lab) }
+entry-fits s t i = record { l-fits = double-fits (s .lab) _ t; a-fits = double-fits (s .lab) _ t; b-fits = double-fits (s .lab) _ t }
 
-module _ (s : Sheet) (locks : List Bool) (f : WellFormed s) (t : TypedSheet s) where
+no-places : (form : Form) (w : ℕ) → FitPlaces form w []
+unfolding FitPlaces
+no-places Coordinates w = tt
+no-places Places w = tt
+
+module _ (s : Sheet) (locks : List Bool) (f : WellFormed s) (t : some wide (s .lab) ≡ false) where
   -- ---- so do the olds that are filled in
   olds-fit : (cs : List Change) → FitChanges cs → FitChanges (map (filledIn (s .w) (s .indices)) cs)
   unfolding FitChanges filledIn
@@ -78,37 +88,56 @@ module _ (s : Sheet) (locks : List Bool) (f : WellFormed s) (t : TypedSheet s) w
   changes-fit (PaletteLock i old new) cs h = tt
   changes-fit (PaletteRemove i c lab) cs h = h
 
+  -- ---- and its places, which lie on the sheet
+  places-fit : (form : Form) (cs : List Change) → some (outside (s .w) (s .h)) cs ≡ false → FitPlaces form (s .w) cs
+  places-fit form cs on = fit-places form (s .w) (s .h) (f .limits .w-small) (f .limits .h-small) cs on
+
+  olds-places : (form : Form) (cs : List Change) → FitPlaces form (s .w) cs → FitPlaces form (s .w) (map (filledIn (s .w) (s .indices)) cs)
+  unfolding FitPlaces filledIn place
+  olds-places Coordinates cs h = tt
+  olds-places Places [] h = tt
+  olds-places Places (c ∷ cs) h = (h .0, olds-places Places cs (h .1))
+
+  changes-places : (form : Form) (e : Edit) (cs : List Change) → Passed s e cs → FitPlaces form (s .w) (filledChanges s e (ownList (listOf e) cs))
+  unfolding filledChanges filledList
+  changes-places form (Pixels tool) cs p = olds-places form cs (places-fit form cs (p .inside))
+  changes-places form (PaletteSet i old new lab) cs p = no-places form (s .w)
+  changes-places form (PaletteAdd c) cs p = no-places form (s .w)
+  changes-places form (PaletteLock i old new) cs p = no-places form (s .w)
+  changes-places form (PaletteRemove i c lab) cs p = places-fit form cs (p .remap .inside)
+
   -- ---- the length that 14 is tested with
-  pub own-length : (e : Edit) (cs : List Change) → recordLength (filledEdit s locks e) (length (filledChanges s e (ownList (listOf e) cs))) ≡ recordLength e (length cs)
+  pub own-length : (form : Form) (e : Edit) (cs : List Change) → recordLength form (filledEdit s locks e) (length (filledChanges s e (ownList (listOf e) cs))) ≡ recordLength form e (length cs)
   unfolding recordLength filledEdit filledChanges filledList
-  own-length (Pixels tool) cs = rw length-map
-  own-length (PaletteSet i old new lab) cs = refl
-  own-length (PaletteAdd c) cs = refl
-  own-length (PaletteLock i old new) cs = refl
-  own-length (PaletteRemove i c lab) cs = refl
+  own-length form (Pixels tool) cs = rw length-map
+  own-length form (PaletteSet i old new lab) cs = refl
+  own-length form (PaletteAdd c) cs = refl
+  own-length form (PaletteLock i old new) cs = refl
+  own-length form (PaletteRemove i c lab) cs = refl
 
-  short : (e : Edit) (n : ℕ) → n ≤ maxChanges → recordLength e n < 2 ^ 32
+  short : (form : Form) (e : Edit) (n : ℕ) → n ≤ maxChanges → recordLength form e n < 2 ^ 32
   unfolding recordLength
-  short (Pixels tool) n h = omega arith
-  short (PaletteSet i old new lab) n h = omega arith
-  short (PaletteAdd c) n h = omega arith
-  short (PaletteLock i old new) n h = omega arith
-  short (PaletteRemove i c lab) n h = omega arith
+  short form (Pixels tool) n h = omega (arith, stride-most form n)
+  short form (PaletteSet i old new lab) n h = omega arith
+  short form (PaletteAdd c) n h = omega arith
+  short form (PaletteLock i old new) n h = omega arith
+  short form (PaletteRemove i c lab) n h = omega (arith, stride-most form n)
 
-  pub recordable : (e : Edit) (cs : List Change) → emptyPixels (listOf e) (length cs) ≡ false → tooLong cs ≡ false → FitChanges cs → Fit (filledEdit s locks e) (filledChanges s e (ownList (listOf e) cs))
+  pub recordable : (form : Form) (e : Edit) (cs : List Change) → Passed s e cs → emptyPixels (listOf e) (length cs) ≡ false → tooLong cs ≡ false → FitChanges cs → Fit form (s .w) (filledEdit s locks e) (filledChanges s e (ownList (listOf e) cs))
   unfolding tooLong
-  recordable e cs some short-list fit =
+  recordable form e cs p some short-list fit =
       record {
         edit = edit-fits e cs some;
         changes = changes-fit e cs fit;
-        whole = rw (own-length e cs) (short e (length cs) (ltb-false maxChanges (length cs) short-list));
+        places = changes-places form e cs p;
+        whole = rw (own-length form e cs) (short form e (length cs) (ltb-false maxChanges (length cs) short-list));
       }
 
 -- ---- the record does not tell a list that the edit has not
-pub own-record : (s : Sheet) (locks : List Bool) (e : Edit) (cs : List Change) → recordOf (filledEdit s locks e) (filledChanges s e cs) ≡ recordOf (filledEdit s locks e) (filledChanges s e (ownList (listOf e) cs))
+pub own-record : (form : Form) (w : ℕ) (s : Sheet) (locks : List Bool) (e : Edit) (cs : List Change) → recordOf form w (filledEdit s locks e) (filledChanges s e cs) ≡ recordOf form w (filledEdit s locks e) (filledChanges s e (ownList (listOf e) cs))
 unfolding recordOf bodyOf recordLength filledEdit filledChanges filledList
-own-record s locks (Pixels tool) cs = refl
-own-record s locks (PaletteSet i old new lab) cs = refl
-own-record s locks (PaletteAdd c) cs = refl
-own-record s locks (PaletteRemove i c lab) cs = refl
-own-record s locks (PaletteLock i old new) cs = refl
+own-record form w s locks (Pixels tool) cs = refl
+own-record form w s locks (PaletteSet i old new lab) cs = refl
+own-record form w s locks (PaletteAdd c) cs = refl
+own-record form w s locks (PaletteRemove i c lab) cs = refl
+own-record form w s locks (PaletteLock i old new) cs = refl

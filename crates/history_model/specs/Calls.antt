@@ -10,6 +10,8 @@ use Rattle.base.specs.Limits.{maxChanges, maxJournal}
 use Rattle.base.specs.Checks.{Check, firstOf}
 use Rattle.base.specs.Answer.{answerTold}
 use Rattle.base.specs.declared.Answer.{Answer}
+use Rattle.base.specs.declared.Form.{Form}
+use Rattle.base.specs.declared.Form.the-variants.{Coordinates}
 use Rattle.color_curve.specs.Curve.{Curve, CurveFits}
 use Rattle.sheet.specs.Checks.{WellFormed}
 use Rattle.base.specs.declared.Edit.{Edit}
@@ -45,17 +47,18 @@ pub record Moves (st : State Document) (n : ℕ) : Type 0 where
   pub value : n ≡ firstOf (moveChecks editing st)
   pub fine : n ≡ 0 → Standing st
 
+-- none of these looks at a record, so that no form need be told
 pub record Enters (c : Curve) (st : State Document) (g : Given) (n : ℕ) : Type 0 where
-  pub value : n ≡ firstOf (entryChecks (editingBy c) st g)
+  pub value : n ≡ firstOf (entryChecks (editingBy Coordinates c) st g)
   pub fine : n ≡ 0 → Standing st
   pub curve-fits : n ≡ 0 → CurveFits c
 
 -- ---- a push that no check refuses
-pub record Acceptable (st : State Document) (e : Edit) (cs : List Change) : Type 0 where
+pub record Acceptable (f : Form) (st : State Document) (e : Edit) (cs : List Change) : Type 0 where
   pub permitted : Permitted
   pub passes : firstOf (ownChecks false (st .sheet .sheet) (st .sheet .locks) permitted e cs) ≡ 0
   pub short : length cs ≤ maxChanges
-  pub room : st .handle .offset + recordLength e (length cs) ≤ length (st .journal)
+  pub room : st .handle .offset + recordLength f e (length cs) ≤ length (st .journal)
 
 -- ---- what looks at no sheet: 1 and 4, of a journal of n bytes
 abbrev pub handleChecks : ℕ → Handle → List Check

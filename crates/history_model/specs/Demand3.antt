@@ -1,9 +1,10 @@
 -- DEMAND 3, the whole of it, for the calls of this repository. Proved: `demand-3` in proofs/Demand3.antt. Definitions
--- only. Assumes nothing. With A = `editingBy c`, c the curve of a session, `step A` at a push, an undo, a redo and a mark
--- is `pushOf A`, `undoOf A`, `redoOf A` and `markOf` (history_ledger/specs/Journal.antt): the contracts of `push`, `undo`,
--- `redo` and `mark_saved` say that answer, handle, sheet and journal are exactly theirs. `enter A`
--- (history_ledger/specs/Ledger.antt) is document 01's ledger. Sheets and calls are as a caller hands them in, in the
--- types that the code has for them (Handed.antt). Not loaded, c is sRGB's curve, which passes, and A is `editing`.
+-- only. Assumes nothing. With A = `editingBy f c`, f the form of a history and c the curve of its session, `step A` at a
+-- push, an undo, a redo and a mark is `pushOf A`, `undoOf A`, `redoOf A` and `markOf` (history_ledger/specs/Journal.antt):
+-- the contracts of `push`, `undo`, `redo` and `mark_saved` say that answer, handle, sheet and journal are exactly theirs.
+-- `enter A` (history_ledger/specs/Ledger.antt) is document 01's ledger. Sheets and calls are as a caller hands them in, in
+-- the types that the code has for them (Handed.antt). In document 01's form and not loaded, where c is sRGB's curve, which
+-- passes, A is `editing`.
 use mathlib.Core.Path.{_≡_}
 use mathlib.Core.Logic.{_↔_}
 use mathlib.Core.List.{List, map}
@@ -12,8 +13,9 @@ use lib.ListN.{length}
 use Rattle.base.specs.Limits.{maxJournal}
 use Rattle.base.specs.Numbers.{journalFull}
 use Rattle.base.specs.Checks.{firstOf}
+use Rattle.base.specs.declared.Form.{Form}
 use Rattle.base.specs.Answer.Told.{alone}
-use Rattle.color_curve.specs.Curve.{Curve, CurveFits}
+use Rattle.color_curve.specs.Curve.{Curve, srgb, CurveFits}
 use Rattle.history_ledger.specs.Calls.{Call, play, lend}
 use Rattle.history_ledger.specs.Journal.{State, opened, undoOf, step, stepLent}
 use Rattle.history_ledger.specs.Ledger.{begun, enter}
@@ -31,20 +33,21 @@ pub record Demand3 : Type 0 where
   -- standing picture and positions." Document 02, E5: any marks at the start; "A ledger picture includes the marks, which
   -- are compared afterwards too, and lock calls join the lists of calls as pushes". E6: "In a loaded session every call
   -- of a list gets the loaded curve, which stays constant, and the ledger uses it throughout": for every curve that fits.
-  pub whole-history : (c : Curve) → CurveFits c → (lent : HandedSheet)
+  -- E9: "both runs of demand 3 are in the same one": for either form.
+  pub whole-history : (f : Form) (c : Curve) → CurveFits c → (lent : HandedSheet)
       → let s = sheetBy lent in
       firstOf (documentChecks s) ≡ 0
       → (shorter longer : List ℕ) → length shorter ≤ length longer → length longer ≤ maxJournal
       → (scratch scratch′ : ℕ → ℕ) → ((i : ℕ) → s .sheet .w * s .sheet .h ≤ scratch i) → ((i : ℕ) → s .sheet .w * s .sheet .h ≤ scratch′ i)
       → (handed : List (Call HandedPush))
       → let calls = map callBy handed in
-      let first = play (stepLent (editingBy c)) (opened (editingBy c) s shorter) (lend scratch calls) in
+      let first = play (stepLent (editingBy f c)) (opened (editingBy f c) s shorter) (lend scratch calls) in
       let left = unstruck calls (first .answers) in
-      let second = play (stepLent (editingBy c)) (opened (editingBy c) s longer) (lend scratch′ left) in
-      let ledger = play (enter (editingBy c)) (begun (editingBy c) (shown s)) left in
-      SameHistory (editingBy c) (unstruck (first .answers) (first .answers)) first second ledger
+      let second = play (stepLent (editingBy f c)) (opened (editingBy f c) s longer) (lend scratch′ left) in
+      let ledger = play (enter (editingBy f c)) (begun (editingBy f c) (shown s)) left in
+      SameHistory (editingBy f c) (unstruck (first .answers) (first .answers)) first second ledger
   -- a call answers "journal full" exactly where it is a push and 14 is the first check to apply, empty pixel lists apart: in every state, reached or not
-  pub journal-full : (c : Curve) → CurveFits c → (scratch : ℕ) (st : State Document) (call : Call Given)
-      → (step (editingBy c) scratch st call .answer ≡ alone journalFull) ↔ FullCall (editingBy c) scratch st call
+  pub journal-full : (f : Form) (c : Curve) → CurveFits c → (scratch : ℕ) (st : State Document) (call : Call Given)
+      → (step (editingBy f c) scratch st call .answer ≡ alone journalFull) ↔ FullCall (editingBy f c) scratch st call
   -- undo takes no curve: what its contract says, with sRGB's, is so in every session
-  pub undo-alike : (c : Curve) (st : State Document) → undoOf (editingBy c) st ≡ undoOf editing st
+  pub undo-alike : (f : Form) (c : Curve) (st : State Document) → undoOf (editingBy f c) st ≡ undoOf (editingBy f srgb) st

@@ -11,6 +11,8 @@ use lib.ListN.{length}
 use Rattle.base.specs.Limits.{maxSide, maxEntries, maxChanges}
 use Rattle.base.specs.Numbers.{badSheet, strayIndex, unfitLab}
 use Rattle.base.specs.Checks.{Check, _when_, firstOf}
+use Rattle.base.specs.declared.Form.{Form}
+use Rattle.base.specs.declared.Form.the-variants.{Coordinates}
 use Rattle.base.specs.declared.Rgb.{Rgb}
 use Rattle.base.specs.declared.Lab.{Lab}
 use Rattle.base.specs.Lists as lists
@@ -82,10 +84,10 @@ unfoldable pub redoneBy : (Rgb → Lab) → Document → records.Reading → Opt
 redoneBy curve d none = none
 redoneBy curve d (some r) = taken (redoable (d .sheet) (d .locks) (r .1) (r .2)) (r .0) (documentDone curve d (r .1) (r .2))
 
--- with the curve of a session for the LAB of a colour: document 02, E6, "In a loaded session every call of a list gets the loaded curve, which stays
--- constant, and the ledger uses it throughout"
-abbrev pub editingBy : Curve → Algebra
-editingBy c =
+-- in the form of a history, and with the curve of a session for the LAB of a colour: document 02, E9, "A history is in one form throughout"; E6, "In a loaded
+-- session every call of a list gets the loaded curve, which stays constant, and the ledger uses it throughout"
+abbrev pub editingBy : Form → Curve → Algebra
+editingBy f c =
     record {
       Sheet = Document;
       Picture = Shown;
@@ -104,13 +106,13 @@ editingBy c =
       isEmpty = λ g. emptyPixels (listOf (g .edit)) (length (g .changes));
       isLong = λ g. tooLong (g .changes);
       make = λ d g. documentDone (labBy c) d (g .edit) (g .changes);
-      encode = λ d g. recordOf (filledEdit (d .sheet) (d .locks) (g .edit)) (filledChanges (d .sheet) (g .edit) (g .changes));
-      size = λ g. recordLength (g .edit) (length (g .changes));
-      back = λ bytes d. undoneBy d (readBack bytes);
-      forth = λ bytes d. redoneBy (labBy c) d (readForth bytes);
+      encode = λ d g. recordOf f (d .sheet .w) (filledEdit (d .sheet) (d .locks) (g .edit)) (filledChanges (d .sheet) (g .edit) (g .changes));
+      size = λ g. recordLength f (g .edit) (length (g .changes));
+      back = λ bytes d. undoneBy d (readBack f (d .sheet .w) bytes);
+      forth = λ bytes d. redoneBy (labBy c) d (readForth f (d .sheet .w) bytes);
       paint = λ p g. nextShown (labBy c) p (g .edit) (g .changes);
     }
 
--- with document 01's
+-- document 01's: its records, and sRGB's curve
 abbrev pub editing : Algebra
-editing = editingBy srgb
+editing = editingBy Coordinates srgb

@@ -8,6 +8,7 @@ use Prim.Native.Nat.{ℕ, _*_, _≤_}
 use lib.ListN.{length}
 use Rattle.base.specs.Limits.{maxJournal}
 use Rattle.base.specs.Checks.{firstOf}
+use Rattle.base.specs.declared.Form.{Form}
 use Rattle.base.specs.Lists.{All}
 use Rattle.color_curve.specs.Curve.{Curve, CurveFits}
 use Rattle.history_ledger.specs.Calls.{Call, Lent, play, lend}
@@ -34,7 +35,7 @@ callOn c = record { layer = c .layer; call = record { call = callBy (c .call .ca
 -- have one curve.
 abbrev pub Demand3OfLayers : Type 0
 Demand3OfLayers =
-    (c : Curve) → CurveFits c → (lent : ℕ → HandedSheet) (i : ℕ)
+    (f : Form) (c : Curve) → CurveFits c → (lent : ℕ → HandedSheet) (i : ℕ)
     → let s = sheetBy (lent i) in
     firstOf (documentChecks s) ≡ 0
     → (journals : ℕ → List ℕ) (longer : List ℕ) → length (journals i) ≤ length longer → length longer ≤ maxJournal
@@ -43,9 +44,9 @@ Demand3OfLayers =
     let own = callsOn i calls in
     All (λ call. s .sheet .w * s .sheet .h ≤ call .room) own
     → (scratch′ : ℕ → ℕ) → ((n : ℕ) → s .sheet .w * s .sheet .h ≤ scratch′ n)
-    → let opening : ℕ → State Document = λ j. opened (editingBy c) (sheetBy (lent j)) (journals j) in
-    let first = partOf i calls (play (layered (stepLent (editingBy c))) opening calls) in
+    → let opening : ℕ → State Document = λ j. opened (editingBy f c) (sheetBy (lent j)) (journals j) in
+    let first = partOf i calls (play (layered (stepLent (editingBy f c))) opening calls) in
     let left = unstruck (callsIn own) (first .answers) in
-    let second = play (stepLent (editingBy c)) (opened (editingBy c) s longer) (lend scratch′ left) in
-    let ledger = play (enter (editingBy c)) (begun (editingBy c) (shown s)) left in
-    SameHistory (editingBy c) (unstruck (first .answers) (first .answers)) first second ledger
+    let second = play (stepLent (editingBy f c)) (opened (editingBy f c) s longer) (lend scratch′ left) in
+    let ledger = play (enter (editingBy f c)) (begun (editingBy f c) (shown s)) left in
+    SameHistory (editingBy f c) (unstruck (first .answers) (first .answers)) first second ledger

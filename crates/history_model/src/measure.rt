@@ -1,17 +1,19 @@
 // How long a record is.
 use base::Edit;
+use base::Form;
+use journal_record::list_bytes;
 ghost use mathlib.Core.Path.{_≡_};
 ghost use Prim.Native.Nat.{_≤_};
 ghost use Rattle.base.specs.Limits.{maxChanges};
 ghost use Rattle.journal_record.specs.Record.{recordLength};
 
 // The bytes of an edit's record with n changes.
-pub fn record_length(edit: Edit, n: usize) -> usize
+pub fn record_length(form: Form, edit: Edit, n: usize) -> usize
     requires { ⌜ n ≤ maxChanges ⌝ }
-    ensures { λ r. ⌜ r ≡ recordLength edit n ⌝ }
+    ensures { λ r. ⌜ r ≡ recordLength form edit n ⌝ }
 {
     match edit {
-        Edit::Pixels { tool: _ } => 10 + 8 * n,
+        Edit::Pixels { tool: _ } => 10 + list_bytes(form, n),
         Edit::PaletteSet {
             index: _,
             old: _,
@@ -23,7 +25,7 @@ pub fn record_length(edit: Edit, n: usize) -> usize
             index: _,
             rgb: _,
             lab: _,
-        } => 37 + 8 * n,
+        } => 37 + list_bytes(form, n),
         Edit::PaletteLock {
             index: _,
             old: _,

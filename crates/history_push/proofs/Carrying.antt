@@ -15,6 +15,7 @@ use Rattle.base.proofs.Back.{never}
 use Rattle.color_curve.specs.Curve.{Curve, labBy}
 use Rattle.sheet.specs.Sheet.{Sheet, sheetOf}
 use Rattle.base.specs.declared.Edit.{Edit}
+use Rattle.base.specs.declared.Form.{Form}
 use Rattle.base.specs.declared.Edit.the-variants.{Pixels, PaletteSet, PaletteAdd, PaletteRemove, PaletteLock}
 use Rattle.edit.specs.declared.ListKind.{ListKind}
 use Rattle.edit.specs.declared.ListKind.the-variants.{NoList, PixelList, RemapList}
@@ -49,11 +50,11 @@ unfolding some
 nowhere-none p [] q = refl
 nowhere-none p (x ∷ l) q = absurd (omega (arith, q))
 
-still-puts : (l : ListKind) (w n m : ℕ) (cs : List Change) → emptyPixels l (length cs) ≡ true → length cs ≡ 0 → Puttable l w n m cs
+still-puts : (form : Form) (l : ListKind) (w n m : ℕ) (cs : List Change) → emptyPixels l (length cs) ≡ true → length cs ≡ 0 → Puttable form l w n m cs
 unfolding Puttable emptyPixels
-still-puts NoList w n m cs t q = tt
-still-puts PixelList w n m cs t q = (λ h. absurd (omega (arith, h, q)), nowhere-none _ cs q)
-still-puts (RemapList i) w n m cs t q = never t
+still-puts form NoList w n m cs t q = tt
+still-puts form PixelList w n m cs t q = (λ h. absurd (omega (arith, h, q)), nowhere-none _ cs q)
+still-puts form (RemapList i) w n m cs t q = never t
 
 still-paints : (l : ListKind) (w n : ℕ) (cs : List Change) → emptyPixels l (length cs) ≡ true → length cs ≡ 0 → Paintable l w n cs
 unfolding Paintable emptyPixels
@@ -68,12 +69,12 @@ none-painted NoList w [] indices q = refl
 none-painted PixelList w [] indices q = refl
 none-painted (RemapList i) w [] indices q = refl
 
-none-within : (l : ListKind) (w : ℕ) (indices : List ℤ) (cs : List Change) (part : List ℕ) → length cs ≡ 0 → within l (filledList l w indices cs) part ≡ part
+none-within : (form : Form) (l : ListKind) (w : ℕ) (indices : List ℤ) (cs : List Change) (part : List ℕ) → length cs ≡ 0 → within form w l (filledList l w indices cs) part ≡ part
 unfolding within filledList flatMap
-none-within l w indices (c ∷ cs) part q = absurd (omega (arith, q))
-none-within NoList w indices [] part q = refl
-none-within PixelList w indices [] part q = sym (splice-none part 6)
-none-within (RemapList i) w indices [] part q = sym (splice-none part 33)
+none-within form l w indices (c ∷ cs) part q = absurd (omega (arith, q))
+none-within form NoList w indices [] part q = refl
+none-within form PixelList w indices [] part q = sym (splice-none part 6)
+none-within form (RemapList i) w indices [] part q = sym (splice-none part 33)
 
 -- ---- the edit filled in: it looks at the storage alone, and has the same list
 stored-fill : (s : Sheet) (locks : List Bool) (e : Edit) → filledEdit (sheetOf 0 0 (s .k) (s .palette) (s .lab) []) locks e ≡ filledEdit s locks e
@@ -99,7 +100,7 @@ length-filled PixelList w indices cs = length-map cs _
 length-filled (RemapList i) w indices cs = refl
 
 -- ---- the list packed one number a change, of which there are n
-module _ (w h k : ℕ) (palette : List ℕ) (lab : List Float) (indices : List ℤ) (locks : List Bool) (journal : List ℕ) (handle : Handle) (e : Edit) (list : List ℕ) (n : ℕ) (long : length list ≡ n) where
+module _ (form : Form) (w h k : ℕ) (palette : List ℕ) (lab : List Float) (indices : List ℤ) (locks : List Bool) (journal : List ℕ) (handle : Handle) (e : Edit) (list : List ℕ) (n : ℕ) (long : length list ≡ n) where
   abbrev s : Sheet
   s = sheetOf w h k palette lab indices
 
@@ -112,11 +113,11 @@ module _ (w h k : ℕ) (palette : List ℕ) (lab : List Float) (indices : List �
   counted : length cs ≡ n
   counted = length-map list unpacked ∙ long
 
-  module _ (stands : Standing st) (fine : emptyPixels (listOf e) (length cs) ≡ false → Acceptable st e cs) where
-    redo : Acceptable st e cs → Redoable w k palette lab indices e cs
+  module _ (stands : Standing st) (fine : emptyPixels (listOf e) (length cs) ≡ false → Acceptable form st e cs) where
+    redo : Acceptable form st e cs → Redoable w k palette lab indices e cs
     redo a = record { h = h; limits = stands .fits .limits; unrefused = not-refused a }
 
-    accepted-puts : (x : Edit) → e ≡ x → Acceptable st e cs → Puttable (listOf e) w (length indices) (length journal - handle .offset) cs
+    accepted-puts : (x : Edit) → e ≡ x → Acceptable form st e cs → Puttable form (listOf e) w (length indices) (length journal - handle .offset) cs
     unfolding Puttable Paintable recordLength
     accepted-puts (Pixels tool) q a = let room = rw q at (a .room) in let paints = rw q at (redoable-paints e (redo a)) in rw q (λ _. omega (arith, room), paints)
     accepted-puts (PaletteSet i old new x) q a = rw q tt
@@ -125,11 +126,11 @@ module _ (w h k : ℕ) (palette : List ℕ) (lab : List Float) (indices : List �
     accepted-puts (PaletteRemove i c x) q a = let room = rw q at (a .room) in rw q (omega (arith, room))
 
     -- what writing the list asks, in the part of the journal from the offset on
-    pub carry-puts : Puttable (listOf e) w (length indices) (length journal - handle .offset) cs
+    pub carry-puts : Puttable form (listOf e) w (length indices) (length journal - handle .offset) cs
     carry-puts = by (emptyPixels (listOf e) (length cs)) refl
       where
-        by : (t : Bool) → emptyPixels (listOf e) (length cs) ≡ t → Puttable (listOf e) w (length indices) (length journal - handle .offset) cs
-        by true t = still-puts (listOf e) _ _ _ cs t (none-there (listOf e) (length cs) t)
+        by : (t : Bool) → emptyPixels (listOf e) (length cs) ≡ t → Puttable form (listOf e) w (length indices) (length journal - handle .offset) cs
+        by true t = still-puts form (listOf e) _ _ _ cs t (none-there (listOf e) (length cs) t)
         by false t = accepted-puts e refl (fine t)
 
     -- what painting it asks
@@ -141,7 +142,7 @@ module _ (w h k : ℕ) (palette : List ℕ) (lab : List Float) (indices : List �
         by false t = redoable-paints e (redo (fine t))
 
     -- and what is asked of a journal in which the list stands
-    pub carry-finishes : (after : List ℕ) → length after ≡ length journal → emptyPixels (listOf e) n ≡ false → Finishes k palette lab locks after handle e n
+    pub carry-finishes : (after : List ℕ) → length after ≡ length journal → emptyPixels (listOf e) n ≡ false → Finishes form k palette lab locks after handle e n
     carry-finishes after q t =
         let a = fine (rw counted t) in
         let l = stands .fits .limits in
@@ -167,32 +168,32 @@ module _ (w h k : ℕ) (palette : List ℕ) (lab : List Float) (indices : List �
     g = givenOf limited permitted e list
 
     module _ (l : List ℤ) (j : List ℕ) (p : l ≡ paintedList (listOf e) w cs indices)
-        (q : j ≡ take (handle .offset) journal ++ within (listOf e) (filledList (listOf e) w indices cs) (drop (handle .offset) journal)) where
+        (q : j ≡ take (handle .offset) journal ++ within form w (listOf e) (filledList (listOf e) w indices cs) (drop (handle .offset) journal)) where
       abbrev left : State Document
       left = stateOf (documentOf w h k palette lab l locks) j handle
 
-      finished-pushed : handle .offset + recordLength e n ≤ length journal → finished (labBy curve) left e n ≡ pushed (editingBy curve) st g
+      finished-pushed : handle .offset + recordLength form e n ≤ length journal → finished form (labBy curve) left e n ≡ pushed (editingBy form curve) st g
       unfolding finished pushed written over filledEdit filledChanges redone
       finished-pushed room =
           let o : ℕ = handle .offset in
           let filled : List Change = filledList (listOf e) w indices cs in
           let sheet : restDone (labBy curve) (sheetOf w h k palette lab l) e ≡ redone (labBy curve) s e cs = ap (λ (x : List ℤ). restDone (labBy curve) (sheetOf w h k palette lab x) e) p in
           let same : filledEdit (sheetOf w h k palette lab l) locks e ≡ filledEdit s locks e = sym (stored-fill (sheetOf w h k palette lab l) locks e) ∙ stored-fill s locks e in
-          let stood : j ≡ take o journal ++ within (listOf (filledEdit s locks e)) filled (drop o journal) = q ∙ rw (list-filled s locks e) in
-          let bytes : take o j ++ around (filledEdit (sheetOf w h k palette lab l) locks e) n (drop o j) ≡ written journal o (recordOf (filledEdit s locks e) filled) =
-          rw same (whole-record (filledEdit s locks e) filled n o journal j (length-filled (listOf e) w indices cs ∙ counted) (rw (filled-length s locks e n) room) stood ∙ rw drop-drop) in
-          let moved : afterPush (recordLength e n) handle ≡ afterPush (recordLength e (length cs)) handle = rw counted in
+          let stood : j ≡ take o journal ++ within form w (listOf (filledEdit s locks e)) filled (drop o journal) = q ∙ rw (list-filled s locks e) in
+          let bytes : take o j ++ around form (filledEdit (sheetOf w h k palette lab l) locks e) n (drop o j) ≡ written journal o (recordOf form w (filledEdit s locks e) filled) =
+          rw same (whole-record form w (filledEdit s locks e) filled n o journal j (length-filled (listOf e) w indices cs ∙ counted) (rw (filled-length form s locks e n) room) stood ∙ rw drop-drop) in
+          let moved : afterPush (recordLength form e n) handle ≡ afterPush (recordLength form e (length cs)) handle = rw counted in
           λ i. record { sheet = record { sheet = sheet i; locks = locksDone k locks e }; journal = bytes i; handle = moved i }
 
       -- with number 0: still, or done
-      pub carried : (emptyPixels (listOf e) (length cs) ≡ false → Acceptable st e cs) → pushedOr 0 (emptyPixels (listOf e) n) left (finished (labBy curve) left e n) ≡ pushedOr 0 (isStill g) st (pushed (editingBy curve) st g)
+      pub carried : (emptyPixels (listOf e) (length cs) ≡ false → Acceptable form st e cs) → pushedOr 0 (emptyPixels (listOf e) n) left (finished form (labBy curve) left e n) ≡ pushedOr 0 (isStill g) st (pushed (editingBy form curve) st g)
       unfolding pushedOr refusedOr
       carried fine = by (emptyPixels (listOf e) (length cs)) refl
         where
-          by : (t : Bool) → emptyPixels (listOf e) (length cs) ≡ t → pushedOr 0 (emptyPixels (listOf e) n) left (finished (labBy curve) left e n) ≡ pushedOr 0 (isStill g) st (pushed (editingBy curve) st g)
+          by : (t : Bool) → emptyPixels (listOf e) (length cs) ≡ t → pushedOr 0 (emptyPixels (listOf e) n) left (finished form (labBy curve) left e n) ≡ pushedOr 0 (isStill g) st (pushed (editingBy form curve) st g)
           by true t =
               let none : length cs ≡ 0 = none-there (listOf e) (length cs) t in
               let still-l : l ≡ indices = p ∙ none-painted (listOf e) w cs indices none in
-              let still-j : j ≡ journal = q ∙ rw (none-within (listOf e) w indices cs (drop (handle .offset) journal) none) (take-append-drop (handle .offset) journal) in
+              let still-j : j ≡ journal = q ∙ rw (none-within form (listOf e) w indices cs (drop (handle .offset) journal) none) (take-append-drop (handle .offset) journal) in
               rw (rw counted at t, t, still-l, still-j)
           by false t = rw (rw counted at t, t) (ap done (finished-pushed (rw (← counted) (fine t .room))))

@@ -12,6 +12,7 @@ use Rattle.base.specs.declared.Lab.{Lab}
 use Rattle.base.specs.declared.Rgb.{Rgb}
 use Rattle.sheet.specs.Sheet.{Sheet, sheetOf}
 use Rattle.base.specs.declared.Edit.{Edit}
+use Rattle.base.specs.declared.Form.{Form}
 use Rattle.edit.specs.Locks.{locksDone}
 use Rattle.edit.specs.Apply.{filledEdit, restDone}
 use Rattle.journal_record.specs.Record.{recordLength}
@@ -28,15 +29,15 @@ use Rattle.history_push.specs.Finish.{finished, Finishes}
 pub part-length : (journal : List ℕ) (o : ℕ) → length (take (length journal - o) (drop o journal)) ≡ length journal - o
 part-length journal o = length-take-le (length journal - o) (drop o journal) (rw length-drop (omega arith))
 
-module _ (k : ℕ) (palette : List ℕ) (lab : List Float) (locks : List Bool) (journal : List ℕ) (handle : Handle) (e : Edit) (n : ℕ) (f : Finishes k palette lab locks journal handle e n) where
+module _ (form : Form) (k : ℕ) (palette : List ℕ) (lab : List Float) (locks : List Bool) (journal : List ℕ) (handle : Handle) (e : Edit) (n : ℕ) (f : Finishes form k palette lab locks journal handle e n) where
   abbrev offset : ℕ
   offset = handle .offset
 
   -- what the record's writer asks
   pub around-asks : (x : Edit) → x ≡ filledEdit (sheetOf 0 0 k palette lab []) locks e
-      → (recordLength x n ≤ length (take (length journal - offset) (drop offset journal))) × ((recordLength x n < 4294967296) × Framed x)
+      → (recordLength form x n ≤ length (take (length journal - offset) (drop offset journal))) × ((recordLength form x n < 4294967296) × Framed x)
   around-asks x q =
-      let long : recordLength x n ≡ recordLength e n = ap (λ (y : Edit). recordLength y n) q ∙ filled-length (sheetOf 0 0 k palette lab []) locks e n in
+      let long : recordLength form x n ≡ recordLength form e n = ap (λ (y : Edit). recordLength form y n) q ∙ filled-length form (sheetOf 0 0 k palette lab []) locks e n in
       (omega (arith, long, part-length journal offset, f .room), (omega (arith, long, f .room, f .permitted), rw q (f .framed)))
 
   pub offset-inside : offset ≤ length journal
@@ -50,18 +51,18 @@ from-offset f l part o q =
     let none : drop (length l - o) (drop o l) ≡ [] = drop-of-length-le (drop o l) {i = length l - o} (simp length-drop (omega arith)) in
     rw (none, append-nil part) (ap (λ (p : List ℕ). take o l ++ p) (q ∙ ap f all))
 
-pub finished-is : (curve : Rgb → Lab) (st : State Document) (e : Edit) (n : ℕ) (t : Sheet) (marks : List Bool) (x : Edit) (part : List ℕ) (r : ℕ) (hd : Handle)
+pub finished-is : (form : Form) (curve : Rgb → Lab) (st : State Document) (e : Edit) (n : ℕ) (t : Sheet) (marks : List Bool) (x : Edit) (part : List ℕ) (r : ℕ) (hd : Handle)
     → t ≡ restDone curve (st .sheet .sheet) e
     → marks ≡ locksDone (st .sheet .sheet .k) (st .sheet .locks) e
     → x ≡ filledEdit (st .sheet .sheet) (st .sheet .locks) e
-    → part ≡ around x n (take (length (st .journal) - st .handle .offset) (drop (st .handle .offset) (st .journal)))
-    → r ≡ recordLength e n
+    → part ≡ around form x n (take (length (st .journal) - st .handle .offset) (drop (st .handle .offset) (st .journal)))
+    → r ≡ recordLength form e n
     → hd ≡ afterPush r (st .handle)
-    → stateOf (record { sheet = t; locks = marks }) (putMid (st .handle .offset) (length (st .journal) - st .handle .offset) (st .journal) part) hd ≡ finished curve st e n
+    → stateOf (record { sheet = t; locks = marks }) (putMid (st .handle .offset) (length (st .journal) - st .handle .offset) (st .journal) part) hd ≡ finished form curve st e n
 unfolding finished
-finished-is curve st e n t marks x part r hd sheet moves edit bytes long moved =
+finished-is form curve st e n t marks x part r hd sheet moves edit bytes long moved =
     let o : ℕ = st .handle .offset in
     let l : List ℕ = st .journal in
-    let journal : putMid o (length l - o) l part ≡ take o l ++ around (filledEdit (st .sheet .sheet) (st .sheet .locks) e) n (drop o l) = from-offset (around (filledEdit (st .sheet .sheet) (st .sheet .locks) e) n) l part o (bytes ∙ rw edit) in
-    let handle : hd ≡ afterPush (recordLength e n) (st .handle) = moved ∙ ap (λ (m : ℕ). afterPush m (st .handle)) long in
+    let journal : putMid o (length l - o) l part ≡ take o l ++ around form (filledEdit (st .sheet .sheet) (st .sheet .locks) e) n (drop o l) = from-offset (around form (filledEdit (st .sheet .sheet) (st .sheet .locks) e) n) l part o (bytes ∙ rw edit) in
+    let handle : hd ≡ afterPush (recordLength form e n) (st .handle) = moved ∙ ap (λ (m : ℕ). afterPush m (st .handle)) long in
     λ i. record { sheet = record { sheet = sheet i; locks = moves i }; journal = journal i; handle = handle i }

@@ -3,6 +3,7 @@ use mathlib.Core.Path.{_≡_, refl}
 use mathlib.Core.Bool.{Bool, true, false, cond}
 use Prim.Native.Nat.{ℕ, zero, suc}
 use Rattle.base.specs.Checks.{orElse, firstOf, refusedOr}
+use Rattle.base.specs.declared.Form.{Form}
 use Rattle.color_curve.specs.Curve.{Curve}
 use Rattle.history_ledger.specs.Calls.{refused, still, done}
 use Rattle.history_ledger.specs.Journal.{State, entryChecks, pushChecks, pushOf, pushed}
@@ -11,13 +12,13 @@ use Rattle.history_model.specs.Editing.{Given, editingBy}
 use Rattle.history_push_checks.specs.Steps.{isStill, pushNumber, pushedOr}
 
 -- ---- `push`: what the number decides
-pub push-is : (c : Curve) (room : ℕ) (st : State Document) (g : Given) (n : ℕ) → n ≡ pushNumber c room st g → pushedOr n (isStill g) st (pushed (editingBy c) st g) ≡ pushOf (editingBy c) room st g
+pub push-is : (f : Form) (c : Curve) (room : ℕ) (st : State Document) (g : Given) (n : ℕ) → n ≡ pushNumber f c room st g → pushedOr n (isStill g) st (pushed (editingBy f c) st g) ≡ pushOf (editingBy f c) room st g
 unfolding pushedOr pushNumber pushOf refusedOr
-push-is c room st g n q = rw q (by (firstOf (entryChecks (editingBy c) st g)) (isStill g))
+push-is f c room st g n q = rw q (by (firstOf (entryChecks (editingBy f c) st g)) (isStill g))
   where
     by : (a : ℕ) (t : Bool)
-        → refusedOr (orElse a (cond t 0 (firstOf (pushChecks (editingBy c) room st g)))) (refused st) (cond t (still st) (done (pushed (editingBy c) st g)))
-        ≡ refusedOr a (refused st) (cond t (still st) (refusedOr (firstOf (pushChecks (editingBy c) room st g)) (refused st) (done (pushed (editingBy c) st g))))
+        → refusedOr (orElse a (cond t 0 (firstOf (pushChecks (editingBy f c) room st g)))) (refused st) (cond t (still st) (done (pushed (editingBy f c) st g)))
+        ≡ refusedOr a (refused st) (cond t (still st) (refusedOr (firstOf (pushChecks (editingBy f c) room st g)) (refused st) (done (pushed (editingBy f c) st g))))
     by zero true = refl
     by zero false = refl
     by (suc a) t = refl

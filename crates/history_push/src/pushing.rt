@@ -2,6 +2,7 @@
 // paints its own before it.
 use base::Answer;
 use base::Edit;
+use base::Form;
 use base::Handle;
 use base::Moved;
 use edit::is_empty;
@@ -46,19 +47,20 @@ pub fn finish(
     curve: &[f64],
     edit: Edit,
     n: usize,
+    form: Form,
     journal: &mut [u8],
     handle: Handle,
 ) -> Moved
     requires { ⌜
         (no ≡ 0 → emptyPixels (listOf edit) n ≡ false
-        → Finishes k (now palette) (now lab) (now locks) (now journal) handle edit n)
+        → Finishes form k (now palette) (now lab) (now locks) (now journal) handle edit n)
         × (no ≡ 0 → CurveFits (curveOf loaded (now curve)))
         ⌝ }
     ensures { λ r. ⌜
         ((w h : ℕ) → leaves r w h (now (palette .exit)) (now (lab .exit)) (now (indices .exit)) (now (locks .exit)) (now (journal .exit))
         ≡ pushedOr no (emptyPixels (listOf edit) n)
         (stateOf (documentOf w h k (now (palette .entry)) (now (lab .entry)) (now (indices .entry)) (now (locks .entry)))
-        (now (journal .entry)) handle) (finished (labBy (curveOf loaded (now (curve .entry))))
+        (now (journal .entry)) handle) (finished form (labBy (curveOf loaded (now (curve .entry))))
         (stateOf (documentOf w h k (now (palette .entry)) (now (lab .entry)) (now (indices .entry)) (now (locks .entry)))
         (now (journal .entry)) handle) edit n))
         ⌝ }
@@ -71,13 +73,13 @@ pub fn finish(
     }
     let offset = handle.offset;
     let filled = fill_edit(palette, lab, locks, edit);
-    write_around(&mut journal[offset..], filled, n);
+    write_around(form, &mut journal[offset..], filled, n);
     redo_locks(k, locks, edit);
     let after = finish_edit(k, palette, lab, indices, loaded, curve, edit);
     Moved {
         answer: Answer::Done,
         k: after,
-        handle: after_push(handle, record_length(edit, n)),
+        handle: after_push(handle, record_length(form, edit, n)),
     }
 }
 
@@ -95,13 +97,14 @@ fn carry_out(
     curve: &[f64],
     edit: Edit,
     list: &[u64],
+    form: Form,
     journal: &mut [u8],
     handle: Handle,
 ) -> Moved
     requires { ⌜ Standing (stateOf (documentOf w h k (now palette) (now lab) (now indices) (now locks)) (now journal) handle) ⌝ }
     requires { ⌜
         (emptyPixels (listOf edit) (length (map unpacked (now list))) ≡ false
-        → Acceptable (stateOf (documentOf w h k (now palette) (now lab) (now indices) (now locks)) (now journal) handle) edit
+        → Acceptable form (stateOf (documentOf w h k (now palette) (now lab) (now indices) (now locks)) (now journal) handle) edit
         (map unpacked (now list)))
         ⌝ }
     requires { ⌜ CurveFits (curveOf loaded (now curve)) ⌝ }
@@ -110,14 +113,14 @@ fn carry_out(
         → leaves r w h (now (palette .exit)) (now (lab .exit)) (now (indices .exit)) (now (locks .exit)) (now (journal .exit))
         ≡ pushedOr 0 (isStill (givenOf limited permitted edit (now (list .entry))))
         (stateOf (documentOf w h k (now (palette .entry)) (now (lab .entry)) (now (indices .entry)) (now (locks .entry)))
-        (now (journal .entry)) handle) (pushed (editingBy (curveOf loaded (now (curve .entry))))
+        (now (journal .entry)) handle) (pushed (editingBy form (curveOf loaded (now (curve .entry))))
         (stateOf (documentOf w h k (now (palette .entry)) (now (lab .entry)) (now (indices .entry)) (now (locks .entry)))
         (now (journal .entry)) handle) (givenOf limited permitted edit (now (list .entry)))))
         ⌝ }
 {
     let kind = list_of(edit);
     let start = handle.offset;
-    put_list(kind, &mut journal[start..], indices, w, list);
+    put_list(kind, form, &mut journal[start..], indices, w, list);
     paint_list(kind, indices, w, list);
     finish(
         0,
@@ -130,6 +133,7 @@ fn carry_out(
         curve,
         edit,
         list.len(),
+        form,
         journal,
         handle,
     )
@@ -152,6 +156,7 @@ pub fn push(
     curve: &[f64],
     edit: Edit,
     list: &[u64],
+    form: Form,
     journal: &mut [u8],
     handle: Handle,
     scratch: &mut [u8],
@@ -159,7 +164,7 @@ pub fn push(
     ensures { λ r. ⌜ (
         let document = documentOf w h k (now (palette .entry)) (now (lab .entry)) (now (indices .entry)) (now (locks .entry)) in
         leaves r w h (now (palette .exit)) (now (lab .exit)) (now (indices .exit)) (now (locks .exit)) (now (journal .exit))
-        ≡ pushOf (editingBy (curveOf loaded (now (curve .entry)))) (length (now (scratch .entry))) (stateOf document (now (journal .entry)) handle)
+        ≡ pushOf (editingBy form (curveOf loaded (now (curve .entry)))) (length (now (scratch .entry))) (stateOf document (now (journal .entry)) handle)
         (givenOf limited (now (permitted .entry)) edit (now (list .entry)))
         ) ⌝ }
     ensures { λ _. ⌜ length (now (scratch .exit)) ≡ length (now (scratch .entry)) ⌝ }
@@ -178,6 +183,7 @@ pub fn push(
         curve,
         edit,
         list,
+        form,
         journal,
         handle,
         scratch,
@@ -197,6 +203,7 @@ pub fn push(
         curve,
         edit,
         list,
+        form,
         journal,
         handle,
     )

@@ -16,6 +16,7 @@ use Rattle.base.proofs.Back.{never}
 use Rattle.color_curve.specs.Curve.{Curve, curveChecks, CurveFits}
 use Rattle.sheet.specs.Sheet.{Sheet, sheetOf}
 use Rattle.base.specs.declared.Edit.{Edit}
+use Rattle.base.specs.declared.Form.{Form}
 use Rattle.base.specs.declared.Edit.the-variants.{Pixels, PaletteSet, PaletteAdd, PaletteRemove, PaletteLock}
 use Rattle.edit.specs.declared.ListKind.{ListKind}
 use Rattle.edit.specs.declared.ListKind.the-variants.{NoList, PixelList, RemapList}
@@ -26,6 +27,7 @@ use Rattle.edit_pixels.specs.Inside.{bare}
 use Rattle.edit_checks.specs.Marks.{Markable, ClearFor, MarksFor, Checkable}
 use Rattle.edit_list.proofs.Deciding.{first-kept, head-markable, list-decides, bare-changes, bare-left}
 use Rattle.journal_record.specs.Record.{recordLength}
+use Rattle.journal_record.proofs.Strides.{stride-most}
 use Rattle.base.specs.declared.Handle.{Handle}
 use Rattle.history_ledger.specs.Calls.{group}
 use Rattle.history_ledger.specs.Journal.{State, longJournal, unsound, entryChecks, pushChecks}
@@ -55,26 +57,26 @@ still-left s PixelList cs n q = refl
 still-left s (RemapList i) cs n q = never q
 
 -- ---- the number, by the checks that decide
-module _ (curve : Curve) (room : ℕ) (st : State Document) (g : Given) where
-  pub number-entry : (n : ℕ) → n ≡ firstOf (entryChecks (editingBy curve) st g) → (n ≡ 0 → ⊥) → n ≡ pushNumber curve room st g
+module _ (form : Form) (curve : Curve) (room : ℕ) (st : State Document) (g : Given) where
+  pub number-entry : (n : ℕ) → n ≡ firstOf (entryChecks (editingBy form curve) st g) → (n ≡ 0 → ⊥) → n ≡ pushNumber form curve room st g
   unfolding pushNumber
   number-entry n q h = sym (rw (← q) (first-kept n _ h))
 
-  number-still : firstOf (entryChecks (editingBy curve) st g) ≡ 0 → isStill g ≡ true → 0 ≡ pushNumber curve room st g
+  number-still : firstOf (entryChecks (editingBy form curve) st g) ≡ 0 → isStill g ≡ true → 0 ≡ pushNumber form curve room st g
   unfolding pushNumber
   number-still z t = rw (z, t)
 
-  pub number-push : (n : ℕ) → firstOf (entryChecks (editingBy curve) st g) ≡ 0 → isStill g ≡ false → n ≡ firstOf (pushChecks (editingBy curve) room st g) → n ≡ pushNumber curve room st g
+  pub number-push : (n : ℕ) → firstOf (entryChecks (editingBy form curve) st g) ≡ 0 → isStill g ≡ false → n ≡ firstOf (pushChecks (editingBy form curve) room st g) → n ≡ pushNumber form curve room st g
   unfolding pushNumber
   number-push n z t q = rw (z, t) q
 
   -- a push that no check refuses has a curve that fits
-  pub number-fits : (n : ℕ) → n ≡ pushNumber curve room st g → n ≡ 0 → CurveFits curve
+  pub number-fits : (n : ℕ) → n ≡ pushNumber form curve room st g → n ≡ 0 → CurveFits curve
   unfolding pushNumber
   number-fits n q z =
       let journal = st .journal in
       let before = group 0 ∷ longJournal (length journal) ∷ group (editing .givenCheck g) ∷ group (editing .sheetCheck (st .sheet)) ∷ unsound (length journal) (st .handle) ∷ [] in
-      let entered = first-passes (firstOf (entryChecks (editingBy curve) st g)) _ (sym q ∙ z) .0 in
+      let entered = first-passes (firstOf (entryChecks (editingBy form curve) st g)) _ (sym q ∙ z) .0 in
       sym (or-else-zero (firstOf (curveChecks curve))) ∙ last (past-both before (group (firstOf (curveChecks curve)) ∷ []) entered .right)
     where
       last : firstOf (group (firstOf (curveChecks curve)) ∷ []) ≡ 0 → orElse (firstOf (curveChecks curve)) 0 ≡ 0
@@ -82,22 +84,22 @@ module _ (curve : Curve) (room : ℕ) (st : State Document) (g : Given) where
 
   -- ---- what `begin` answers
   module _ {marks : List ℕ} where
-    pub begun-refused : (n : ℕ) → (n ≡ 0 → ⊥) → n ≡ pushNumber curve room st g → Begun curve room st g n marks
+    pub begun-refused : (n : ℕ) → (n ≡ 0 → ⊥) → n ≡ pushNumber form curve room st g → Begun form curve room st g n marks
     begun-refused n h q = record { refuses = λ _. q; entered = λ z. absurd (h z); stands = λ z. absurd (h z); readied = λ z f. absurd (h z) }
 
-    module _ (z : firstOf (entryChecks (editingBy curve) st g) ≡ 0) (s : Standing st) where
-      pub begun-still : isStill g ≡ true → Begun curve room st g 0 marks
+    module _ (z : firstOf (entryChecks (editingBy form curve) st g) ≡ 0) (s : Standing st) where
+      pub begun-still : isStill g ≡ true → Begun form curve room st g 0 marks
       begun-still t = record { refuses = λ h. absurd (h refl); entered = λ _. z; stands = λ _. s; readied = λ y f. never (sym f ∙ t) }
 
-      pub begun-ready : Readied room st g marks → Begun curve room st g 0 marks
+      pub begun-ready : Readied room st g marks → Begun form curve room st g 0 marks
       begun-ready r = record { refuses = λ h. absurd (h refl); entered = λ _. z; stands = λ _. s; readied = λ y f. r }
 
   -- a push that a check before its list refuses
-  pub refused-number : {marks : List ℕ} (n : ℕ) → Begun curve room st g n marks → (n ≡ 0 → ⊥) → PushNumbered curve room st g n
+  pub refused-number : {marks : List ℕ} (n : ℕ) → Begun form curve room st g n marks → (n ≡ 0 → ⊥) → PushNumbered form curve room st g n
   refused-number n b h = record { value = b .refuses h; stands = λ z. absurd (h z); fine = λ z _. absurd (h z) }
 
 -- ---- the list, packed one number a change, and what follows it
-module _ (curve : Curve) (room w h k : ℕ) (palette : List ℕ) (lab : List Float) (indices : List ℤ) (locks : List Bool) (journal : List ℕ) (handle : Handle) (limited : Bool) (permitted : List ℕ) (e : Edit) (list : List ℕ) (count : ℕ) (long : length list ≡ count) where
+module _ (form : Form) (curve : Curve) (room w h k : ℕ) (palette : List ℕ) (lab : List Float) (indices : List ℤ) (locks : List Bool) (journal : List ℕ) (handle : Handle) (limited : Bool) (permitted : List ℕ) (e : Edit) (list : List ℕ) (count : ℕ) (long : length list ≡ count) where
   abbrev s : Sheet
   s = sheetOf w h k palette lab indices
 
@@ -120,7 +122,7 @@ module _ (curve : Curve) (room w h k : ℕ) (palette : List ℕ) (lab : List Flo
   abbrev each : ℕ
   each = firstOf (flatMap (changeChecks false (bare w h k indices) kind) cs)
 
-  module _ (n : ℕ) (marks : List ℕ) (b : Begun curve room state given n marks) where
+  module _ (n : ℕ) (marks : List ℕ) (b : Begun form curve room state given n marks) where
     began : (c : ℕ) → c ≡ orElse n each → c ≡ 0 → n ≡ 0
     began c d z = first-passes n each (sym d ∙ z) .0
 
@@ -166,7 +168,7 @@ module _ (curve : Curve) (room w h k : ℕ) (palette : List ℕ) (lab : List Flo
           by-list (RemapList i) t = leaves (b .readied (began c d z) (rw t) .clear)
 
       -- the whole number
-      module _ (l : ℕ) (q : l ≡ orElse (orElse c (firstOf (leftChecks (bare w h 0 indices) kind cs))) (fullNumber (handle .offset) e count (length journal))) where
+      module _ (l : ℕ) (q : l ≡ orElse (orElse c (firstOf (leftChecks (bare w h 0 indices) kind cs))) (fullNumber form (handle .offset) e count (length journal))) where
         abbrev all : ℕ
         all = firstOf (flatMap (changeChecks false s kind) cs)
 
@@ -174,7 +176,7 @@ module _ (curve : Curve) (room w h k : ℕ) (palette : List ℕ) (lab : List Flo
         rest = firstOf (leftChecks s kind cs)
 
         abbrev full : ℕ
-        full = fullNumber (handle .offset) e count (length journal)
+        full = fullNumber form (handle .offset) e count (length journal)
 
         whole : l ≡ orElse (orElse n (orElse all rest)) full
         whole =
@@ -185,8 +187,8 @@ module _ (curve : Curve) (room w h k : ℕ) (palette : List ℕ) (lab : List Flo
           after : l ≡ orElse (orElse all rest) full
           after = rw z at whole
 
-          not-still : (f : isStill given ≡ false) → Readied room state given marks → (m : ℕ) → orElse all rest ≡ m → PushNumbered curve room state given l
-          not-still f r zero p = by-journal (ltb (length journal) (handle .offset + recordLength e count)) refl
+          not-still : (f : isStill given ≡ false) → Readied room state given marks → (m : ℕ) → orElse all rest ≡ m → PushNumbered form curve room state given l
+          not-still f r zero p = by-journal (ltb (length journal) (handle .offset + recordLength form e count)) refl
             where
               own : 0 ≡ firstOf (ownChecks false s locks (permittedOf limited permitted) e cs)
               own = sym (list-decides false s locks (permittedOf limited permitted) e cs (r .head) ∙ p)
@@ -194,39 +196,39 @@ module _ (curve : Curve) (room w h k : ℕ) (palette : List ℕ) (lab : List Flo
               last : l ≡ full
               last = rw p at after
 
-              by-journal : (t : Bool) → ltb (length journal) (handle .offset + recordLength e count) ≡ t → PushNumbered curve room state given l
+              by-journal : (t : Bool) → ltb (length journal) (handle .offset + recordLength form e count) ≡ t → PushNumbered form curve room state given l
               by-journal true t =
                   let is : l ≡ 14 = last ∙ rw (rw counted at f, t) in
-                  let p = pushes-full room state given (r .short) (b .stands z) (r .enough) 0 own refl (rw counted (ltb-true _ _ t)) in
+                  let p = pushes-full form room state given (r .short) (b .stands z) (r .enough) 0 own refl (rw counted (ltb-true _ _ t)) in
                   record {
-                    value = is ∙ number-push curve room state given 14 (b .entered z) f (p .value);
+                    value = is ∙ number-push form curve room state given 14 (b .entered z) f (p .value);
                     stands = λ _. b .stands z;
                     fine = λ y _. absurd (omega (arith, is, y));
                   }
               by-journal false t =
                   let is : l ≡ 0 = last ∙ rw (rw counted at f, t) in
-                  let p = pushes-fine room state given (r .short) (b .stands z) (r .enough) 0 own refl (rw counted (ltb-false _ _ t)) in
-                  record { value = is ∙ number-push curve room state given 0 (b .entered z) f (p .value); stands = λ _. b .stands z; fine = λ y _. p .fine refl }
+                  let p = pushes-fine form room state given (r .short) (b .stands z) (r .enough) 0 own refl (rw counted (ltb-false _ _ t)) in
+                  record { value = is ∙ number-push form curve room state given 0 (b .entered z) f (p .value); stands = λ _. b .stands z; fine = λ y _. p .fine refl }
           not-still f r (suc m) p =
               let is : l ≡ suc m = rw p at after in
               let own : suc m ≡ firstOf (ownChecks false s locks (permittedOf limited permitted) e cs) = sym (list-decides false s locks (permittedOf limited permitted) e cs (r .head) ∙ p) in
-              let o = pushes-own room state given (r .short) (b .stands z) (r .enough) (suc m) own (λ y. omega (arith, y)) in
+              let o = pushes-own form room state given (r .short) (b .stands z) (r .enough) (suc m) own (λ y. omega (arith, y)) in
               record {
-                value = is ∙ number-push curve room state given (suc m) (b .entered z) f (o .value);
+                value = is ∙ number-push form curve room state given (suc m) (b .entered z) f (o .value);
                 stands = λ _. b .stands z;
                 fine = λ y _. absurd (omega (arith, is, y));
               }
 
-          by-still : (t : Bool) → isStill given ≡ t → PushNumbered curve room state given l
+          by-still : (t : Bool) → isStill given ≡ t → PushNumbered form curve room state given l
           by-still true t =
               let is : l ≡ 0 = after ∙ rw (still-each false s kind cs (none-there kind (length cs) t), still-left s kind cs (length cs) t, rw counted at t) in
-              record { value = is ∙ number-still curve room state given (b .entered z) t; stands = λ _. b .stands z; fine = λ y f. never (sym f ∙ t) }
+              record { value = is ∙ number-still form curve room state given (b .entered z) t; stands = λ _. b .stands z; fine = λ y f. never (sym f ∙ t) }
           by-still false f = not-still f (b .readied z f) (orElse all rest) refl
 
-        pub push-number : PushNumbered curve room state given l
+        pub push-number : PushNumbered form curve room state given l
         push-number = by-number n refl
           where
-            by-number : (m : ℕ) → n ≡ m → PushNumbered curve room state given l
+            by-number : (m : ℕ) → n ≡ m → PushNumbered form curve room state given l
             by-number zero z = by-still z (isStill given) refl
             by-number (suc m) z =
                 let kept : n ≡ 0 → ⊥ = λ y. omega (arith, z, y) in
@@ -239,18 +241,18 @@ module _ (curve : Curve) (room w h k : ℕ) (palette : List ℕ) (lab : List Flo
                 }
 
 -- ---- the end of a record that is not too long
-pub end-small : (e : Edit) (offset n r : ℕ) → offset ≤ maxJournal → n ≤ maxChanges → r ≡ recordLength e n → offset + r < 2 ^ 64
+pub end-small : (form : Form) (e : Edit) (offset n r : ℕ) → offset ≤ maxJournal → n ≤ maxChanges → r ≡ recordLength form e n → offset + r < 2 ^ 64
 unfolding recordLength
-end-small (Pixels tool) offset n r a b q = omega (arith, a, b, q)
-end-small (PaletteSet i old new lab) offset n r a b q = omega (arith, a, b, q)
-end-small (PaletteAdd c) offset n r a b q = omega (arith, a, b, q)
-end-small (PaletteRemove i c lab) offset n r a b q = omega (arith, a, b, q)
-end-small (PaletteLock i old new) offset n r a b q = omega (arith, a, b, q)
+end-small form (Pixels tool) offset n r a b q = omega (arith, a, b, q, stride-most form n)
+end-small form (PaletteSet i old new lab) offset n r a b q = omega (arith, a, b, q)
+end-small form (PaletteAdd c) offset n r a b q = omega (arith, a, b, q)
+end-small form (PaletteRemove i c lab) offset n r a b q = omega (arith, a, b, q, stride-most form n)
+end-small form (PaletteLock i old new) offset n r a b q = omega (arith, a, b, q)
 
 -- ---- 14, by the journal's bytes
-module _ (e : Edit) (offset n size r : ℕ) (f : emptyPixels (listOf e) n ≡ false) (q : r ≡ recordLength e n) where
-  pub full-here : size < offset + r → 14 ≡ fullNumber offset e n size
-  full-here h = rw (f, lt-ltb size (offset + recordLength e n) (omega (arith, h, q)))
+module _ (form : Form) (e : Edit) (offset n size r : ℕ) (f : emptyPixels (listOf e) n ≡ false) (q : r ≡ recordLength form e n) where
+  pub full-here : size < offset + r → 14 ≡ fullNumber form offset e n size
+  full-here h = rw (f, lt-ltb size (offset + recordLength form e n) (omega (arith, h, q)))
 
-  pub full-not : offset + r ≤ size → 0 ≡ fullNumber offset e n size
-  full-not h = rw (f, le-ltb size (offset + recordLength e n) (omega (arith, h, q)))
+  pub full-not : offset + r ≤ size → 0 ≡ fullNumber form offset e n size
+  full-not h = rw (f, le-ltb size (offset + recordLength form e n) (omega (arith, h, q)))

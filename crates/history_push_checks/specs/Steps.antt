@@ -10,6 +10,7 @@ use Rattle.base.specs.Limits.{maxChanges}
 use Rattle.base.specs.Numbers.{journalFull}
 use Rattle.base.specs.Checks.{orElse, firstOf, refusedOr}
 use Rattle.base.specs.declared.Edit.{Edit}
+use Rattle.base.specs.declared.Form.{Form}
 use Rattle.color_curve.specs.Curve.{Curve}
 use Rattle.edit.specs.List.{listOf, emptyPixels}
 use Rattle.edit.specs.Checks.{headChecks}
@@ -26,9 +27,9 @@ abbrev pub isStill : Given → Bool
 isStill g = emptyPixels (listOf (g .edit)) (length (g .changes))
 
 -- "1, 2, 3, 4; "still" for an empty pixel list; 21, 16, its own, 14", 25 after 4, in one number
-unfoldable pub pushNumber : Curve → ℕ → State Document → Given → ℕ
-pushNumber c room st g =
-    orElse (firstOf (entryChecks (editingBy c) st g)) (cond (isStill g) 0 (firstOf (pushChecks (editingBy c) room st g)))
+unfoldable pub pushNumber : Form → Curve → ℕ → State Document → Given → ℕ
+pushNumber f c room st g =
+    orElse (firstOf (entryChecks (editingBy f c) st g)) (cond (isStill g) 0 (firstOf (pushChecks (editingBy f c) room st g)))
 
 -- a push after that number
 unfoldable pub pushedOr : ℕ → Bool → State Document → State Document → Outcome (State Document)
@@ -41,18 +42,18 @@ pub record Readied (room : ℕ) (st : State Document) (g : Given) (marks : List 
   pub head : firstOf (headChecks false (st .sheet .sheet) (st .sheet .locks) (g .permitted) (g .edit)) ≡ 0
   pub clear : ClearFor (listOf (g .edit)) (st .sheet .sheet .w * st .sheet .sheet .h) marks
 
-pub record Begun (c : Curve) (room : ℕ) (st : State Document) (g : Given) (n : ℕ) (marks : List ℕ) : Type 0 where
-  pub refuses : (n ≡ 0 → ⊥) → n ≡ pushNumber c room st g
-  pub entered : n ≡ 0 → firstOf (entryChecks (editingBy c) st g) ≡ 0
+pub record Begun (f : Form) (c : Curve) (room : ℕ) (st : State Document) (g : Given) (n : ℕ) (marks : List ℕ) : Type 0 where
+  pub refuses : (n ≡ 0 → ⊥) → n ≡ pushNumber f c room st g
+  pub entered : n ≡ 0 → firstOf (entryChecks (editingBy f c) st g) ≡ 0
   pub stands : n ≡ 0 → Standing st
   pub readied : n ≡ 0 → isStill g ≡ false → Readied room st g marks
 
 -- after its list: 14, of a journal of `size` bytes
-abbrev pub fullNumber : ℕ → Edit → ℕ → ℕ → ℕ
-fullNumber offset e n size = cond (emptyPixels (listOf e) n) 0 (cond (ltb size (offset + recordLength e n)) journalFull 0)
+abbrev pub fullNumber : Form → ℕ → Edit → ℕ → ℕ → ℕ
+fullNumber f offset e n size = cond (emptyPixels (listOf e) n) 0 (cond (ltb size (offset + recordLength f e n)) journalFull 0)
 
 -- the number, and what 0 means
-pub record PushNumbered (c : Curve) (room : ℕ) (st : State Document) (g : Given) (n : ℕ) : Type 0 where
-  pub value : n ≡ pushNumber c room st g
+pub record PushNumbered (f : Form) (c : Curve) (room : ℕ) (st : State Document) (g : Given) (n : ℕ) : Type 0 where
+  pub value : n ≡ pushNumber f c room st g
   pub stands : n ≡ 0 → Standing st
-  pub fine : n ≡ 0 → isStill g ≡ false → Acceptable st (g .edit) (g .changes)
+  pub fine : n ≡ 0 → isStill g ≡ false → Acceptable f st (g .edit) (g .changes)

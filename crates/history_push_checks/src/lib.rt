@@ -1,6 +1,7 @@
 // The checks of `push`: those before its list, those of its changes, and those after the list. `begin` and `settle` do
 // not see the list, so that each form of the call goes through its own between them.
 use base::Edit;
+use base::Form;
 use base::Handle;
 use base::JOURNAL_FULL;
 use base::LIST_TOO_LONG;
@@ -19,6 +20,7 @@ ghost use mathlib.Core.List.{List};
 ghost use Prim.Native.Nat.{ℕ, _*_, _≤_};
 ghost use lib.ListN.{length};
 ghost use Rattle.base.specs.Limits.{maxChanges, maxJournal};
+ghost use Rattle.base.specs.declared.Form.{Form};
 ghost use Rattle.base.specs.Checks.{orElse, firstOf};
 ghost use Rattle.color_curve.specs.Curve.{curveOf};
 ghost use Rattle.edit.specs.Change.{Change};
@@ -51,7 +53,7 @@ pub fn begin(
     marks: &mut [u8],
 ) -> u8
     ensures { λ r. ⌜
-        ((list : List ℕ) → length list ≡ n → Begun (curveOf loaded (now (curve .entry))) (length (now (marks .entry)))
+        ((f : Form) (list : List ℕ) → length list ≡ n → Begun f (curveOf loaded (now (curve .entry))) (length (now (marks .entry)))
         (stateOf (documentOf w h k (now (palette .entry)) (now (lab .entry)) (now (indices .entry)) (now (locks .entry))) (now (journal .entry))
         handle) (givenOf limited (now (permitted .entry)) edit list) r (now (marks .exit)))
         ⌝ }
@@ -102,6 +104,7 @@ pub fn settle(
     h: usize,
     indices: &[i16],
     marks: &[u8],
+    form: Form,
     size: usize,
     offset: usize,
 ) -> u8
@@ -112,7 +115,7 @@ pub fn settle(
     ensures { λ r. ⌜
         ((cs : List Change) → (no ≡ 0 → MarksFor (listOf edit) w (w * h) cs (now (marks .entry))) → r
         ≡ orElse (orElse no (firstOf (leftChecks (bare w h 0 (now (indices .entry))) (listOf edit) cs)))
-        (fullNumber offset edit n size))
+        (fullNumber form offset edit n size))
         ⌝ }
 {
     if no != 0 {
@@ -126,7 +129,7 @@ pub fn settle(
     if is_empty(kind, n) {
         return 0;
     }
-    if size < offset + record_length(edit, n) {
+    if size < offset + record_length(form, edit, n) {
         return JOURNAL_FULL;
     }
     0
@@ -147,13 +150,14 @@ pub fn push_no(
     curve: &[f64],
     edit: Edit,
     list: &[u64],
+    form: Form,
     journal: &[u8],
     handle: Handle,
     marks: &mut [u8],
 ) -> u8
     ensures { λ r. ⌜ (
         let document = documentOf w h k (now (palette .entry)) (now (lab .entry)) (now (indices .entry)) (now (locks .entry)) in
-        PushNumbered (curveOf loaded (now (curve .entry))) (length (now (marks .entry))) (stateOf document (now (journal .entry)) handle)
+        PushNumbered form (curveOf loaded (now (curve .entry))) (length (now (marks .entry))) (stateOf document (now (journal .entry)) handle)
         (givenOf limited (now (permitted .entry)) edit (now (list .entry))) r
         ) ⌝ }
 {
@@ -188,6 +192,7 @@ pub fn push_no(
         h,
         indices,
         marks,
+        form,
         journal.len(),
         handle.offset,
     )

@@ -8,6 +8,7 @@ use lib.Dec.{leb}
 use lib.ListN.{length, take, drop}
 use Rattle.base.specs.Checks.{firstOf}
 use Rattle.base.specs.declared.Edit.{Edit}
+use Rattle.base.specs.declared.Form.{Form}
 use Rattle.journal_record.specs.Record.{changesIn, readForth}
 use Rattle.base.specs.declared.Handle.{Handle}
 use Rattle.history_ledger.specs.Handle.{steppedForth}
@@ -15,14 +16,14 @@ use Rattle.history_model.specs.Calls.{handleChecks}
 use Rattle.base.specs.Answer.{Told, Shown}
 use Rattle.base.specs.Answer.Told.{result, alone}
 use Rattle.base.proofs.Told.{alone-other}
-use Rattle.history_queries.specs.Looks.{shows, nextRedoOf, rewound, past, shownAfter, appliedOf, Starts}
+use Rattle.history_queries.specs.Looks.{anyWidth, shows, nextRedoOf, rewound, past, shownAfter, appliedOf, Starts}
 use Rattle.history_queries.specs.Looks.Starts.{oldest, after}
 use Rattle.history_queries.proofs.NextTold.{unrefused, something, redo-told}
 
 -- the `number`-th record of the chain: what is read where it starts
-pub record Chained (journal : List ℕ) (end number : ℕ) (e : Edit) (start n list count : ℕ) : Type 0 where
-  pub starts : Starts journal end number start
-  pub reads : readForth (take (end - start) (drop start journal)) ≡ some (n, e, changesIn journal list count)
+pub record Chained (f : Form) (journal : List ℕ) (end number : ℕ) (e : Edit) (start n list count : ℕ) : Type 0 where
+  pub starts : Starts f journal end number start
+  pub reads : readForth f anyWidth (take (end - start) (drop start journal)) ≡ some (n, e, changesIn f anyWidth journal list count)
 
 -- ---- a record that is shown past another
 record Past (x : Told (Option Shown)) (more : ℕ → Told (Option Shown)) (y : Told (Option Shown)) : Type 0 where
@@ -41,21 +42,21 @@ module _ {e : Edit} {start n list count : ℕ} where
   shown-past (result none) more p = absurd (let z : _≡_ {A = ℕ} 0 1 = cc in omega arith)
   shown-past (alone a) more p = absurd (alone-other p)
 
-  module _ (journal : List ℕ) where
-    chained : (number : ℕ) (h : Handle) (before : ℕ) → Starts journal (h .end) before (h .offset) → shownAfter journal number h ≡ shows e start n list count
-        → Chained journal (h .end) (before + number) e start n list count
+  module _ (f : Form) (journal : List ℕ) where
+    chained : (number : ℕ) (h : Handle) (before : ℕ) → Starts f journal (h .end) before (h .offset) → shownAfter f journal number h ≡ shows e start n list count
+        → Chained f journal (h .end) (before + number) e start n list count
     unfolding shownAfter
     chained zero h before s p =
-        let t = redo-told journal h p in
+        let t = redo-told f journal h p in
         let last : before + 0 ≡ before = omega arith in
         record { starts = rw (t .starts, last) s; reads = rw (t .starts) (t .reads) }
     chained (suc number) h before s p =
-        let one = shown-past (nextRedoOf journal h) (λ m. shownAfter journal number (steppedForth m h)) p in
-        let r = redo-told journal h (one .first) .reads in
+        let one = shown-past (nextRedoOf f journal h) (λ m. shownAfter f journal number (steppedForth m h)) p in
+        let r = redo-told f journal h (one .first) .reads in
         let step : before + suc number ≡ suc before + number = omega arith in
-        rw step (chained number (steppedForth (one .length) h) (suc before) (after (one .length, one .edit, changesIn journal (one .list) (one .count)) s r) (one .then))
+        rw step (chained number (steppedForth (one .length) h) (suc before) (after (one .length, one .edit, changesIn f anyWidth journal (one .list) (one .count)) s r) (one .then))
 
-    pub applied-chained : (h : Handle) (number : ℕ) → appliedOf journal h number ≡ shows e start n list count → Chained journal (h .offset) number e start n list count
+    pub applied-chained : (h : Handle) (number : ℕ) → appliedOf f journal h number ≡ shows e start n list count → Chained f journal (h .offset) number e start n list count
     unfolding appliedOf
     applied-chained h number p =
         let fine = unrefused (firstOf (handleChecks (length journal) h)) _ p in

@@ -1,4 +1,6 @@
-// What a maker asks of a handle. Each call looks at the journal's length and the handle, at no sheet.
+// What a maker asks of a handle. Each call looks at the journal's length and the handle, at no sheet; it is told the form
+// as every call on a journal is (document 02, E9).
+use base::Form;
 use base::Handle;
 use base::Truth;
 use history_model::handle_no;
@@ -20,21 +22,21 @@ fn ask(size: usize, handle: Handle, truth: bool) -> Truth
 }
 
 // Whether the sheet differs from its last saved state, as far as the history tells.
-pub fn is_dirty(journal: &[u8], handle: Handle) -> Truth
+pub fn is_dirty(_form: Form, journal: &[u8], handle: Handle) -> Truth
     ensures { λ r. ⌜ truthTold r ≡ asked (length (now (journal .entry))) handle (dirty handle) ⌝ }
 {
     ask(journal.len(), handle, history_ledger::is_dirty(handle))
 }
 
 // Whether there is a record to undo.
-pub fn can_undo(journal: &[u8], handle: Handle) -> Truth
+pub fn can_undo(_form: Form, journal: &[u8], handle: Handle) -> Truth
     ensures { λ r. ⌜ truthTold r ≡ asked (length (now (journal .entry))) handle (undoLeft handle) ⌝ }
 {
     ask(journal.len(), handle, handle.position != 0)
 }
 
 // Whether there is a record to redo.
-pub fn can_redo(journal: &[u8], handle: Handle) -> Truth
+pub fn can_redo(_form: Form, journal: &[u8], handle: Handle) -> Truth
     ensures { λ r. ⌜ truthTold r ≡ asked (length (now (journal .entry))) handle (redoLeft handle) ⌝ }
 {
     ask(journal.len(), handle, handle.position != handle.count)

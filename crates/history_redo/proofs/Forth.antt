@@ -11,6 +11,7 @@ use lib.ListN.{length, take, drop}
 use Rattle.base.specs.declared.Lab.{Lab}
 use Rattle.base.specs.declared.Rgb.{Rgb}
 use Rattle.base.specs.declared.Edit.{Edit}
+use Rattle.base.specs.declared.Form.{Form}
 use Rattle.base.specs.declared.Handle.{Handle}
 use Rattle.edit.specs.Change.{Change}
 use Rattle.edit.specs.Apply.{redone}
@@ -29,7 +30,7 @@ use Rattle.history_model.specs.Editing.{taken, redoneBy, editing}
 use Rattle.history_model.specs.Calls.{Standing}
 use Rattle.history_model.proofs.Over.{Direction}
 
-module _ (curve : Rgb → Lab) {st : State Document} (stands : Standing st) where
+module _ (form : Form) (curve : Rgb → Lab) {st : State Document} (stands : Standing st) where
   abbrev handle : Handle
   handle = st .handle
 
@@ -49,23 +50,23 @@ module _ (curve : Rgb → Lab) {st : State Document} (stands : Standing st) wher
       → let made : Document = record { sheet = t; locks = marks } in made ≡ documentDone curve (st .sheet) e cs
   forth-makes e cs p m i = record { sheet = p i; locks = m i }
 
-  module _ (kind start n count : ℕ) (found : foundAt (handle .offset) (readForth used) ≡ Record kind start n count) where
-    searched : SearchedForth (st .journal) (handle .offset) (handle .end) kind start n count
+  module _ (kind start n count : ℕ) (found : foundAt (handle .offset) (readForth form (st .sheet .sheet .w) used) ≡ Record kind start n count) where
+    searched : SearchedForth form (st .sheet .sheet .w) (st .journal) (handle .offset) (handle .end) kind start n count
     searched =
         let s = sound-facts (length (st .journal)) handle (stands .is-sound) in
-        searched-forth (st .journal) (handle .offset) (handle .end) kind start n count (s .ends) (s .fits) found
+        searched-forth form (st .sheet .sheet .w) (st .journal) (handle .offset) (handle .end) kind start n count (s .ends) (s .fits) found
 
     pub forth-inside : handle .offset + n ≤ handle .end
     forth-inside = omega (arith, searched .starts, searched .ends)
 
-    pub forth-found : Searched (st .journal) (readForth used) kind start n count × (leb (handle .offset + n) (handle .end) ≡ true)
+    pub forth-found : Searched form (st .sheet .sheet .w) (st .journal) (readForth form (st .sheet .sheet .w) used) kind start n count × (leb (handle .offset + n) (handle .end) ≡ true)
     forth-found = (searched .found, le-leb (handle .offset + n) (handle .end) forth-inside)
 
-  abbrev pub forth : Direction st
+  abbrev pub forth : Direction form st
   forth =
       record {
-        reading = readForth used;
-        found = foundAt (handle .offset) (readForth used);
+        reading = readForth form (st .sheet .sheet .w) used;
+        found = foundAt (handle .offset) (readForth form (st .sheet .sheet .w) used);
         inside = λ m. leb (handle .offset + m) (handle .end);
         stepped = steppedForth;
         takes = redoable (st .sheet .sheet) (st .sheet .locks);
@@ -73,6 +74,6 @@ module _ (curve : Rgb → Lab) {st : State Document} (stands : Standing st) wher
         by = redoneBy curve (st .sheet);
         by-none = forth-none;
         by-some = forth-by;
-        nothing = unread-at (handle .offset) (readForth used);
+        nothing = unread-at (handle .offset) (readForth form (st .sheet .sheet .w) used);
         searched = forth-found;
       }

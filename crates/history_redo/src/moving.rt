@@ -1,5 +1,6 @@
 // `redo`: one step over the record after the standing offset. It does not write the journal.
 use base::Answer;
+use base::Form;
 use base::Handle;
 use base::JOURNAL_DAMAGED;
 use base::Moved;
@@ -40,6 +41,7 @@ fn redo_at(
     locks: &mut [bool],
     loaded: bool,
     curve: &[f64],
+    form: Form,
     journal: &[u8],
     handle: Handle,
     kind: u8,
@@ -55,7 +57,7 @@ fn redo_at(
         (handle .position < handle .count) × (length (now indices) ≤ length (now scratch)) × CurveFits (curveOf loaded (now curve))
         ⌝ }
     requires { ⌜
-        foundAt (handle .offset) (readForth (take (handle .end - handle .offset) (drop (handle .offset) (now journal))))
+        foundAt (handle .offset) (readForth form w (take (handle .end - handle .offset) (drop (handle .offset) (now journal))))
         ≡ Record kind start n count
         ⌝ }
     ensures { λ r. ⌜ (
@@ -64,7 +66,7 @@ fn redo_at(
         leaves r w h (now (palette .exit)) (now (lab .exit)) (now (indices .exit)) (now (locks .exit))
         (now (journal .entry))
         ≡ stepOver editing (stateOf document (now (journal .entry)) handle) (redoneBy (labBy (curveOf loaded (now (curve .entry)))) document
-        (readForth (take (handle .end - handle .offset) (drop (handle .offset) (now (journal .entry))))))
+        (readForth form w (take (handle .end - handle .offset) (drop (handle .offset) (now (journal .entry))))))
         (λ m. leb (handle .offset + m) (handle .end)) steppedForth
         ) ⌝ }
 {
@@ -79,6 +81,7 @@ fn redo_at(
         palette,
         indices,
         locks,
+        form,
         journal,
         kind,
         start,
@@ -96,6 +99,7 @@ fn redo_at(
         locks,
         loaded,
         curve,
+        form,
         journal,
         kind,
         start,
@@ -119,6 +123,7 @@ fn redo_found(
     locks: &mut [bool],
     loaded: bool,
     curve: &[f64],
+    form: Form,
     journal: &[u8],
     handle: Handle,
     found: Found,
@@ -133,7 +138,7 @@ fn redo_found(
     requires { ⌜
         found
         ≡ foundAt (handle .offset)
-        (readForth (take (handle .end - handle .offset) (drop (handle .offset) (now journal))))
+        (readForth form w (take (handle .end - handle .offset) (drop (handle .offset) (now journal))))
         ⌝ }
     ensures { λ r. ⌜ (
         let document =
@@ -141,7 +146,7 @@ fn redo_found(
         leaves r w h (now (palette .exit)) (now (lab .exit)) (now (indices .exit)) (now (locks .exit))
         (now (journal .entry))
         ≡ stepOver editing (stateOf document (now (journal .entry)) handle) (redoneBy (labBy (curveOf loaded (now (curve .entry)))) document
-        (readForth (take (handle .end - handle .offset) (drop (handle .offset) (now (journal .entry))))))
+        (readForth form w (take (handle .end - handle .offset) (drop (handle .offset) (now (journal .entry))))))
         (λ m. leb (handle .offset + m) (handle .end)) steppedForth
         ) ⌝ }
 {
@@ -161,6 +166,7 @@ fn redo_found(
             locks,
             loaded,
             curve,
+            form,
             journal,
             handle,
             kind,
@@ -186,6 +192,7 @@ pub fn redo(
     locks: &mut [bool],
     loaded: bool,
     curve: &[f64],
+    form: Form,
     journal: &[u8],
     handle: Handle,
     scratch: &mut [u8],
@@ -195,7 +202,7 @@ pub fn redo(
         documentOf w h k (now (palette .entry)) (now (lab .entry)) (now (indices .entry)) (now (locks .entry)) in
         leaves r w h (now (palette .exit)) (now (lab .exit)) (now (indices .exit)) (now (locks .exit))
         (now (journal .entry))
-        ≡ redoOf (editingBy (curveOf loaded (now (curve .entry)))) (length (now (scratch .entry))) (stateOf document (now (journal .entry)) handle)
+        ≡ redoOf (editingBy form (curveOf loaded (now (curve .entry)))) (length (now (scratch .entry))) (stateOf document (now (journal .entry)) handle)
         ) ⌝ }
     ensures { λ _. ⌜ length (now (scratch .exit)) ≡ length (now (scratch .entry)) ⌝ }
 {
@@ -213,7 +220,7 @@ pub fn redo(
     if scratch.len() < indices.len() {
         return refused(NO_SPACE, k, handle);
     }
-    let found = find_forth(journal, handle.offset, handle.end);
+    let found = find_forth(form, journal, handle.offset, handle.end);
     redo_found(
         w,
         h,
@@ -224,6 +231,7 @@ pub fn redo(
         locks,
         loaded,
         curve,
+        form,
         journal,
         handle,
         found,

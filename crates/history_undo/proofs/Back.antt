@@ -12,6 +12,7 @@ use lib.ListN.{length, take}
 use Rattle.sheet.specs.Sheet.{Sheet, sheetOf}
 use Rattle.sheet.specs.Checks.{WellFormed}
 use Rattle.base.specs.declared.Edit.{Edit}
+use Rattle.base.specs.declared.Form.{Form}
 use Rattle.base.specs.declared.Handle.{Handle}
 use Rattle.edit.specs.Change.{Change}
 use Rattle.edit.specs.Apply.{reverted}
@@ -31,7 +32,7 @@ use Rattle.history_model.specs.Editing.{taken, undoneBy, editing}
 use Rattle.history_model.specs.Calls.{stateOf, Standing}
 use Rattle.history_model.proofs.Over.{Direction, step-not, step-done}
 
-module _ {st : State Document} (stands : Standing st) where
+module _ (form : Form) {st : State Document} (stands : Standing st) where
   abbrev handle : Handle
   handle = st .handle
 
@@ -47,23 +48,23 @@ module _ {st : State Document} (stands : Standing st) where
   unfolding undoneBy
   back-none = refl
 
-  module _ (kind start n count : ℕ) (found : foundBefore (handle .offset) (readBack used) ≡ Record kind start n count) where
-    searched : SearchedBack (st .journal) (handle .offset) kind start n count
+  module _ (kind start n count : ℕ) (found : foundBefore (handle .offset) (readBack form (st .sheet .sheet .w) used) ≡ Record kind start n count) where
+    searched : SearchedBack form (st .sheet .sheet .w) (st .journal) (handle .offset) kind start n count
     searched =
         let s = sound-facts (length (st .journal)) handle (stands .is-sound) in
-        searched-back (st .journal) (handle .offset) kind start n count (omega (arith, s .ends, s .fits)) found
+        searched-back form (st .sheet .sheet .w) (st .journal) (handle .offset) kind start n count (omega (arith, s .ends, s .fits)) found
 
     pub back-inside : n ≤ handle .offset
     back-inside = searched .fits
 
-    pub back-found : Searched (st .journal) (readBack used) kind start n count × (leb n (handle .offset) ≡ true)
+    pub back-found : Searched form (st .sheet .sheet .w) (st .journal) (readBack form (st .sheet .sheet .w) used) kind start n count × (leb n (handle .offset) ≡ true)
     back-found = (searched .found, le-leb n (handle .offset) back-inside)
 
-  abbrev pub back : Direction st
+  abbrev pub back : Direction form st
   back =
       record {
-        reading = readBack used;
-        found = foundBefore (handle .offset) (readBack used);
+        reading = readBack form (st .sheet .sheet .w) used;
+        found = foundBefore (handle .offset) (readBack form (st .sheet .sheet .w) used);
         inside = λ m. leb m (handle .offset);
         stepped = steppedBack;
         takes = undoable (st .sheet .sheet) (st .sheet .locks);
@@ -71,12 +72,12 @@ module _ {st : State Document} (stands : Standing st) where
         by = undoneBy (st .sheet);
         by-none = back-none;
         by-some = back-by;
-        nothing = unread-before (handle .offset) (readBack used);
+        nothing = unread-before (handle .offset) (readBack form (st .sheet .sheet .w) used);
         searched = back-found;
       }
 
   abbrev stepped : Outcome (State Document)
-  stepped = stepOver editing st (undoneBy (st .sheet) (readBack used)) (λ m. leb m (handle .offset)) steppedBack
+  stepped = stepOver editing st (undoneBy (st .sheet) (readBack form (st .sheet .sheet .w) used)) (λ m. leb m (handle .offset)) steppedBack
 
   -- ---- the indices as the test leaves them, which are those that it met
   module _ (l : List ℤ) (same : l ≡ st .sheet .sheet .indices) where
@@ -103,7 +104,7 @@ module _ {st : State Document} (stands : Standing st) where
       edit = editAt (st .journal) kind start
 
       abbrev changes : List Change
-      changes = changesAt (st .journal) kind start count
+      changes = changesAt form (st .sheet .sheet .w) (st .journal) kind start count
 
       abbrev takes : Sheet → Bool
       takes x = undoable x (st .sheet .locks) edit changes
@@ -111,7 +112,7 @@ module _ {st : State Document} (stands : Standing st) where
       pub kept-undoable : takes s ≡ true → takes kept ≡ true
       kept-undoable ok = ap takes kept-is ∙ ok
 
-      module _ (n : ℕ) (found : foundBefore (handle .offset) (readBack used) ≡ Record kind start n count) where
+      module _ (n : ℕ) (found : foundBefore (handle .offset) (readBack form (st .sheet .sheet .w) used) ≡ Record kind start n count) where
         pub back-not : takes s ≡ false → refused (stateOf lent (st .journal) handle) 4 ≡ stepped
         back-not e = ap (λ (x : Document). refused (stateOf x (st .journal) handle) 4) lent-is ∙ step-not back found e
 

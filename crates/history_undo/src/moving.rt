@@ -1,5 +1,6 @@
 // `undo`: one step over the record before the standing offset. It does not write the journal.
 use base::Answer;
+use base::Form;
 use base::Handle;
 use base::JOURNAL_DAMAGED;
 use base::Moved;
@@ -16,13 +17,14 @@ ghost use mathlib.Core.Path.{_≡_};
 ghost use Prim.Native.Nat.{_<_};
 ghost use lib.Dec.{leb};
 ghost use lib.ListN.{take};
+ghost use Rattle.color_curve.specs.Curve.{srgb};
 ghost use Rattle.journal_record.specs.declared.Found.the-variants.{Record};
 ghost use Rattle.journal_record.specs.Record.{readBack};
 ghost use Rattle.journal_record.specs.Found.{foundBefore};
 ghost use Rattle.history_ledger.specs.Handle.{steppedBack};
 ghost use Rattle.history_ledger.specs.Journal.{stepOver, undoOf};
 ghost use Rattle.history_model.specs.Document.{documentOf};
-ghost use Rattle.history_model.specs.Editing.{undoneBy, editing};
+ghost use Rattle.history_model.specs.Editing.{undoneBy, editing, editingBy};
 ghost use Rattle.history_model.specs.Calls.{stateOf, leaves, Standing};
 
 // One step back over a record of n bytes that was found: where `can_revert` refuses it, the sheet would not be
@@ -35,6 +37,7 @@ fn undo_at(
     lab: &mut [f64],
     indices: &mut [i16],
     locks: &mut [bool],
+    form: Form,
     journal: &[u8],
     handle: Handle,
     kind: u8,
@@ -47,7 +50,7 @@ fn undo_at(
         ⌝ }
     requires { ⌜ 0 < handle .position ⌝ }
     requires { ⌜
-        foundBefore (handle .offset) (readBack (take (handle .offset) (now journal))) ≡ Record kind start n count
+        foundBefore (handle .offset) (readBack form w (take (handle .offset) (now journal))) ≡ Record kind start n count
         ⌝ }
     ensures { λ r. ⌜ (
         let document =
@@ -55,7 +58,7 @@ fn undo_at(
         leaves r w h (now (palette .exit)) (now (lab .exit)) (now (indices .exit)) (now (locks .exit))
         (now (journal .entry))
         ≡ stepOver editing (stateOf document (now (journal .entry)) handle)
-        (undoneBy document (readBack (take (handle .offset) (now (journal .entry))))) (λ m. leb m (handle .offset))
+        (undoneBy document (readBack form w (take (handle .offset) (now (journal .entry))))) (λ m. leb m (handle .offset))
         steppedBack
         ) ⌝ }
 {
@@ -71,6 +74,7 @@ fn undo_at(
         lab,
         indices,
         locks,
+        form,
         journal,
         kind,
         start,
@@ -86,6 +90,7 @@ fn undo_at(
         lab,
         indices,
         locks,
+        form,
         journal,
         kind,
         start,
@@ -107,6 +112,7 @@ fn undo_found(
     lab: &mut [f64],
     indices: &mut [i16],
     locks: &mut [bool],
+    form: Form,
     journal: &[u8],
     handle: Handle,
     found: Found,
@@ -115,14 +121,14 @@ fn undo_found(
         Standing (stateOf (documentOf w h k (now palette) (now lab) (now indices) (now locks)) (now journal) handle)
         ⌝ }
     requires { ⌜ 0 < handle .position ⌝ }
-    requires { ⌜ found ≡ foundBefore (handle .offset) (readBack (take (handle .offset) (now journal))) ⌝ }
+    requires { ⌜ found ≡ foundBefore (handle .offset) (readBack form w (take (handle .offset) (now journal))) ⌝ }
     ensures { λ r. ⌜ (
         let document =
         documentOf w h k (now (palette .entry)) (now (lab .entry)) (now (indices .entry)) (now (locks .entry)) in
         leaves r w h (now (palette .exit)) (now (lab .exit)) (now (indices .exit)) (now (locks .exit))
         (now (journal .entry))
         ≡ stepOver editing (stateOf document (now (journal .entry)) handle)
-        (undoneBy document (readBack (take (handle .offset) (now (journal .entry))))) (λ m. leb m (handle .offset))
+        (undoneBy document (readBack form w (take (handle .offset) (now (journal .entry))))) (λ m. leb m (handle .offset))
         steppedBack
         ) ⌝ }
 {
@@ -140,6 +146,7 @@ fn undo_found(
             lab,
             indices,
             locks,
+            form,
             journal,
             handle,
             kind,
@@ -162,6 +169,7 @@ pub fn undo(
     lab: &mut [f64],
     indices: &mut [i16],
     locks: &mut [bool],
+    form: Form,
     journal: &[u8],
     handle: Handle,
 ) -> Moved
@@ -170,7 +178,7 @@ pub fn undo(
         documentOf w h k (now (palette .entry)) (now (lab .entry)) (now (indices .entry)) (now (locks .entry)) in
         leaves r w h (now (palette .exit)) (now (lab .exit)) (now (indices .exit)) (now (locks .exit))
         (now (journal .entry))
-        ≡ undoOf editing (stateOf document (now (journal .entry)) handle)
+        ≡ undoOf (editingBy form srgb) (stateOf document (now (journal .entry)) handle)
         ) ⌝ }
 {
     let no = move_no(w, h, k, palette, lab, indices, locks, journal, handle);
@@ -180,7 +188,7 @@ pub fn undo(
     if handle.position == 0 {
         return still(k, handle);
     }
-    let found = find_back(journal, handle.offset);
+    let found = find_back(form, journal, handle.offset);
     undo_found(
         w,
         h,
@@ -189,6 +197,7 @@ pub fn undo(
         lab,
         indices,
         locks,
+        form,
         journal,
         handle,
         found,

@@ -2,20 +2,22 @@
 use Prim.Native.Nat.{ℕ, _+_, _*_, _<_}
 use mathlib.Core.List.{List, [], _∷_, _++_}
 use Rattle.base.specs.Lists.{over}
+use Rattle.base.specs.declared.Form.{Form}
 use Rattle.base.specs.declared.Edit.{Edit}
 use Rattle.base.specs.declared.Edit.the-variants.{Pixels, PaletteSet, PaletteAdd, PaletteRemove, PaletteLock}
 use Rattle.edit.specs.Storage.{bytesOf}
 use Rattle.journal_record.specs.Bytes.{le, splice}
-use Rattle.journal_record.specs.Record.{labBytes, recordOf}
+use Rattle.journal_record.specs.Record.{stride, pixelsKind, removeKind, labBytes, recordOf}
 use Rattle.journal_write.specs.Fit.{Numbers}
 
--- the rest of a record with n changes: "kind first, whole length (4 bytes) last"
-unfoldable pub around : Edit → ℕ → List ℕ → List ℕ
-around (Pixels tool) n part = splice (over (1 ∷ tool ∷ le 4 n) part) (6 + 8 * n) (le 4 (10 + 8 * n))
-around (PaletteSet i old new lab) n part = over (recordOf (PaletteSet i old new lab) []) part
-around (PaletteAdd c) n part = over (recordOf (PaletteAdd c) []) part
-around (PaletteRemove i c lab) n part = splice (over (4 ∷ i ∷ bytesOf c ++ (labBytes lab ++ le 4 n)) part) (33 + 8 * n) (le 4 (37 + 8 * n))
-around (PaletteLock i old new) n part = over (recordOf (PaletteLock i old new) []) part
+-- the rest of a record with n changes: "kind first, whole length (4 bytes) last". One without changes is whole, and looks at no width
+unfoldable pub around : Form → Edit → ℕ → List ℕ → List ℕ
+around f (Pixels tool) n part = splice (over (pixelsKind f ∷ tool ∷ le 4 n) part) (6 + stride f * n) (le 4 (10 + stride f * n))
+around f (PaletteSet i old new lab) n part = over (recordOf f 0 (PaletteSet i old new lab) []) part
+around f (PaletteAdd c) n part = over (recordOf f 0 (PaletteAdd c) []) part
+around f (PaletteRemove i c lab) n part =
+    splice (over (removeKind f ∷ i ∷ bytesOf c ++ (labBytes lab ++ le 4 n)) part) (33 + stride f * n) (le 4 (37 + stride f * n))
+around f (PaletteLock i old new) n part = over (recordOf f 0 (PaletteLock i old new) []) part
 
 -- what its writer asks of an edit: an index is a byte, LAB is numbers
 unfoldable pub Framed : Edit → Type 0

@@ -2,7 +2,7 @@
 -- the last that paints it; and each release gives the index back. Assumes nothing.
 use mathlib.Core.Path.{_≡_, refl, sym, ap, _∙_}
 use mathlib.Core.Bool.{Bool, true, false, not, cond, _&&_, _||_, or-comm}
-use mathlib.Core.List.{List, [], _∷_, map}
+use mathlib.Core.List.{List, [], _∷_}
 use Prim.Native.Nat.{ℕ, zero, suc, _+_, _<_, _≤_}
 use native.Mathlib.Omega.{arith}
 use borrow.Author.Tests.{leb-false, le-leb, lt-leb, eqb-true, eqb-false}
@@ -11,13 +11,14 @@ use lib.IntN.{ℤ, pos, negsuc, _+ℤ_, +ℤ-negℤ-cancel}
 use lib.ListN.{length, drop, getD, set, length-set}
 use lib.Seq.{getD-set-same, getD-set-other, ext-getD}
 use Rattle.base.specs.Lists.{some}
-use Rattle.base.proofs.Scan.{drop-next, drop-end, some-none}
+use Rattle.base.proofs.Scan.{drop-end, some-none}
 use Rattle.base.proofs.Nowhere.{or-both}
 use Rattle.base.proofs.Back.{never}
 use Rattle.sheet.specs.Sheet.{stray}
 use Rattle.sheet.proofs.Strays.{stray-more}
-use Rattle.edit.specs.Change.{Change, unpacked, place, painted, oldOf}
+use Rattle.edit.specs.Change.{Change, place, painted, oldOf}
 use Rattle.edit.specs.Checks.{named}
+use Rattle.edit_pixels.proofs.Nth.{Nth}
 use Rattle.journal_olds.specs.Claims.{claimed, claimOf, releaseOf, Claims}
 use Rattle.journal_olds.proofs.Fresh.{painted-fresh}
 
@@ -98,16 +99,16 @@ module _ {w : ℕ} {cs : List Change} {l m : List ℤ} (a : Claims w cs l m) whe
       says-more p k = says-by p k (eqb P p) refl
 
 -- ---- the loop that claims
-pub record Claiming (w k : ℕ) (list : List ℕ) (l₀ : List ℤ) (i : ℕ) (l : List ℤ) (bad : Bool) : Type 0 where
-  pub few : i ≤ length list
+pub record Claiming (w k : ℕ) (cs : List Change) (l₀ : List ℤ) (i : ℕ) (l : List ℤ) (bad : Bool) : Type 0 where
+  pub few : i ≤ length cs
   pub clean : some (stray k) l₀ ≡ false
-  pub claims : Claims w (map unpacked (drop i list)) l₀ l
-  pub bad-is : bad ≡ some (stray k) (painted oldOf w (map unpacked (drop i list)) l₀)
+  pub claims : Claims w (drop i cs) l₀ l
+  pub bad-is : bad ≡ some (stray k) (painted oldOf w (drop i cs) l₀)
 
-pub claiming-none : (w k : ℕ) (list : List ℕ) (l : List ℤ) (n : ℕ) → length list ≡ n → k ≤ 256 → some (stray k) l ≡ false → Claiming w k list l n l false
+pub claiming-none : (w k : ℕ) (cs : List Change) (l : List ℤ) (n : ℕ) → length cs ≡ n → k ≤ 256 → some (stray k) l ≡ false → Claiming w k cs l n l false
 unfolding named some painted
-claiming-none w k list l n q h e =
-    let none : drop n list ≡ [] = drop-end list n (omega (arith, q)) in
+claiming-none w k cs l n q h e =
+    let none : drop n cs ≡ [] = drop-end cs n (omega (arith, q)) in
     record {
       few = omega (arith, q);
       clean = e;
@@ -115,20 +116,18 @@ claiming-none w k list l n q h e =
       bad-is = rw none (sym e);
     }
 
-module _ {w k : ℕ} {list : List ℕ} {l₀ l : List ℤ} {i : ℕ} {bad : Bool} (a : Claiming w k list l₀ i l bad) where
-  pub claiming-next : {j : ℕ} {m : List ℤ} {hit flag : Bool} → j + 1 ≡ i → place w (unpacked (getD list j 0)) < length l₀
-      → m ≡ set l (place w (unpacked (getD list j 0))) (claimOf (getD l (place w (unpacked (getD list j 0))) (pos 0)))
-      → hit ≡ not (claimed (getD l (place w (unpacked (getD list j 0))) (pos 0))) && stray k (oldOf (unpacked (getD list j 0)))
-      → flag ≡ bad || hit → Claiming w k list l₀ j m flag
+module _ {w k : ℕ} {cs : List Change} {l₀ l : List ℤ} {i : ℕ} {bad : Bool} (a : Claiming w k cs l₀ i l bad) where
+  pub claiming-next : {j : ℕ} {c : Change} {m : List ℤ} {hit flag : Bool} → Nth cs j c → j + 1 ≡ i → place w c < length l₀
+      → m ≡ set l (place w c) (claimOf (getD l (place w c) (pos 0)))
+      → hit ≡ not (claimed (getD l (place w c) (pos 0))) && stray k (oldOf c)
+      → flag ≡ bad || hit → Claiming w k cs l₀ j m flag
   unfolding painted
-  claiming-next {j} {m} {hit} {flag} e h em eh ef =
-      let c : Change = unpacked (getD list j 0) in
+  claiming-next {j} {c} {m} {hit} {flag} b e h em eh ef =
       let P : ℕ = place w c in
-      let rest : List Change = map unpacked (drop i list) in
-      let b : j < length list = omega (arith, a .few) in
-      let next : map unpacked (drop j list) ≡ c ∷ rest = ap (map unpacked) (drop-next list j 0 b) ∙ ap (λ (y : ℕ). c ∷ map unpacked (drop y list)) e in
+      let rest : List Change = drop i cs in
+      let next : drop j cs ≡ c ∷ rest = b .left ∙ ap (λ (y : ℕ). c ∷ drop y cs) e in
       record {
-        few = omega arith;
+        few = omega (arith, a .few);
         clean = a .clean;
         claims = rw (next, em) (claims-more (a .claims) c h);
         bad-is =
@@ -137,7 +136,7 @@ module _ {w k : ℕ} {list : List ℕ} {l₀ l : List ℤ} {i : ℕ} {bad : Bool
             ∙ sym (painted-fresh (stray k) oldOf w rest l₀ P (oldOf c) h (some-none (stray k) l₀ P (pos 0) (a .clean) h)));
       }
 
-  pub claiming-all : i ≡ 0 → Claims w (map unpacked list) l₀ l × (bad ≡ some (stray k) (painted oldOf w (map unpacked list) l₀))
+  pub claiming-all : i ≡ 0 → Claims w cs l₀ l × (bad ≡ some (stray k) (painted oldOf w cs l₀))
   claiming-all e = (rw e at (a .claims), rw e at (a .bad-is))
 
 -- ---- the loop that releases: m is l but where what is left names a claimed place
@@ -194,22 +193,21 @@ freed-all : {w : ℕ} {l m : List ℤ} → Freed w [] l m → m ≡ l
 unfolding named some
 freed-all {w} {l} {m} a = ext-getD (pos 0) m l (a .long) (λ p h. a .off p (omega (arith, a .long)) refl)
 
-pub record Releasing (w : ℕ) (list : List ℕ) (m₀ : List ℤ) (i : ℕ) (m : List ℤ) : Type 0 where
+pub record Releasing (w : ℕ) (cs : List Change) (m₀ : List ℤ) (i : ℕ) (m : List ℤ) : Type 0 where
   pub long : length m ≡ length m₀
-  frees : (l : List ℤ) → Claims w (map unpacked list) l m₀ → Freed w (map unpacked (drop i list)) l m
+  frees : (l : List ℤ) → Claims w cs l m₀ → Freed w (drop i cs) l m
 
-pub releasing-none : (w : ℕ) (list : List ℕ) (m : List ℤ) → Releasing w list m 0 m
-releasing-none w list m = record { long = refl; frees = λ l a. freed-none a }
+pub releasing-none : (w : ℕ) (cs : List Change) (m : List ℤ) → Releasing w cs m 0 m
+releasing-none w cs m = record { long = refl; frees = λ l a. freed-none a }
 
-module _ {w : ℕ} {list : List ℕ} {m₀ m : List ℤ} {i : ℕ} (a : Releasing w list m₀ i m) where
-  pub releasing-next : {r : List ℤ} → i < length list → place w (unpacked (getD list i 0)) < length m₀
-      → r ≡ set m (place w (unpacked (getD list i 0))) (releaseOf (getD m (place w (unpacked (getD list i 0))) (pos 0))) → Releasing w list m₀ (i + 1) r
-  releasing-next {r} h k e =
-      let P : ℕ = place w (unpacked (getD list i 0)) in
+module _ {w : ℕ} {cs : List Change} {m₀ m : List ℤ} {i : ℕ} (a : Releasing w cs m₀ i m) where
+  pub releasing-next : {c : Change} {r : List ℤ} → Nth cs i c → place w c < length m₀ → r ≡ set m (place w c) (releaseOf (getD m (place w c) (pos 0))) → Releasing w cs m₀ (i + 1) r
+  releasing-next {c} {r} n k e =
+      let P : ℕ = place w c in
       record {
         long = ap length e ∙ length-set m P (releaseOf (getD m P (pos 0))) ∙ a .long;
-        frees = λ l b. rw e (freed-more (rw (b .long) at k) (rw (drop-next list i 0 h) at (a .frees l b)));
+        frees = λ l b. rw e (freed-more (rw (b .long) at k) (rw (n .left) at (a .frees l b)));
       }
 
-  pub releasing-all : length list ≤ i → (l : List ℤ) → Claims w (map unpacked list) l m₀ → m ≡ l
-  releasing-all h l b = freed-all (rw (drop-end list i h) at (a .frees l b))
+  pub releasing-all : length cs ≤ i → (l : List ℤ) → Claims w cs l m₀ → m ≡ l
+  releasing-all h l b = freed-all (rw (drop-end cs i h) at (a .frees l b))

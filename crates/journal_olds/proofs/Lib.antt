@@ -2,4 +2,3 @@ pub mod Fresh
 pub mod Examples
 pub mod Claims
 pub mod Signed
-pub mod Places

@@ -1,4 +1,5 @@
 // The olds of a record's changes, read from its bytes, judged and painted.
+use base::Form;
 use base::both;
 use base::either;
 use edit_pixels::is_stray;
@@ -6,44 +7,48 @@ use edit_pixels::old_of;
 use edit_pixels::paint_old;
 use edit_pixels::place_of;
 use journal_read::change_at;
+use journal_read::row_width;
 ghost use mathlib.Core.Path.{_≡_};
 ghost use mathlib.Core.Bool.{false, not, _&&_};
 ghost use mathlib.Core.List.{List};
-ghost use Prim.Native.Nat.{_+_, _*_, _<_, _≤_};
+ghost use Prim.Native.Nat.{ℕ, _+_, _*_, _<_, _≤_};
 ghost use lib.IntN.{ℤ, pos};
 ghost use lib.ListN.{length, getD, set};
 ghost use Rattle.base.specs.Lists.{some};
 ghost use Rattle.sheet.specs.Sheet.{stray};
 ghost use Rattle.edit.specs.Change.{unpacked, place, painted, oldOf};
 ghost use Rattle.edit_pixels.specs.Inside.{past};
-ghost use Rattle.journal_record.specs.Record.{changesIn};
+ghost use Rattle.journal_record.specs.Record.{stride, changesIn};
 ghost use Rattle.journal_olds.specs.Claims.{claimed, claimOf, releaseOf, Claims};
 
 // Whether some old lies outside -1..k-1.
-fn any_stray_old_in(k: usize, journal: &[u8], at: usize, n: usize) -> bool
-    requires { ⌜ at + 8 * n ≤ length (now journal) ⌝ }
-    ensures { λ r. ⌜ r ≡ some (λ c. stray k (oldOf c)) (changesIn (now (journal .entry)) at n) ⌝ }
+fn any_stray_old_in(k: usize, form: Form, journal: &[u8], at: usize, n: usize) -> bool
+    requires { ⌜ at + stride form * n ≤ length (now journal) ⌝ }
+    ensures { λ r. ⌜
+        ((w : ℕ) → r ≡ some (λ c. stray k (oldOf c)) (changesIn form w (now (journal .entry)) at n))
+        ⌝ }
 {
     let mut bad = false;
     let mut i: usize = 0;
     while i < n {
-        bad = either(bad, is_stray(old_of(change_at(journal, at, i)), k));
+        bad = either(bad, is_stray(old_of(change_at(form, journal, at, i)), k));
         i += 1;
     }
     bad
 }
 
 // Paints each old at its place, in order. No change is past the picture.
-pub fn paint_olds_in(indices: &mut [i16], w: usize, journal: &[u8], at: usize, n: usize)
-    requires { ⌜ at + 8 * n ≤ length (now journal) ⌝ }
-    requires { ⌜ some (past w (length (now indices))) (changesIn (now journal) at n) ≡ false ⌝ }
+pub fn paint_olds_in(indices: &mut [i16], w: usize, form: Form, journal: &[u8], at: usize, n: usize)
+    requires { ⌜ at + stride form * n ≤ length (now journal) ⌝ }
+    requires { ⌜ some (past w (length (now indices))) (changesIn form w (now journal) at n) ≡ false ⌝ }
     ensures { λ _. ⌜
-        now (indices .exit) ≡ painted oldOf w (changesIn (now (journal .entry)) at n) (now (indices .entry))
+        now (indices .exit) ≡ painted oldOf w (changesIn form w (now (journal .entry)) at n) (now (indices .entry))
         ⌝ }
 {
+    let row = row_width(form, w);
     let mut i: usize = 0;
     while i < n {
-        paint_old(indices, w, change_at(journal, at, i));
+        paint_old(indices, row, change_at(form, journal, at, i));
         i += 1;
     }
 }
@@ -100,23 +105,27 @@ fn claim_places(
     indices: &mut [i16],
     w: usize,
     k: usize,
+    form: Form,
     journal: &[u8],
     at: usize,
     n: usize,
 ) -> bool
-    requires { ⌜ (at + 8 * n ≤ length (now journal)) × (k ≤ 256) ⌝ }
-    requires { ⌜ some (past w (length (now indices))) (changesIn (now journal) at n) ≡ false ⌝ }
+    requires { ⌜ (at + stride form * n ≤ length (now journal)) × (k ≤ 256) ⌝ }
+    requires { ⌜ some (past w (length (now indices))) (changesIn form w (now journal) at n) ≡ false ⌝ }
     requires { ⌜ some (stray k) (now indices) ≡ false ⌝ }
-    ensures { λ _. ⌜ Claims w (changesIn (now (journal .entry)) at n) (now (indices .entry)) (now (indices .exit)) ⌝ }
+    ensures { λ _. ⌜
+        Claims w (changesIn form w (now (journal .entry)) at n) (now (indices .entry)) (now (indices .exit))
+        ⌝ }
     ensures { λ r. ⌜
-        r ≡ some (stray k) (painted oldOf w (changesIn (now (journal .entry)) at n) (now (indices .entry)))
+        r ≡ some (stray k) (painted oldOf w (changesIn form w (now (journal .entry)) at n) (now (indices .entry)))
         ⌝ }
 {
+    let row = row_width(form, w);
     let mut bad = false;
     let mut i: usize = n;
     while 0 < i {
         i -= 1;
-        let hit = claim_place(indices, w, k, change_at(journal, at, i));
+        let hit = claim_place(indices, row, k, change_at(form, journal, at, i));
         bad = either(bad, hit);
     }
     bad
@@ -137,17 +146,18 @@ fn release_place(indices: &mut [i16], w: usize, c: u64)
 }
 
 // Takes the claims off the places of the changes.
-fn release_places(indices: &mut [i16], w: usize, journal: &[u8], at: usize, n: usize)
-    requires { ⌜ at + 8 * n ≤ length (now journal) ⌝ }
-    requires { ⌜ some (past w (length (now indices))) (changesIn (now journal) at n) ≡ false ⌝ }
+fn release_places(indices: &mut [i16], w: usize, form: Form, journal: &[u8], at: usize, n: usize)
+    requires { ⌜ at + stride form * n ≤ length (now journal) ⌝ }
+    requires { ⌜ some (past w (length (now indices))) (changesIn form w (now journal) at n) ≡ false ⌝ }
     ensures { λ _. ⌜
-        ((l : List ℤ) → Claims w (changesIn (now (journal .entry)) at n) l (now (indices .entry))
+        ((l : List ℤ) → Claims w (changesIn form w (now (journal .entry)) at n) l (now (indices .entry))
         → now (indices .exit) ≡ l)
         ⌝ }
 {
+    let row = row_width(form, w);
     let mut i: usize = 0;
     while i < n {
-        release_place(indices, w, change_at(journal, at, i));
+        release_place(indices, row, change_at(form, journal, at, i));
         i += 1;
     }
 }
@@ -158,22 +168,23 @@ pub fn olds_stray(
     indices: &mut [i16],
     w: usize,
     k: usize,
+    form: Form,
     journal: &[u8],
     at: usize,
     n: usize,
 ) -> bool
-    requires { ⌜ (at + 8 * n ≤ length (now journal)) × (k ≤ 256) ⌝ }
-    requires { ⌜ some (past w (length (now indices))) (changesIn (now journal) at n) ≡ false ⌝ }
+    requires { ⌜ (at + stride form * n ≤ length (now journal)) × (k ≤ 256) ⌝ }
+    requires { ⌜ some (past w (length (now indices))) (changesIn form w (now journal) at n) ≡ false ⌝ }
     requires { ⌜ some (stray k) (now indices) ≡ false ⌝ }
     ensures { λ _. ⌜ now (indices .exit) ≡ now (indices .entry) ⌝ }
     ensures { λ r. ⌜
-        r ≡ some (stray k) (painted oldOf w (changesIn (now (journal .entry)) at n) (now (indices .entry)))
+        r ≡ some (stray k) (painted oldOf w (changesIn form w (now (journal .entry)) at n) (now (indices .entry)))
         ⌝ }
 {
-    if !any_stray_old_in(k, journal, at, n) {
+    if !any_stray_old_in(k, form, journal, at, n) {
         return false;
     }
-    let bad = claim_places(indices, w, k, journal, at, n);
-    release_places(indices, w, journal, at, n);
+    let bad = claim_places(indices, w, k, form, journal, at, n);
+    release_places(indices, w, form, journal, at, n);
     bad
 }

@@ -1,4 +1,5 @@
 pub mod Searched
-pub mod Numbers
+pub mod Placed
+pub mod Read
 pub mod Rooms
 pub mod LabBytes

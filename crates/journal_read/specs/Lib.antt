@@ -1,3 +1,4 @@
 pub mod Sound
 pub mod Lies
 pub mod LabRead
+pub mod Number

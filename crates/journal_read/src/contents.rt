@@ -9,11 +9,12 @@ use crate::lab::lab_in;
 use crate::rgb::get_rgb;
 use base::Edit;
 ghost use mathlib.Core.Path.{_≡_};
+ghost use Rattle.base.specs.declared.Form.the-variants.{Coordinates};
 ghost use Rattle.journal_read.specs.Lies.{editAt, Lies};
 
-// The edit of a record that lies in the journal.
+// The edit of a record that lies in the journal, in either form: without its changes a record is as long in both.
 pub fn edit_at(journal: &[u8], kind: u8, start: usize) -> Edit
-    requires { ⌜ Lies (now journal) kind start 0 ⌝ }
+    requires { ⌜ Lies Coordinates (now journal) kind start 0 ⌝ }
     ensures { λ r. ⌜ r ≡ editAt (now (journal .entry)) kind start ⌝ }
 {
     if kind == PIXELS {

@@ -2,8 +2,8 @@
 use Prim.Native.Nat.{ℕ, zero, suc, _+_, _-_, _*_, _/_, _%_, _^_, _≤_, _<_}
 use mathlib.Core.Path.{_≡_, refl, sym, ap, _∙_}
 use mathlib.Core.List.{List, [], _∷_, _++_}
-use native.Mathlib.Nat.{suc-add, zero-add, pow-suc, pow-succ', pow-zero, one-mul, div-one, div-div-eq-div-mul, mul-assoc, mod-eq-of-lt, sub-zero, zero-sub, suc-sub-suc}
-use native.Mathlib.Numerals.{add-one, add-two, add-three}
+use native.Mathlib.Nat.{add-assoc, suc-add, zero-add, pow-suc, pow-succ', pow-zero, one-mul, div-one, div-div-eq-div-mul, mul-assoc, mod-eq-of-lt, sub-zero, zero-sub, suc-sub-suc}
+use native.Mathlib.Numerals.{add-one}
 use native.Mathlib.Omega.{arith}
 use lib.Arith.{mod-mul}
 use lib.Dec.{lit<}
@@ -50,19 +50,10 @@ unle-append [] b = rw (pow-zero 256, one-mul (unle b), zero-add (unle b))
 unle-append (x ∷ a) b = rw (unle-append a b, pow-succ' 256 (length a), mul-assoc 256 (256 ^ length a) (unle b)) (omega arith)
 
 module _ (s : List ℕ) (at : ℕ) where
-  pub leAt-four : at + 4 ≤ length s → leAt 4 s at ≡ getD s at 0 + 256 * (getD s (at + 1) 0 + 256 * (getD s (at + 2) 0 + 256 * getD s (at + 3) 0))
+  -- the lowest byte, and then the others
+  leAt-next : (k : ℕ) → at < length s → leAt (suc k) s at ≡ getD s at 0 + 256 * leAt k s (at + 1)
   unfolding leAt unle
-  leAt-four h =
-      rw (
-        add-one,
-        add-two,
-        add-three,
-        drop-cons s at 0 (omega arith),
-        drop-cons s (suc at) 0 (omega arith),
-        drop-cons s (suc (suc at)) 0 (omega arith),
-        drop-cons s (suc (suc (suc at))) 0 (omega arith),
-      )
-      (omega arith)
+  leAt-next k h = rw (add-one, drop-cons s at 0 h)
 
   -- j bytes, and then k bytes
   pub leAt-add : (j k : ℕ) → at + j ≤ length s → leAt (j + k) s at ≡ leAt j s at + 256 ^ j * leAt k s (at + j)
@@ -70,6 +61,17 @@ module _ (s : List ℕ) (at : ℕ) where
   leAt-add j k h =
       let e : length (take j (drop at s)) ≡ j = simp (length-take, length-drop) (omega arith) in
       rw (take-add j k (drop at s), unle-append (take j (drop at s)), e, drop-drop j at s)
+
+-- numbers of few bytes
+pub leAt-two : (s : List ℕ) (at : ℕ) → at + 2 ≤ length s → leAt 2 s at ≡ getD s at 0 + 256 * getD s (at + 1) 0
+unfolding leAt unle
+leAt-two s at h = omega (arith, leAt-next s at 1 (omega arith), leAt-next s (at + 1) 0 (omega arith))
+
+pub leAt-three : (s : List ℕ) (at : ℕ) → at + 3 ≤ length s → leAt 3 s at ≡ getD s at 0 + 256 * (getD s (at + 1) 0 + 256 * getD s (at + 2) 0)
+leAt-three s at h = leAt-next s at 2 (omega arith) ∙ rw (leAt-two s (at + 1) (omega arith), add-assoc at 1 1)
+
+pub leAt-four : (s : List ℕ) (at : ℕ) → at + 4 ≤ length s → leAt 4 s at ≡ getD s at 0 + 256 * (getD s (at + 1) 0 + 256 * (getD s (at + 2) 0 + 256 * getD s (at + 3) 0))
+leAt-four s at h = leAt-next s at 3 (omega arith) ∙ rw (leAt-three s (at + 1) (omega arith), add-assoc at 1 1, add-assoc at 1 2)
 
 -- what was written is read
 pub leAt-of : (k v : ℕ) (s p q : List ℕ) (at : ℕ) → s ≡ p ++ (le k v ++ q) → length p ≡ at → v < 256 ^ k → leAt k s at ≡ v

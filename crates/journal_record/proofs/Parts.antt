@@ -7,9 +7,12 @@ use native.Mathlib.Nat.{add-assoc}
 use native.Mathlib.Omega.{arith}
 use lib.ListN.{getD, take, drop}
 use lib.Seq.{drop-drop, getD-take, getD-drop}
+use Rattle.base.specs.declared.Form.{Form}
+use Rattle.base.specs.declared.Form.the-variants.{Coordinates, Places}
 use Rattle.journal_record.specs.Bytes.{leAt}
-use Rattle.journal_record.specs.Record.{rgbIn, doubleIn, labIn, markIn, changesIn}
+use Rattle.journal_record.specs.Record.{stride, rgbIn, doubleIn, labIn, markIn, changeIn, changesIn}
 use Rattle.journal_record.proofs.LittleEndian.{leAt-take}
+use Rattle.journal_record.proofs.Strides.{first-fits, rest-fits}
 
 module _ (journal : List ℕ) (start size : ℕ) where
   abbrev pub part : List ℕ
@@ -41,8 +44,22 @@ module _ (journal : List ℕ) (start size : ℕ) where
         add-assoc start at 16,
       )
 
-  pub changes-part : (n at : ℕ) → at + 8 * n ≤ size → changesIn part at n ≡ changesIn journal (start + at) n
+  change-part : (f : Form) (w at : ℕ) → at + stride f ≤ size → changeIn f w part at ≡ changeIn f w journal (start + at)
+  unfolding changeIn
+  change-part Coordinates w at h = rw (leAt-part 8 at h)
+  change-part Places w at h =
+      rw (
+        leAt-part 3 at (omega arith),
+        leAt-part 2 (at + 3) (omega arith),
+        leAt-part 2 (at + 5) (omega arith),
+        add-assoc start at 3,
+        add-assoc start at 5,
+      )
+
+  pub changes-part : (f : Form) (w n at : ℕ) → at + stride f * n ≤ size → changesIn f w part at n ≡ changesIn f w journal (start + at) n
   unfolding changesIn
-  changes-part zero at h = refl
-  changes-part (suc n) at h =
-      rw (leAt-part 8 at (omega arith), changes-part n (at + 8) (omega arith), add-assoc start at 8)
+  changes-part f w zero at h = refl
+  changes-part f w (suc n) at h =
+      let first : at + stride f ≤ size = first-fits f at n size h in
+      let rest : at + stride f + stride f * n ≤ size = rest-fits f at n size h in
+      rw (change-part f w at first, changes-part f w n (at + stride f) rest, add-assoc start at (stride f))

@@ -6,6 +6,7 @@ use mathlib.Core.Option.{none, some}
 use lib.Dec.{leb, eqb}
 use lib.Ieee.{binary64, nanBits}
 use lib.ListN.{length, getD}
+use Rattle.base.specs.declared.Form.{Form}
 use Rattle.base.specs.declared.Edit.{Edit}
 use Rattle.base.specs.declared.Edit.the-variants.{Pixels, PaletteSet, PaletteAdd, PaletteRemove, PaletteLock}
 use Rattle.journal_record.specs.declared.Real.{Real}
@@ -13,13 +14,13 @@ use Rattle.journal_record.specs.declared.Real.the-variants.{Number, NotA
 use Rattle.journal_record.specs.declared.Found.{Found}
 use Rattle.journal_record.specs.declared.Found.the-variants.{Record, Unsound}
 use Rattle.journal_record.specs.Bytes.{leAt}
-use Rattle.journal_record.specs.Record.{isMark, Reading, doubleIn, closed}
+use Rattle.journal_record.specs.Record.{stride, isMark, Reading, doubleIn, closed}
 
 -- the double from `at` on, unless its bits are a NaN's
 unfoldable pub realOf : List ℕ → ℕ → Real
 realOf bytes at = cond (nanBits binary64 (leAt 8 bytes at)) NotANumber (Number (doubleIn bytes at))
 
--- the kind of an edit's record
+-- the kind of an edit, which is 1 to 5 in either form
 unfoldable pub kindOf : Edit → ℕ
 kindOf (Pixels tool) = 1
 kindOf (PaletteSet i old new lab) = 2
@@ -40,10 +41,10 @@ foundBefore offset (some r) = Record (kindOf (r .1)) (offset - r .0) (r .0) (len
 unfoldable pub closedAt : List ℕ → ℕ → ℕ → ℕ → ℕ → Found
 closedAt bytes start kind n count = cond (closed bytes n) (Record kind start n count) Unsound
 
-unfoldable pub countedAt : List ℕ → ℕ → ℕ → ℕ → ℕ → Found
-countedAt bytes start kind fixed least =
+unfoldable pub countedAt : Form → List ℕ → ℕ → ℕ → ℕ → ℕ → Found
+countedAt f bytes start kind fixed least =
     let count = leAt 4 bytes (fixed - 8) in
-    cond (leb least count) (closedAt bytes start kind (fixed + 8 * count) count) Unsound
+    cond (leb least count) (closedAt bytes start kind (fixed + stride f * count) count) Unsound
 
 unfoldable pub lockedAt : List ℕ → ℕ → Found
 lockedAt bytes start = cond (isMark (getD bytes 2 0) && isMark (getD bytes 3 0)) (closedAt bytes start 5 8 0) Unsound

@@ -10,6 +10,16 @@ ghost use Rattle.journal_record.specs.Bytes.{le, leAt, splice};
 ghost use Rattle.journal_record.specs.Record.{doubleBytes};
 ghost use Rattle.journal_record.specs.Found.{realOf};
 
+// Writes the 3 lowest bytes of v from `at` on.
+pub fn put_u24(dst: &mut [u8], at: usize, v: usize)
+    requires { ⌜ at + 3 ≤ length (now dst) ⌝ }
+    ensures { λ _. ⌜ now (dst .exit) ≡ splice (now (dst .entry)) at (le 3 v) ⌝ }
+{
+    dst[at] = (v % 256) as u8;
+    dst[at + 1] = (v / 256 % 256) as u8;
+    dst[at + 2] = (v / 256 / 256 % 256) as u8;
+}
+
 // Writes the 4 bytes of v from `at` on.
 pub fn put_u32(dst: &mut [u8], at: usize, v: u32)
     requires { ⌜ at + 4 ≤ length (now dst) ⌝ }
@@ -49,6 +59,27 @@ fn wide(x: u32) -> u64
     ensures { λ r. ⌜ (r ≡ x) × (r < 4294967296) ⌝ }
 {
     x as u64
+}
+
+// The number in the 2 bytes from `at` on.
+pub fn get_u16(src: &[u8], at: usize) -> u32
+    requires { ⌜ at + 2 ≤ length (now src) ⌝ }
+    ensures { λ r. ⌜ (r ≡ leAt 2 (now (src .entry)) at) × (r < 65536) ⌝ }
+{
+    let b0 = byte(src[at]);
+    let b1 = byte(src[at + 1]);
+    b0 + 256 * b1
+}
+
+// The number in the 3 bytes from `at` on.
+pub fn get_u24(src: &[u8], at: usize) -> u32
+    requires { ⌜ at + 3 ≤ length (now src) ⌝ }
+    ensures { λ r. ⌜ (r ≡ leAt 3 (now (src .entry)) at) × (r < 16777216) ⌝ }
+{
+    let b0 = byte(src[at]);
+    let b1 = byte(src[at + 1]);
+    let b2 = byte(src[at + 2]);
+    b0 + 256 * (b1 + 256 * b2)
 }
 
 // The number in the 4 bytes from `at` on.

@@ -2,9 +2,13 @@
 // agree, and where it lies.
 use crate::Found;
 use crate::bytes::get_u32;
+use crate::form::list_bytes;
+use crate::form::pixels_kind;
+use crate::form::remove_kind;
+use base::Form;
 use base::both;
 ghost use mathlib.Core.Path.{_≡_};
-ghost use Prim.Native.Nat.{_≤_, _-_};
+ghost use Prim.Native.Nat.{ℕ, _≤_, _-_};
 ghost use lib.ListN.{length, take, drop};
 ghost use Rattle.journal_record.specs.Record.{isMark, readForth, readBack};
 ghost use Rattle.journal_record.specs.Found.{foundAt, foundBefore, closedAt, countedAt, lockedAt, wholeOnly};
@@ -32,11 +36,11 @@ fn closed(bytes: &[u8], start: usize, kind: u8, length: usize, count: usize) -> 
     }
 }
 
-// The same of a kind with a list: `fixed` bytes and 8 for each change, of which there are at least
-// `least`. The count stands 8 bytes before the end of the fixed ones.
-fn counted(bytes: &[u8], start: usize, kind: u8, fixed: usize, least: usize) -> Found
+// The same of a kind with a list: `fixed` bytes and those of the changes, of which there are at least `least`. The
+// count stands 8 bytes before the end of the fixed ones.
+fn counted(form: Form, bytes: &[u8], start: usize, kind: u8, fixed: usize, least: usize) -> Found
     requires { ⌜ (8 ≤ fixed) × (fixed ≤ 37) ⌝ }
-    ensures { λ r. ⌜ r ≡ countedAt (now (bytes .entry)) start kind fixed least ⌝ }
+    ensures { λ r. ⌜ r ≡ countedAt form (now (bytes .entry)) start kind fixed least ⌝ }
 {
     if bytes.len() < fixed {
         return Found::Unsound;
@@ -45,7 +49,7 @@ fn counted(bytes: &[u8], start: usize, kind: u8, fixed: usize, least: usize) -> 
     if count < least {
         return Found::Unsound;
     }
-    closed(bytes, start, kind, fixed + 8 * count, count)
+    closed(bytes, start, kind, fixed + list_bytes(form, count), count)
 }
 
 // Whether a byte is a lock mark.
@@ -66,16 +70,17 @@ fn locked(bytes: &[u8], start: usize) -> Found
     Found::Unsound
 }
 
-// The record that starts these bytes, which stand in the journal from `start` on.
-fn find_in(bytes: &[u8], start: usize) -> Found
-    ensures { λ r. ⌜ r ≡ foundAt start (readForth (now (bytes .entry))) ⌝ }
+// The record that starts these bytes, which stand in the journal from `start` on. What its changes say depends on the
+// sheet's width, and is not looked at.
+fn find_in(form: Form, bytes: &[u8], start: usize) -> Found
+    ensures { λ r. ⌜ ((w : ℕ) → r ≡ foundAt start (readForth form w (now (bytes .entry)))) ⌝ }
 {
     if bytes.len() < LEAST {
         return Found::Unsound;
     }
     let kind = bytes[0];
-    if kind == 1 {
-        return counted(bytes, start, 1, 10, 1);
+    if kind == pixels_kind(form) {
+        return counted(form, bytes, start, 1, 10, 1);
     }
     if kind == 2 {
         return closed(bytes, start, 2, 36, 0);
@@ -83,8 +88,8 @@ fn find_in(bytes: &[u8], start: usize) -> Found
     if kind == 3 {
         return closed(bytes, start, 3, 8, 0);
     }
-    if kind == 4 {
-        return counted(bytes, start, 4, 37, 0);
+    if kind == remove_kind(form) {
+        return counted(form, bytes, start, 4, 37, 0);
     }
     if kind == 5 {
         return locked(bytes, start);
@@ -93,11 +98,13 @@ fn find_in(bytes: &[u8], start: usize) -> Found
 }
 
 // The record that starts at the offset, inside the used part.
-pub fn find_forth(journal: &[u8], offset: usize, end: usize) -> Found
+pub fn find_forth(form: Form, journal: &[u8], offset: usize, end: usize) -> Found
     requires { ⌜ (offset ≤ end) × (end ≤ length (now journal)) ⌝ }
-    ensures { λ r. ⌜ r ≡ foundAt offset (readForth (take (end - offset) (drop offset (now (journal .entry))))) ⌝ }
+    ensures { λ r. ⌜
+        ((w : ℕ) → r ≡ foundAt offset (readForth form w (take (end - offset) (drop offset (now (journal .entry))))))
+        ⌝ }
 {
-    find_in(&journal[offset..end], offset)
+    find_in(form, &journal[offset..end], offset)
 }
 
 // The record where it has n bytes.
@@ -116,9 +123,9 @@ fn whole_only(found: Found, n: usize) -> Found
 }
 
 // The record that ends at the offset: the four bytes before the offset are its length.
-pub fn find_back(journal: &[u8], offset: usize) -> Found
+pub fn find_back(form: Form, journal: &[u8], offset: usize) -> Found
     requires { ⌜ offset ≤ length (now journal) ⌝ }
-    ensures { λ r. ⌜ r ≡ foundBefore offset (readBack (take offset (now (journal .entry)))) ⌝ }
+    ensures { λ r. ⌜ ((w : ℕ) → r ≡ foundBefore offset (readBack form w (take offset (now (journal .entry))))) ⌝ }
 {
     if offset < LEAST {
         return Found::Unsound;
@@ -128,5 +135,5 @@ pub fn find_back(journal: &[u8], offset: usize) -> Found
         return Found::Unsound;
     }
     let start = offset - n;
-    whole_only(find_in(&journal[start..offset], start), n)
+    whole_only(find_in(form, &journal[start..offset], start), n)
 }

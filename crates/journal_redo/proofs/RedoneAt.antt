@@ -14,6 +14,7 @@ use Rattle.base.specs.declared.Lab.{Lab}
 use Rattle.base.specs.declared.Rgb.{Rgb}
 use Rattle.sheet.specs.Sheet.{Sheet, sheetOf}
 use Rattle.sheet.specs.Checks.{WellFormed}
+use Rattle.base.specs.declared.Form.{Form}
 use Rattle.base.specs.declared.Edit.{Edit}
 use Rattle.edit.specs.Change.{Change}
 use Rattle.edit.specs.List.{listOf, paintedList}
@@ -41,30 +42,30 @@ may-redo w h k palette lab indices locks e cs f q =
     }
 
 -- ---- as the record is read
-module _ {journal : List ℕ} {kind start count : ℕ} (l : Lies journal kind start count) {edit : Edit} (edit-is : edit ≡ editAt journal kind start)
+module _ {f : Form} {journal : List ℕ} {kind start count : ℕ} (l : Lies f journal kind start count) {edit : Edit} (edit-is : edit ≡ editAt journal kind start)
     {list : ListKind} (list-is : list ≡ listOf edit) {offset : ℕ} (offset-is : offset ≡ listOffset list) where
-  abbrev cs : List Change
-  cs = changesIn journal (start + offset) count
+  abbrev cs : ℕ → List Change
+  cs w = changesIn f w journal (start + offset) count
 
   pub list-paints : {w k : ℕ} {palette : List ℕ} {lab : List Float} {indices : List ℤ}
-      → Redoable w k palette lab indices (editAt journal kind start) (changesAt journal kind start count) → Paintable list w (length indices) cs
-  list-paints r = rw (read-list l edit-is list-is offset-is, read-changes l edit-is list-is offset-is) (redoable-paints (editAt journal kind start) r)
+      → Redoable w k palette lab indices (editAt journal kind start) (changesAt f w journal kind start count) → Paintable list w (length indices) (cs w)
+  list-paints {w} r = rw (read-list l edit-is list-is offset-is, read-changes l edit-is list-is offset-is w) (redoable-paints (editAt journal kind start) r)
 
   pub rest-finishes : {w k : ℕ} {palette : List ℕ} {lab : List Float} {indices : List ℤ}
-      → Redoable w k palette lab indices (editAt journal kind start) (changesAt journal kind start count) → Finishable k (length palette) (length lab) edit
+      → Redoable w k palette lab indices (editAt journal kind start) (changesAt f w journal kind start count) → Finishable k (length palette) (length lab) edit
   rest-finishes r = rw edit-is (redoable-finishes (editAt journal kind start) r)
 
   -- 255 marks are moved with their entries
   pub marks-move : {w k : ℕ} {palette : List ℕ} {lab : List Float} {indices : List ℤ}
-      → Redoable w k palette lab indices (editAt journal kind start) (changesAt journal kind start count) → {n : ℕ} → n ≡ 255 → movable.Redoable k n edit
+      → Redoable w k palette lab indices (editAt journal kind start) (changesAt f w journal kind start count) → {n : ℕ} → n ≡ 255 → movable.Redoable k n edit
   marks-move {w} {k} {palette} {lab} {indices} r {n} q =
-      rw edit-is (marks-redo (sheetOf w (r .h) k palette lab indices) (changesAt journal kind start count) (r .limits) n q (editAt journal kind start) (r .unrefused))
+      rw edit-is (marks-redo (sheetOf w (r .h) k palette lab indices) (changesAt f w journal kind start count) (r .limits) n q (editAt journal kind start) (r .unrefused))
 
   pub marks-done : (k : ℕ) (locks : List Bool) {marks : List Bool} → marks ≡ locksDone k locks edit → marks ≡ locksDone k locks (editAt journal kind start)
   marks-done k locks q = q ∙ rw edit-is
 
   -- the list painted, and the rest done
-  pub redone-by : (curve : Rgb → Lab) (w h k : ℕ) (palette : List ℕ) (lab : List Float) (indices : List ℤ) {painted : List ℤ} {s : Sheet} → painted ≡ paintedList list w cs indices → s ≡ restDone curve (sheetOf w h k palette lab painted) edit
-      → s ≡ redone curve (sheetOf w h k palette lab indices) (editAt journal kind start) (changesAt journal kind start count)
+  pub redone-by : (curve : Rgb → Lab) (w h k : ℕ) (palette : List ℕ) (lab : List Float) (indices : List ℤ) {painted : List ℤ} {s : Sheet} → painted ≡ paintedList list w (cs w) indices → s ≡ restDone curve (sheetOf w h k palette lab painted) edit
+      → s ≡ redone curve (sheetOf w h k palette lab indices) (editAt journal kind start) (changesAt f w journal kind start count)
   unfolding redone
-  redone-by curve w h k palette lab indices p q = q ∙ rw (p, read-list l edit-is list-is offset-is, read-changes l edit-is list-is offset-is, edit-is)
+  redone-by curve w h k palette lab indices p q = q ∙ rw (p, read-list l edit-is list-is offset-is, read-changes l edit-is list-is offset-is w, edit-is)

@@ -1,5 +1,6 @@
 // An edit that lies in the journal, checked and redone from its bytes: what stands before its list, the list, and the
 // rest.
+use base::Form;
 use base::MAX_CHANGES;
 use edit::list_of;
 use edit_apply::finish_edit;
@@ -33,20 +34,21 @@ pub fn can_redo(
     palette: &[u8],
     indices: &[i16],
     locks: &[bool],
+    form: Form,
     journal: &[u8],
     kind: u8,
     start: usize,
     count: usize,
     marks: &mut [u8],
 ) -> bool
-    requires { ⌜ Lies (now journal) kind start count ⌝ }
+    requires { ⌜ Lies form (now journal) kind start count ⌝ }
     requires { ⌜ (k ≤ 255) × (length (now palette) ≡ 765) × (length (now locks) ≡ 255) ⌝ }
     requires { ⌜ (length (now indices) ≡ w * h) × (w * h ≤ length (now marks)) ⌝ }
     ensures { λ r. ⌜
         ((lab : List Float) → r
         ≡ redoable (sheetOf w h k (now (palette .entry)) lab (now (indices .entry)))
         (now (locks .entry)) (editAt (now (journal .entry)) kind start)
-        (changesAt (now (journal .entry)) kind start count))
+        (changesAt form w (now (journal .entry)) kind start count))
         ⌝ }
 {
     if MAX_CHANGES < count {
@@ -59,7 +61,7 @@ pub fn can_redo(
     let list = list_of(edit);
     let at = start + list_offset(list);
     clear_marks(list, indices.len(), marks);
-    if check_list_in(list, w, h, k, indices, journal, at, count, marks) != 0 {
+    if check_list_in(list, w, h, k, indices, form, journal, at, count, marks) != 0 {
         return false;
     }
     left_no(list, w, h, indices, marks) == 0
@@ -76,22 +78,23 @@ pub fn redo_record(
     locks: &mut [bool],
     loaded: bool,
     curve: &[f64],
+    form: Form,
     journal: &[u8],
     kind: u8,
     start: usize,
     count: usize,
 ) -> usize
-    requires { ⌜ Lies (now journal) kind start count ⌝ }
+    requires { ⌜ Lies form (now journal) kind start count ⌝ }
     requires { ⌜
         Redoable w k (now palette) (now lab) (now indices) (editAt (now journal) kind start)
-        (changesAt (now journal) kind start count)
+        (changesAt form w (now journal) kind start count)
         ⌝ }
     requires { ⌜ (length (now locks) ≡ 255) × CurveFits (curveOf loaded (now curve)) ⌝ }
     ensures { λ r. ⌜
         ((h : ℕ) → sheetOf w h r (now (palette .exit)) (now (lab .exit)) (now (indices .exit))
         ≡ redone (labBy (curveOf loaded (now (curve .entry))))
         (sheetOf w h k (now (palette .entry)) (now (lab .entry)) (now (indices .entry)))
-        (editAt (now (journal .entry)) kind start) (changesAt (now (journal .entry)) kind start count))
+        (editAt (now (journal .entry)) kind start) (changesAt form w (now (journal .entry)) kind start count))
         ⌝ }
     ensures { λ _. ⌜
         now (locks .exit) ≡ locksDone k (now (locks .entry)) (editAt (now (journal .entry)) kind start)
@@ -100,7 +103,7 @@ pub fn redo_record(
     let edit = edit_at(journal, kind, start);
     let list = list_of(edit);
     let at = start + list_offset(list);
-    paint_list_in(list, indices, w, journal, at, count);
+    paint_list_in(list, indices, w, form, journal, at, count);
     redo_locks(k, locks, edit);
     finish_edit(k, palette, lab, indices, loaded, curve, edit)
 }

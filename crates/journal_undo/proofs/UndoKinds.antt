@@ -10,6 +10,8 @@ use lib.Dec.{leb}
 use lib.IntN.{ℤ}
 use lib.Ieee.{Float}
 use lib.ListN.{getD}
+use Rattle.base.specs.declared.Form.{Form}
+use Rattle.base.specs.declared.Form.the-variants.{Coordinates}
 use Rattle.base.specs.declared.Rgb.{Rgb}
 use Rattle.base.specs.declared.Lab.{Lab}
 use Rattle.base.specs.Lists.{some}
@@ -44,94 +46,94 @@ removed s i cs x a =
     record { entry = leb-true i (s .k) (and-left _ _ a); inside = not-true _ (and-left _ _ b); room = ltb-true (s .k) 255 (and-left _ _ c) }
 
 -- whether undo takes the record, the sheet that it leaves, and the entry of a set or a removal
-abbrev pub takes : Sheet → List Bool → List ℕ → ℕ → ℕ → ℕ → Bool
-takes s locks journal kind start count = undoable s locks (editAt journal kind start) (changesAt journal kind start count)
+abbrev pub takes : Sheet → List Bool → Form → List ℕ → ℕ → ℕ → ℕ → Bool
+takes s locks form journal kind start count = undoable s locks (editAt journal kind start) (changesAt form (s .w) journal kind start count)
 
-abbrev pub leaves : Sheet → List ℕ → ℕ → ℕ → ℕ → Sheet
-leaves s journal kind start count = reverted s (editAt journal kind start) (changesAt journal kind start count)
+abbrev pub leaves : Sheet → Form → List ℕ → ℕ → ℕ → ℕ → Sheet
+leaves s form journal kind start count = reverted s (editAt journal kind start) (changesAt form (s .w) journal kind start count)
 
 abbrev pub entryIn : List ℕ → ℕ → ℕ
 entryIn journal start = getD journal (start + 1) 0
 
-module _ {s : Sheet} (f : WellFormed s) (locks : List Bool) (journal : List ℕ) {kind : ℕ} (start count : ℕ) where
+module _ {s : Sheet} (f : WellFormed s) (locks : List Bool) (form : Form) (journal : List ℕ) {kind : ℕ} (start count : ℕ) where
   module _ (e : kind ≡ 1) where
-    pixels-test : takes s locks journal kind start count ≡ pixelsBack (s .w) (s .h) (s .k) (s .indices) (changesIn journal (start + 6) count)
+    pixels-test : takes s locks form journal kind start count ≡ pixelsBack (s .w) (s .h) (s .k) (s .indices) (changesIn form (s .w) journal (start + 6) count)
     unfolding editAt changesAt byKind
-    pixels-test = rw e (undo-pixels s f locks (entryIn journal start) (changesIn journal (start + 6) count))
+    pixels-test = rw e (undo-pixels s f locks (entryIn journal start) (changesIn form (s .w) journal (start + 6) count))
 
-    pub pixels-takes : {r : Bool} → r ≡ pixelsBack (s .w) (s .h) (s .k) (s .indices) (changesIn journal (start + 6) count) → r ≡ takes s locks journal kind start count
+    pub pixels-takes : {r : Bool} → r ≡ pixelsBack (s .w) (s .h) (s .k) (s .indices) (changesIn form (s .w) journal (start + 6) count) → r ≡ takes s locks form journal kind start count
     pixels-takes q = q ∙ sym pixels-test
 
-    pub pixels-inside : takes s locks journal kind start count ≡ true → some (outside (s .w) (s .h)) (changesIn journal (start + 6) count) ≡ false
+    pub pixels-inside : takes s locks form journal kind start count ≡ true → some (outside (s .w) (s .h)) (changesIn form (s .w) journal (start + 6) count) ≡ false
     unfolding pixelsBack
     pixels-inside t = not-true _ (and-left _ _ (sym pixels-test ∙ t))
 
-    pub pixels-leaves : {l : List ℤ} → l ≡ painted oldOf (s .w) (changesIn journal (start + 6) count) (s .indices) → sheetOf (s .w) (s .h) (s .k) (s .palette) (s .lab) l ≡ leaves s journal kind start count
+    pub pixels-leaves : {l : List ℤ} → l ≡ painted oldOf (s .w) (changesIn form (s .w) journal (start + 6) count) (s .indices) → sheetOf (s .w) (s .h) (s .k) (s .palette) (s .lab) l ≡ leaves s form journal kind start count
     unfolding editAt changesAt byKind reverted
     pixels-leaves q = rw (e, q)
 
   module _ (e : kind ≡ 2) where
-    set-test : takes s locks journal kind start count ≡ setBack (s .k) (entryIn journal start) (labIn journal (start + 8))
+    set-test : takes s locks form journal kind start count ≡ setBack (s .k) (entryIn journal start) (labIn journal (start + 8))
     unfolding editAt changesAt byKind
     set-test = rw e (undo-set s f locks (entryIn journal start) (rgbIn journal (start + 2)) (rgbIn journal (start + 5)) (labIn journal (start + 8)) [])
 
-    pub set-takes : {r : Bool} → r ≡ setBack (s .k) (entryIn journal start) (labIn journal (start + 8)) → r ≡ takes s locks journal kind start count
+    pub set-takes : {r : Bool} → r ≡ setBack (s .k) (entryIn journal start) (labIn journal (start + 8)) → r ≡ takes s locks form journal kind start count
     set-takes q = q ∙ sym set-test
 
-    pub set-entry : takes s locks journal kind start count ≡ true → entryIn journal start < s .k
+    pub set-entry : takes s locks form journal kind start count ≡ true → entryIn journal start < s .k
     unfolding setBack
     set-entry t = ltb-true (entryIn journal start) (s .k) (and-left _ _ (sym set-test ∙ t))
 
     pub set-leaves : {p : List ℕ} {m : List Float} → p ≡ stored (3 * (entryIn journal start)) (bytesOf (rgbIn journal (start + 2))) (s .palette)
-        → m ≡ stored (3 * (entryIn journal start)) (numbersOf (labIn journal (start + 8))) (s .lab) → sheetOf (s .w) (s .h) (s .k) p m (s .indices) ≡ leaves s journal kind start count
+        → m ≡ stored (3 * (entryIn journal start)) (numbersOf (labIn journal (start + 8))) (s .lab) → sheetOf (s .w) (s .h) (s .k) p m (s .indices) ≡ leaves s form journal kind start count
     unfolding editAt changesAt byKind reverted
     set-leaves p q = rw (e, p, q)
 
   module _ (e : kind ≡ 3) where
-    pub add-takes : {r : Bool} → ((l : List Bool) (c : Rgb) → r ≡ undoable s l (PaletteAdd c) []) → r ≡ takes s locks journal kind start count
+    pub add-takes : {r : Bool} → ((l : List Bool) (c : Rgb) → r ≡ undoable s l (PaletteAdd c) []) → r ≡ takes s locks form journal kind start count
     unfolding editAt changesAt byKind
     add-takes q = rw e (q locks (rgbIn journal (start + 1)))
 
-    pub add-entry : takes s locks journal kind start count ≡ true → 0 < s .k
+    pub add-entry : takes s locks form journal kind start count ≡ true → 0 < s .k
     unfolding editAt changesAt byKind undoable canRevert bears
     add-entry t = ltb-true 0 (s .k) (and-left _ _ (rw e at t))
 
-    pub add-leaves : sheetOf (s .w) (s .h) (s .k - 1) (s .palette) (s .lab) (s .indices) ≡ leaves s journal kind start count
+    pub add-leaves : sheetOf (s .w) (s .h) (s .k - 1) (s .palette) (s .lab) (s .indices) ≡ leaves s form journal kind start count
     unfolding editAt changesAt byKind reverted
     add-leaves = rw e
 
   module _ (e : kind ≡ 4) where
-    remove-test : takes s locks journal kind start count ≡ removeBack (s .w) (s .h) (s .k) (s .indices) (entryIn journal start) (labIn journal (start + 5)) (changesIn journal (start + 33) count)
+    remove-test : takes s locks form journal kind start count ≡ removeBack (s .w) (s .h) (s .k) (s .indices) (entryIn journal start) (labIn journal (start + 5)) (changesIn form (s .w) journal (start + 33) count)
     unfolding editAt changesAt byKind
-    remove-test = rw e (undo-remove s f locks (entryIn journal start) (rgbIn journal (start + 2)) (labIn journal (start + 5)) (changesIn journal (start + 33) count))
+    remove-test = rw e (undo-remove s f locks (entryIn journal start) (rgbIn journal (start + 2)) (labIn journal (start + 5)) (changesIn form (s .w) journal (start + 33) count))
 
-    pub remove-takes : {r : Bool} → r ≡ removeBack (s .w) (s .h) (s .k) (s .indices) (entryIn journal start) (labIn journal (start + 5)) (changesIn journal (start + 33) count) → r ≡ takes s locks journal kind start count
+    pub remove-takes : {r : Bool} → r ≡ removeBack (s .w) (s .h) (s .k) (s .indices) (entryIn journal start) (labIn journal (start + 5)) (changesIn form (s .w) journal (start + 33) count) → r ≡ takes s locks form journal kind start count
     remove-takes q = q ∙ sym remove-test
 
-    pub remove-returns : takes s locks journal kind start count ≡ true → Returns s (entryIn journal start) (changesIn journal (start + 33) count)
-    remove-returns t = removed s (entryIn journal start) (changesIn journal (start + 33) count) (labIn journal (start + 5)) (sym remove-test ∙ t)
+    pub remove-returns : takes s locks form journal kind start count ≡ true → Returns s (entryIn journal start) (changesIn form (s .w) journal (start + 33) count)
+    remove-returns t = removed s (entryIn journal start) (changesIn form (s .w) journal (start + 33) count) (labIn journal (start + 5)) (sym remove-test ∙ t)
 
     pub remove-leaves : {p : List ℕ} {m : List Float} {l : List ℤ} → p ≡ reinserted (3 * (entryIn journal start)) (3 * s .k) (bytesOf (rgbIn journal (start + 2))) (s .palette)
         → m ≡ reinserted (3 * (entryIn journal start)) (3 * s .k) (numbersOf (labIn journal (start + 5))) (s .lab)
-        → l ≡ painted oldOf (s .w) (changesIn journal (start + 33) count) (map (raised (entryIn journal start)) (s .indices)) → sheetOf (s .w) (s .h) (s .k + 1) p m l ≡ leaves s journal kind start count
+        → l ≡ painted oldOf (s .w) (changesIn form (s .w) journal (start + 33) count) (map (raised (entryIn journal start)) (s .indices)) → sheetOf (s .w) (s .h) (s .k + 1) p m l ≡ leaves s form journal kind start count
     unfolding editAt changesAt byKind reverted
     remove-leaves p q r = rw (e, p, q, r, add-one (s .k))
 
   module _ (e : kind ≡ 5) where
-    lock-test : takes s locks journal kind start count ≡ lockBack (s .k) locks (entryIn journal start) (markIn journal (start + 3))
+    lock-test : takes s locks form journal kind start count ≡ lockBack (s .k) locks (entryIn journal start) (markIn journal (start + 3))
     unfolding editAt changesAt byKind
     lock-test = rw e (undo-lock s f locks (entryIn journal start) (markIn journal (start + 2)) (markIn journal (start + 3)) [])
 
-    pub lock-takes : {r : Bool} → r ≡ lockBack (s .k) locks (entryIn journal start) (markIn journal (start + 3)) → r ≡ takes s locks journal kind start count
+    pub lock-takes : {r : Bool} → r ≡ lockBack (s .k) locks (entryIn journal start) (markIn journal (start + 3)) → r ≡ takes s locks form journal kind start count
     lock-takes q = q ∙ sym lock-test
 
-    pub lock-leaves : sheetOf (s .w) (s .h) (s .k) (s .palette) (s .lab) (s .indices) ≡ leaves s journal kind start count
+    pub lock-leaves : sheetOf (s .w) (s .h) (s .k) (s .palette) (s .lab) (s .indices) ≡ leaves s form journal kind start count
     unfolding editAt changesAt byKind reverted
     lock-leaves = rw e
 
 -- a lock has no changes
-pub lock-lies : {journal : List ℕ} {kind start count : ℕ} → Lies journal kind start count → kind ≡ 5 → Lies journal 5 start 0
-lock-lies {journal} {kind} {start} l e = lies-bare journal start (rw e at l)
+pub lock-lies : {form : Form} {journal : List ℕ} {kind start count : ℕ} → Lies form journal kind start count → kind ≡ 5 → Lies Coordinates journal 5 start 0
+lock-lies {form} {journal} {start = start} l e = lies-bare form journal start (rw e at l)
 
 -- its entry's mark, as its edit is read
 module _ (journal : List ℕ) (start : ℕ) {edit : Edit} (edit-is : edit ≡ editAt journal 5 start) where
@@ -155,8 +157,8 @@ marks-back s f locks (PaletteLock i old new) cs t n q =
     let b : i < s .k = ltb-true i (s .k) (and-left _ _ (sym (undo-lock s f locks i old new cs) ∙ t)) in omega (arith, q, b, f .limits .k-small)
 
 module _ (journal : List ℕ) (kind start : ℕ) {edit : Edit} (edit-is : edit ≡ editAt journal kind start) where
-  pub marks-undo : (s : Sheet) → WellFormed s → (locks : List Bool) (count : ℕ) → takes s locks journal kind start count ≡ true → (n : ℕ) → n ≡ 255 → Undoable (s .k) n edit
-  marks-undo s f locks count t n q = rw edit-is (marks-back s f locks (editAt journal kind start) (changesAt journal kind start count) t n q)
+  pub marks-undo : (form : Form) (s : Sheet) → WellFormed s → (locks : List Bool) (count : ℕ) → takes s locks form journal kind start count ≡ true → (n : ℕ) → n ≡ 255 → Undoable (s .k) n edit
+  marks-undo form s f locks count t n q = rw edit-is (marks-back s f locks (editAt journal kind start) (changesAt form (s .w) journal kind start count) t n q)
 
   pub marks-undone : (k : ℕ) (locks : List Bool) {marks : List Bool} → marks ≡ locksBack k locks edit → marks ≡ locksBack k locks (editAt journal kind start)
   marks-undone k locks q = q ∙ rw edit-is

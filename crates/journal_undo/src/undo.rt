@@ -1,5 +1,6 @@
 // Undo of the record that lies in the journal, kind by kind: whether it is taken, the sheet reverted, and its lock marks
 // moved with their entries. The journal is only read, and nothing is copied out of it.
+use base::Form;
 use base::MAX_ENTRIES;
 use base::put_lab;
 use edit_entries::open_lab_gap;
@@ -27,6 +28,7 @@ ghost use mathlib.Core.List.{List, [], map};
 ghost use Prim.Native.Nat.{_+_, _*_, _≤_, _<_};
 ghost use lib.ListN.{length, getD};
 ghost use Rattle.base.specs.declared.Rgb.{Rgb};
+ghost use Rattle.base.specs.declared.Form.the-variants.{Coordinates};
 ghost use Rattle.base.specs.Lists.{some};
 ghost use Rattle.sheet.specs.Sheet.{sheetOf, stray};
 ghost use Rattle.sheet.specs.Checks.{WellFormed};
@@ -36,7 +38,7 @@ ghost use Rattle.edit.specs.Storage.{bytesOf, numbersOf, stored, reinserted, ra
 ghost use Rattle.edit.specs.Apply.{reverted};
 ghost use Rattle.edit.specs.Locks.{locksBack};
 ghost use Rattle.edit_pixels.specs.Inside.{past};
-ghost use Rattle.journal_record.specs.Record.{rgbIn, labIn, markIn, changesIn};
+ghost use Rattle.journal_record.specs.Record.{stride, rgbIn, labIn, markIn, changesIn};
 ghost use Rattle.journal_read.specs.Sound.{undoable};
 ghost use Rattle.journal_read.specs.Lies.{Lies, editAt, changesAt};
 ghost use Rattle.journal_undo.specs.UndoTests.{pixelsBack, setBack, removeBack, lockBack, Revertible};
@@ -47,21 +49,22 @@ fn can_undo_pixels(
     h: usize,
     k: usize,
     indices: &mut [i16],
+    form: Form,
     journal: &[u8],
     at: usize,
     count: usize,
 ) -> bool
     requires { ⌜
-        (at + 8 * count ≤ length (now journal)) × (k ≤ 255) × (length (now indices) ≡ w * h)
+        (at + stride form * count ≤ length (now journal)) × (k ≤ 255) × (length (now indices) ≡ w * h)
         × (some (stray k) (now indices) ≡ false)
         ⌝ }
     ensures { λ _. ⌜ now (indices .exit) ≡ now (indices .entry) ⌝ }
-    ensures { λ r. ⌜ r ≡ pixelsBack w h k (now (indices .entry)) (changesIn (now (journal .entry)) at count) ⌝ }
+    ensures { λ r. ⌜ r ≡ pixelsBack w h k (now (indices .entry)) (changesIn form w (now (journal .entry)) at count) ⌝ }
 {
-    if any_outside_in(w, h, journal, at, count) {
+    if any_outside_in(w, h, form, journal, at, count) {
         return false;
     }
-    !olds_stray(indices, w, k, journal, at, count)
+    !olds_stray(indices, w, k, form, journal, at, count)
 }
 
 // Whether an entry can get its old colour and LAB back.
@@ -99,26 +102,27 @@ fn can_undo_remove(
     h: usize,
     k: usize,
     indices: &mut [i16],
+    form: Form,
     journal: &[u8],
     start: usize,
     count: usize,
 ) -> bool
     requires { ⌜
-        (start + 33 + 8 * count ≤ length (now journal)) × (k ≤ 255) × (length (now indices) ≡ w * h)
+        (start + 33 + stride form * count ≤ length (now journal)) × (k ≤ 255) × (length (now indices) ≡ w * h)
         × (some (stray k) (now indices) ≡ false)
         ⌝ }
     ensures { λ _. ⌜ now (indices .exit) ≡ now (indices .entry) ⌝ }
     ensures { λ r. ⌜
         r
         ≡ removeBack w h k (now (indices .entry)) (getD (now (journal .entry)) (start + 1) 0)
-        (labIn (now (journal .entry)) (start + 5)) (changesIn (now (journal .entry)) (start + 33) count)
+        (labIn (now (journal .entry)) (start + 5)) (changesIn form w (now (journal .entry)) (start + 33) count)
         ⌝ }
 {
     let index = entry_at(journal, start);
     if k < index {
         return false;
     }
-    if any_outside_in(w, h, journal, start + 33, count) {
+    if any_outside_in(w, h, form, journal, start + 33, count) {
         return false;
     }
     if MAX_ENTRIES <= k {
@@ -127,12 +131,12 @@ fn can_undo_remove(
     if unfit_lab_in(journal, start + 5) {
         return false;
     }
-    !olds_stray(indices, w, k + 1, journal, start + 33, count)
+    !olds_stray(indices, w, k + 1, form, journal, start + 33, count)
 }
 
 // Whether a lock can be undone: its entry is there, and bears the new mark.
 fn can_undo_lock(k: usize, locks: &[bool], journal: &[u8], start: usize) -> bool
-    requires { ⌜ Lies (now journal) 5 start 0 × (k ≤ length (now locks)) ⌝ }
+    requires { ⌜ Lies Coordinates (now journal) 5 start 0 × (k ≤ length (now locks)) ⌝ }
     ensures { λ r. ⌜
         r
         ≡ lockBack k (now (locks .entry)) (getD (now (journal .entry)) (start + 1) 0)
@@ -156,12 +160,13 @@ pub fn can_undo(
     lab: &[f64],
     indices: &mut [i16],
     locks: &[bool],
+    form: Form,
     journal: &[u8],
     kind: u8,
     start: usize,
     count: usize,
 ) -> bool
-    requires { ⌜ Lies (now journal) kind start count ⌝ }
+    requires { ⌜ Lies form (now journal) kind start count ⌝ }
     requires { ⌜ WellFormed (sheetOf w h k (now palette) (now lab) (now indices)) ⌝ }
     requires { ⌜ length (now locks) ≡ 255 ⌝ }
     ensures { λ _. ⌜ now (indices .exit) ≡ now (indices .entry) ⌝ }
@@ -169,11 +174,11 @@ pub fn can_undo(
         let sheet = sheetOf w h k (now (palette .entry)) (now (lab .entry)) (now (indices .entry)) in
         r
         ≡ undoable sheet (now (locks .entry)) (editAt (now (journal .entry)) kind start)
-        (changesAt (now (journal .entry)) kind start count)
+        (changesAt form w (now (journal .entry)) kind start count)
         ) ⌝ }
 {
     if kind == PIXELS {
-        return can_undo_pixels(w, h, k, indices, journal, start + 6, count);
+        return can_undo_pixels(w, h, k, indices, form, journal, start + 6, count);
     }
     if kind == SET {
         return can_undo_set(k, journal, start);
@@ -184,7 +189,7 @@ pub fn can_undo(
     if kind == LOCK {
         return can_undo_lock(k, locks, journal, start);
     }
-    can_undo_remove(w, h, k, indices, journal, start, count)
+    can_undo_remove(w, h, k, indices, form, journal, start, count)
 }
 
 // Gives an entry its old colour and LAB back, as the record at `start` has them.
@@ -217,17 +222,18 @@ fn undo_remove(
     palette: &mut [u8],
     lab: &mut [f64],
     indices: &mut [i16],
+    form: Form,
     journal: &[u8],
     start: usize,
     count: usize,
 )
     requires { ⌜
-        (start + 33 + 8 * count ≤ length (now journal)) × (getD (now journal) (start + 1) 0 ≤ k) × (k ≤ 255)
+        (start + 33 + stride form * count ≤ length (now journal)) × (getD (now journal) (start + 1) 0 ≤ k) × (k ≤ 255)
         × (3 * k + 3 ≤ length (now palette)) × (3 * k + 3 ≤ length (now lab))
         ⌝ }
     requires { ⌜
         (some (stray 255) (now indices) ≡ false)
-        × (some (past w (length (now indices))) (changesIn (now journal) (start + 33) count) ≡ false)
+        × (some (past w (length (now indices))) (changesIn form w (now journal) (start + 33) count) ≡ false)
         ⌝ }
     ensures { λ _. ⌜
         now (palette .exit)
@@ -241,13 +247,13 @@ fn undo_remove(
         ⌝ }
     ensures { λ _. ⌜
         now (indices .exit)
-        ≡ painted oldOf w (changesIn (now (journal .entry)) (start + 33) count)
+        ≡ painted oldOf w (changesIn form w (now (journal .entry)) (start + 33) count)
         (map (raised (getD (now (journal .entry)) (start + 1) 0)) (now (indices .entry)))
         ⌝ }
 {
     let index = entry_at(journal, start);
     raise_from(indices, index);
-    paint_olds_in(indices, w, journal, start + 33, count);
+    paint_olds_in(indices, w, form, journal, start + 33, count);
     open_palette_gap(palette, index, k, get_rgb(journal, start + 2));
     open_lab_gap(lab, index, k, lab_in(journal, start + 5));
 }
@@ -261,25 +267,27 @@ fn revert_record(
     palette: &mut [u8],
     lab: &mut [f64],
     indices: &mut [i16],
+    form: Form,
     journal: &[u8],
     kind: u8,
     start: usize,
     count: usize,
 ) -> usize
-    requires { ⌜ Lies (now journal) kind start count ⌝ }
+    requires { ⌜ Lies form (now journal) kind start count ⌝ }
     requires { ⌜ WellFormed (sheetOf w h k (now palette) (now lab) (now indices)) ⌝ }
     requires { ⌜ (
         let sheet = sheetOf w h k (now palette) (now lab) (now indices) in
-        Revertible sheet (editAt (now journal) kind start) (changesAt (now journal) kind start count)
+        Revertible sheet (editAt (now journal) kind start) (changesAt form w (now journal) kind start count)
         ) ⌝ }
     ensures { λ r. ⌜ (
         let sheet = sheetOf w h k (now (palette .entry)) (now (lab .entry)) (now (indices .entry)) in
         sheetOf w h r (now (palette .exit)) (now (lab .exit)) (now (indices .exit))
-        ≡ reverted sheet (editAt (now (journal .entry)) kind start) (changesAt (now (journal .entry)) kind start count)
+        ≡ reverted sheet (editAt (now (journal .entry)) kind start)
+        (changesAt form w (now (journal .entry)) kind start count)
         ) ⌝ }
 {
     if kind == PIXELS {
-        paint_olds_in(indices, w, journal, start + 6, count);
+        paint_olds_in(indices, w, form, journal, start + 6, count);
         return k;
     }
     if kind == SET {
@@ -290,7 +298,7 @@ fn revert_record(
         return k - 1;
     }
     if kind != LOCK {
-        undo_remove(w, k, palette, lab, indices, journal, start, count);
+        undo_remove(w, k, palette, lab, indices, form, journal, start, count);
         return k + 1;
     }
     k
@@ -306,28 +314,43 @@ pub fn undo_record(
     lab: &mut [f64],
     indices: &mut [i16],
     locks: &mut [bool],
+    form: Form,
     journal: &[u8],
     kind: u8,
     start: usize,
     count: usize,
 ) -> usize
-    requires { ⌜ Lies (now journal) kind start count ⌝ }
+    requires { ⌜ Lies form (now journal) kind start count ⌝ }
     requires { ⌜
         WellFormed (sheetOf w h k (now palette) (now lab) (now indices)) × (length (now locks) ≡ 255)
         ⌝ }
     requires { ⌜ (
         let sheet = sheetOf w h k (now palette) (now lab) (now indices) in
-        undoable sheet (now locks) (editAt (now journal) kind start) (changesAt (now journal) kind start count) ≡ true
+        undoable sheet (now locks) (editAt (now journal) kind start) (changesAt form w (now journal) kind start count)
+        ≡ true
         ) ⌝ }
     ensures { λ r. ⌜ (
         let sheet = sheetOf w h k (now (palette .entry)) (now (lab .entry)) (now (indices .entry)) in
         sheetOf w h r (now (palette .exit)) (now (lab .exit)) (now (indices .exit))
-        ≡ reverted sheet (editAt (now (journal .entry)) kind start) (changesAt (now (journal .entry)) kind start count)
+        ≡ reverted sheet (editAt (now (journal .entry)) kind start)
+        (changesAt form w (now (journal .entry)) kind start count)
         ) ⌝ }
     ensures { λ _. ⌜
         now (locks .exit) ≡ locksBack k (now (locks .entry)) (editAt (now (journal .entry)) kind start)
         ⌝ }
 {
     undo_locks(k, locks, edit_at(journal, kind, start));
-    revert_record(w, h, k, palette, lab, indices, journal, kind, start, count)
+    revert_record(
+        w,
+        h,
+        k,
+        palette,
+        lab,
+        indices,
+        form,
+        journal,
+        kind,
+        start,
+        count,
+    )
 }

@@ -1,5 +1,6 @@
 pub mod Changes
 pub mod Lengths
+pub mod Placed
 pub mod ReadAgain
 pub mod Filled
 pub mod Putting

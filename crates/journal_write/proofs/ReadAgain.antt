@@ -13,15 +13,18 @@ use lib.Ieee.{Float, binary64, toBits, ofBits, fits}
 use lib.Ieee.Bits.{ofBits-toBits, toBits-lt}
 use lib.ListN.{length, drop, length-append}
 use lib.Seq.{drop-at}
+use Rattle.base.specs.declared.Form.{Form}
 use Rattle.base.specs.declared.Lab.{Lab}
 use Rattle.base.specs.declared.Edit.{Edit}
 use Rattle.base.specs.declared.Edit.the-variants.{Pixels, PaletteSet, PaletteAdd, PaletteRemove, PaletteLock}
 use Rattle.edit.specs.Change.{Change}
 use Rattle.edit.specs.Storage.{bytesOf}
 use Rattle.journal_record.specs.Bytes.{le, unle, leAt}
-use Rattle.journal_record.specs.Record.{labBytes, listBytes, markByte, isMark, bodyOf, recordLength, recordOf, rgbIn, doubleIn, labIn, changesIn, byKind, contents, closed, agreed, readForth, ofLength, readBack}
+use Rattle.journal_record.specs.Record.{pixelsKind, removeKind, labBytes, listBytes, markByte, isMark, bodyOf, recordLength, recordOf, rgbIn, doubleIn, labIn, changesIn, byKind, contents, closed, agreed, readForth, ofLength, readBack}
 use Rattle.journal_write.specs.Fit.{FitLab, FitEdit, Fit}
 use Rattle.journal_record.proofs.LittleEndian.{length-le, unle-le, leAt-of}
+use Rattle.journal_record.proofs.ByKind.{kind-pixels, kind-set, kind-add, kind-remove, kind-lock}
+use Rattle.journal_record.proofs.Strides.{stride-least}
 use Rattle.journal_write.proofs.Changes.{changes-in}
 use Rattle.journal_write.proofs.Lengths.{length-body, length-record}
 
@@ -47,59 +50,65 @@ mark-fits true = refl
 mark-fits false = refl
 
 -- ---- what kind, count and marks say
-told-is : (e : Edit) (cs : List Change) (rest : List ℕ) → Fit e cs → contents (bodyOf e cs ++ rest) ≡ some (e, cs)
-unfolding contents byKind leAt rgbIn doubleIn labIn bodyOf labBytes listBytes le FitEdit recordLength
-told-is (Pixels tool) cs rest h =
-    let bytes : List ℕ = 1 ∷ tool ∷ listBytes cs ++ rest in
-    let count : leAt 4 bytes 2 ≡ length cs = count-back (length cs) (omega (arith, h .whole)) in
-    rw (count, le-leb 1 (length cs) (h .edit), changes-in cs (h .changes) bytes (1 ∷ tool ∷ le 4 (length cs)) rest 6 refl refl)
-told-is (PaletteSet i old new lab) cs rest h =
-    ap₂ (λ (x : Lab) (l : List Change). some (PaletteSet i old new x, l)) (lab-back lab (h .edit .0)) (sym (h .edit .1))
-told-is (PaletteAdd c) cs rest h = ap (λ (l : List Change). some (PaletteAdd c, l)) (sym (h .edit))
-told-is (PaletteRemove i c lab) cs rest h =
-    let front : List ℕ = 4 ∷ i ∷ bytesOf c ++ labBytes lab in
-    let bytes : List ℕ = front ++ listBytes cs ++ rest in
-    let count : leAt 4 bytes 29 ≡ length cs = count-back (length cs) (omega (arith, h .whole)) in
-    ap₂ (λ (x : Lab) (l : List Change). some (PaletteRemove i c x, l)) (lab-back lab (h .edit))
-    (ap (changesIn bytes 33) count ∙ changes-in cs (h .changes) bytes (front ++ le 4 (length cs)) rest 33 refl refl)
-told-is (PaletteLock i old new) cs rest h =
-    rw (mark-fits old, mark-fits new, mark-back old, mark-back new) (ap (λ (l : List Change). some (PaletteLock i old new, l)) (sym (h .edit)))
+told-is : (f : Form) (w : ℕ) (e : Edit) (cs : List Change) (rest : List ℕ) → Fit f w e cs → contents f w (bodyOf f w e cs ++ rest) ≡ some (e, cs)
+unfolding contents leAt rgbIn doubleIn labIn bodyOf labBytes listBytes le FitEdit recordLength
+told-is f w (Pixels tool) cs rest h =
+    let bytes : List ℕ = pixelsKind f ∷ tool ∷ listBytes f w cs ++ rest in
+    let count : leAt 4 bytes 2 ≡ length cs = count-back (length cs) (omega (arith, h .whole, stride-least f (length cs))) in
+    rw (
+      kind-pixels,
+      count,
+      le-leb 1 (length cs) (h .edit),
+      changes-in f w cs (h .changes) (h .places) bytes (pixelsKind f ∷ tool ∷ le 4 (length cs)) rest 6 refl refl,
+    )
+told-is f w (PaletteSet i old new lab) cs rest h =
+    rw kind-set (ap₂ (λ (x : Lab) (l : List Change). some (PaletteSet i old new x, l)) (lab-back lab (h .edit .0)) (sym (h .edit .1)))
+told-is f w (PaletteAdd c) cs rest h = rw kind-add (ap (λ (l : List Change). some (PaletteAdd c, l)) (sym (h .edit)))
+told-is f w (PaletteRemove i c lab) cs rest h =
+    let front : List ℕ = removeKind f ∷ i ∷ bytesOf c ++ labBytes lab in
+    let bytes : List ℕ = front ++ listBytes f w cs ++ rest in
+    let count : leAt 4 bytes 29 ≡ length cs = count-back (length cs) (omega (arith, h .whole, stride-least f (length cs))) in
+    rw kind-remove
+    (ap₂ (λ (x : Lab) (l : List Change). some (PaletteRemove i c x, l)) (lab-back lab (h .edit))
+    (ap (changesIn f w bytes 33) count ∙ changes-in f w cs (h .changes) (h .places) bytes (front ++ le 4 (length cs)) rest 33 refl refl))
+told-is f w (PaletteLock i old new) cs rest h =
+    rw (kind-lock, mark-fits old, mark-fits new, mark-back old, mark-back new) (ap (λ (l : List Change). some (PaletteLock i old new, l)) (sym (h .edit)))
 
 -- ---- the record that starts the bytes
-last-four : (e : Edit) (cs : List Change) (after : List ℕ) → Fit e cs → closed (recordOf e cs ++ after) (recordLength e (length cs)) ≡ true
+last-four : (f : Form) (w : ℕ) (e : Edit) (cs : List Change) (after : List ℕ) → Fit f w e cs → closed (recordOf f w e cs ++ after) (recordLength f e (length cs)) ≡ true
 unfolding closed recordOf
-last-four e cs after h =
-    let n : ℕ = recordLength e (length cs) in
-    let bytes : List ℕ = bodyOf e cs ++ le 4 n ++ after in
-    let long : n ≤ length bytes = rw (length-append, length-append) (omega (arith, length-le 4 n, length-body e cs)) in
-    let is : bytes ≡ bodyOf e cs ++ (le 4 n ++ after) = append-assoc (bodyOf e cs) (le 4 n) after in
-    let last : leAt 4 bytes (n - 4) ≡ n = leAt-of 4 n bytes (bodyOf e cs) after (n - 4) is (omega (arith, length-body e cs)) (h .whole) in
+last-four f w e cs after h =
+    let n : ℕ = recordLength f e (length cs) in
+    let bytes : List ℕ = bodyOf f w e cs ++ le 4 n ++ after in
+    let long : n ≤ length bytes = rw (length-append, length-append) (omega (arith, length-le 4 n, length-body f w e cs)) in
+    let is : bytes ≡ bodyOf f w e cs ++ (le 4 n ++ after) = append-assoc (bodyOf f w e cs) (le 4 n) after in
+    let last : leAt 4 bytes (n - 4) ≡ n = leAt-of 4 n bytes (bodyOf f w e cs) after (n - 4) is (omega (arith, length-body f w e cs)) (h .whole) in
     rw (le-leb n (length bytes) long, last, eq-eqb n n refl)
 
-told-record : (e : Edit) (cs : List Change) (after : List ℕ) → Fit e cs → contents (recordOf e cs ++ after) ≡ some (e, cs)
+told-record : (f : Form) (w : ℕ) (e : Edit) (cs : List Change) (after : List ℕ) → Fit f w e cs → contents f w (recordOf f w e cs ++ after) ≡ some (e, cs)
 unfolding recordOf
-told-record e cs after h = rw append-assoc (told-is e cs (le 4 (recordLength e (length cs)) ++ after) h)
+told-record f w e cs after h = rw append-assoc (told-is f w e cs (le 4 (recordLength f e (length cs)) ++ after) h)
 
-pub read-forth : (e : Edit) (cs : List Change) (after : List ℕ) → Fit e cs → readForth (recordOf e cs ++ after) ≡ some (recordLength e (length cs), e, cs)
+pub read-forth : (f : Form) (w : ℕ) (e : Edit) (cs : List Change) (after : List ℕ) → Fit f w e cs → readForth f w (recordOf f w e cs ++ after) ≡ some (recordLength f e (length cs), e, cs)
 unfolding readForth agreed
-read-forth e cs after h = rw (told-record e cs after h, last-four e cs after h)
+read-forth f w e cs after h = rw (told-record f w e cs after h, last-four f w e cs after h)
 
 -- ---- the record that ends them
-last-of-all : (e : Edit) (cs : List Change) (before : List ℕ) → Fit e cs → leAt 4 (before ++ recordOf e cs) (length (before ++ recordOf e cs) - 4) ≡ recordLength e (length cs)
+last-of-all : (f : Form) (w : ℕ) (e : Edit) (cs : List Change) (before : List ℕ) → Fit f w e cs → leAt 4 (before ++ recordOf f w e cs) (length (before ++ recordOf f w e cs) - 4) ≡ recordLength f e (length cs)
 unfolding recordOf
-last-of-all e cs before h =
-    let n : ℕ = recordLength e (length cs) in
-    let front : List ℕ = before ++ bodyOf e cs in
-    let is : before ++ (bodyOf e cs ++ le 4 n) ≡ front ++ (le 4 n ++ []) = simp (append-assoc, append-nil) in
-    let at : length front ≡ length (before ++ (bodyOf e cs ++ le 4 n)) - 4 = simp (length-append, length-le) (omega arith) in
-    leAt-of 4 n (before ++ (bodyOf e cs ++ le 4 n)) front [] _ is at (h .whole)
+last-of-all f w e cs before h =
+    let n : ℕ = recordLength f e (length cs) in
+    let front : List ℕ = before ++ bodyOf f w e cs in
+    let is : before ++ (bodyOf f w e cs ++ le 4 n) ≡ front ++ (le 4 n ++ []) = simp (append-assoc, append-nil) in
+    let at : length front ≡ length (before ++ (bodyOf f w e cs ++ le 4 n)) - 4 = simp (length-append, length-le) (omega arith) in
+    leAt-of 4 n (before ++ (bodyOf f w e cs ++ le 4 n)) front [] _ is at (h .whole)
 
-pub read-back : (e : Edit) (cs : List Change) (before : List ℕ) → Fit e cs → readBack (before ++ recordOf e cs) ≡ some (recordLength e (length cs), e, cs)
+pub read-back : (f : Form) (w : ℕ) (e : Edit) (cs : List Change) (before : List ℕ) → Fit f w e cs → readBack f w (before ++ recordOf f w e cs) ≡ some (recordLength f e (length cs), e, cs)
 unfolding readBack ofLength
-read-back e cs before h =
-    let n : ℕ = recordLength e (length cs) in
-    let bytes : List ℕ = before ++ recordOf e cs in
-    let long : length bytes ≡ length before + n = length-append before (recordOf e cs) ∙ rw length-record in
-    let at : drop (length bytes - n) bytes ≡ recordOf e cs = drop-at before (recordOf e cs) (length bytes - n) (omega arith) in
-    let forth : readForth (recordOf e cs) ≡ some (n, e, cs) = rw append-nil at (read-forth e cs [] h) in
-    rw (last-of-all e cs before h, le-leb n (length bytes) (omega arith), at, forth, eq-eqb n n refl)
+read-back f w e cs before h =
+    let n : ℕ = recordLength f e (length cs) in
+    let bytes : List ℕ = before ++ recordOf f w e cs in
+    let long : length bytes ≡ length before + n = length-append before (recordOf f w e cs) ∙ rw length-record in
+    let at : drop (length bytes - n) bytes ≡ recordOf f w e cs = drop-at before (recordOf f w e cs) (length bytes - n) (omega arith) in
+    let forth : readForth f w (recordOf f w e cs) ≡ some (n, e, cs) = rw append-nil at (read-forth f w e cs [] h) in
+    rw (last-of-all f w e cs before h, le-leb n (length bytes) (omega arith), at, forth, eq-eqb n n refl)

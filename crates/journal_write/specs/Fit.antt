@@ -1,5 +1,5 @@
 -- What a record can hold: an edit and its changes whose numbers fit the bytes that they get. Definitions only. Assumes nothing.
-use Prim.Native.Nat.{_^_, _<_, _≤_}
+use Prim.Native.Nat.{ℕ, _^_, _<_, _≤_}
 use mathlib.Core.Path.{_≡_}
 use mathlib.Core.List.{List, [], _∷_}
 use mathlib.Core.Bool.{not}
@@ -8,10 +8,12 @@ use lib.Ieee.{binary64, fits, isNan}
 use lib.ListN.{length}
 use mir.Syntax.{w16}
 use mir.Val.{SFits}
+use Rattle.base.specs.declared.Form.{Form}
+use Rattle.base.specs.declared.Form.the-variants.{Coordinates, Places}
 use Rattle.base.specs.declared.Lab.{Lab}
 use Rattle.base.specs.declared.Edit.{Edit}
 use Rattle.base.specs.declared.Edit.the-variants.{Pixels, PaletteSet, PaletteAdd, PaletteRemove, PaletteLock}
-use Rattle.edit.specs.Change.{Change}
+use Rattle.edit.specs.Change.{Change, place}
 use Rattle.journal_record.specs.Record.{recordLength}
 
 -- "x, y unsigned 16-bit, old, new signed 16-bit"
@@ -39,10 +41,17 @@ FitEdit (PaletteAdd c) cs = cs ≡ []
 FitEdit (PaletteRemove i c lab) cs = FitLab lab
 FitEdit (PaletteLock i old new) cs = cs ≡ []
 
-pub record Fit (e : Edit) (cs : List Change) : Type 0 where
+-- on a sheet of width w a place of three bytes tells a change
+unfoldable pub FitPlaces : Form → ℕ → List Change → Type 0
+FitPlaces Coordinates w cs = Unit {0}
+FitPlaces Places w [] = Unit {0}
+FitPlaces Places w (c ∷ cs) = ((c .x < w) × (place w c < 2 ^ 24)) × FitPlaces Places w cs
+
+pub record Fit (f : Form) (w : ℕ) (e : Edit) (cs : List Change) : Type 0 where
   pub edit : FitEdit e cs
   pub changes : FitChanges cs
-  pub whole : recordLength e (length cs) < 2 ^ 32
+  pub places : FitPlaces f w cs
+  pub whole : recordLength f e (length cs) < 2 ^ 32
 
 -- ---- what the writers ask besides
 

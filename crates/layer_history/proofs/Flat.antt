@@ -14,6 +14,7 @@ use Rattle.base.specs.Limits.{maxLayers}
 use Rattle.base.specs.Answer.{Told, Filled, leaving}
 use Rattle.base.specs.Answer.Told.{result}
 use Rattle.base.specs.Lists.{All, range, over}
+use Rattle.base.specs.declared.Form.{Form}
 use Rattle.base.proofs.Collect.{length-range, length-flatMap}
 use Rattle.base.proofs.Over.{length-over}
 use Rattle.color_curve.specs.Curve.{Curve, CurveFits}
@@ -62,10 +63,10 @@ unfolding flattened
 flat-length w h sheets a =
     length-flatMap (pixelOf sheets) 4 (pixel-four sheets (all-well w h sheets a)) (range 0 (w * h)) ∙ rw (length-range 0 (w * h)) (omega arith)
 
-module _ (curve : Curve) (fits : CurveFits curve) (n w h : ℕ) (one : 1 ≤ n) (few : n ≤ maxLayers) (buffer : List ℕ) (room : 4 * (w * h) ≤ length buffer) where
+module _ (form : Form) (curve : Curve) (fits : CurveFits curve) (n w h : ℕ) (one : 1 ≤ n) (few : n ≤ maxLayers) (buffer : List ℕ) (room : 4 * (w * h) ≤ length buffer) where
   -- every layer is one of w by h
   abbrev Stand : Layers → Type 0
-  Stand layers = (i : ℕ) → i < n → Stays curve w h (layers i)
+  Stand layers = (i : ℕ) → i < n → Stays form curve w h (layers i)
 
   -- the buffer holds their flattening
   abbrev flat : Layers → List ℕ
@@ -76,7 +77,7 @@ module _ (curve : Curve) (fits : CurveFits curve) (n w h : ℕ) (one : 1 ≤ n) 
     unfolding sheetsOf
     fit =
         all-range (Fits w h) (λ i. layers i .sheet .sheet) 0 n
-        (λ i b. let s = stand i (omega arith) in record { well = stays-fits curve s; width = s .width; height = s .height })
+        (λ i b. let s = stand i (omega arith) in record { well = stays-fits form curve s; width = s .width; height = s .height })
 
     how-many : length (sheetsOf n layers) ≡ n
     unfolding sheetsOf
@@ -89,14 +90,14 @@ module _ (curve : Curve) (fits : CurveFits curve) (n w h : ℕ) (one : 1 ≤ n) 
   -- ---- a call, and the repaint after it
   module _ (layers : Layers) (stand : Stand layers) (c : HandedCall) (among : c .layer < n) where
     abbrev next : Layers
-    next = layered (stepLent (editingBy curve)) layers (callOn c) .leaves
+    next = layered (stepLent (editingBy form curve)) layers (callOn c) .leaves
 
     next-stands : Stand next
     unfolding layered
     next-stands i b = go (eqb i (c .layer)) refl
       where
-        go : (t : Bool) → eqb i (c .layer) ≡ t → Stays curve w h (cond t (stepLent (editingBy curve) (layers (c .layer)) (callOn c .call) .leaves) (layers i))
-        go true e = stays curve fits (stand (c .layer) among) (c .call .room) (callBy (c .call .call)) (call-typed (c .call .call))
+        go : (t : Bool) → eqb i (c .layer) ≡ t → Stays form curve w h (cond t (stepLent (editingBy form curve) (layers (c .layer)) (callOn c .call) .leaves) (layers i))
+        go true e = stays form curve fits (stand (c .layer) among) (c .call .room) (callBy (c .call .call)) (call-typed (c .call .call))
         go false e = stand i b
 
     -- with the earlier sheet put back they are as they were
@@ -106,7 +107,7 @@ module _ (curve : Curve) (fits : CurveFits curve) (n w h : ℕ) (one : 1 ≤ n) 
         put-back (λ i. layers i .sheet .sheet) (λ i. next i .sheet .sheet) 0 n (c .layer) (c .layer) (omega arith) among
         (λ i q. rw (ne-eqb i (c .layer) q))
 
-    repaints : repaintAfter curve n layers (callOn c) (flat layers) ≡ leaving (result (4 * (w * h))) (flat next)
+    repaints : repaintAfter form curve n layers (callOn c) (flat layers) ≡ leaving (result (4 * (w * h))) (flat next)
     unfolding repaintAfter over
     repaints =
         let before = flattened (sheetsOf n layers) (w * h) in
@@ -117,7 +118,7 @@ module _ (curve : Curve) (fits : CurveFits curve) (n w h : ℕ) (one : 1 ≤ n) 
         let held : take (4 * (w * h)) (flat layers) ≡ flattened (set (sheetsOf n next) (c .layer) (layers (c .layer) .sheet .sheet)) (w * h) =
         take-at before (drop (length before) buffer) (4 * (w * h)) long ∙ ap (λ l. flattened l (w * h)) (sym earlier) in
         let s = stand (c .layer) among in
-        let was : Fits w h (layers (c .layer) .sheet .sheet) = record { well = stays-fits curve s; width = s .width; height = s .height } in
+        let was : Fits w h (layers (c .layer) .sheet .sheet) = record { well = stays-fits form curve s; width = s .width; height = s .height } in
         let many : length (sheetsOf n next) ≡ n = how-many next next-stands in
         repaint-is w h (sheetsOf n next) (fit next next-stands) (omega arith) (omega arith) (flat layers) enough
         (c .layer) (omega arith) (layers (c .layer) .sheet .sheet) was held
@@ -131,7 +132,7 @@ module _ (curve : Curve) (fits : CurveFits curve) (n w h : ℕ) (one : 1 ≤ n) 
     pub stand : Stand ends
 
   went : (handed : List HandedCall) → All (λ c. c .layer < n) handed → (layers : Layers) → Stand layers
-      → Went handed (painted curve n layers (flat layers) (map callOn handed)) (play (layered (stepLent (editingBy curve))) layers (map callOn handed) .ends)
+      → Went handed (painted form curve n layers (flat layers) (map callOn handed)) (play (layered (stepLent (editingBy form curve))) layers (map callOn handed) .ends)
   unfolding painted play All
   went [] a layers stand = record { counts = refl; out = refl; stand = stand }
   went (c ∷ handed) a layers stand =
@@ -140,18 +141,18 @@ module _ (curve : Curve) (fits : CurveFits curve) (n w h : ℕ) (one : 1 ≤ n) 
       rw now (record { counts = ap (λ l. result (4 * (w * h)) ∷ l) (later .counts); out = later .out; stand = later .stand })
 
 pub always-flat : AlwaysFlat
-always-flat curve fits n w h one few lent opening journals handed among buffer room =
-    let layers : Layers = λ i. opened (editingBy curve) (sheetBy (lent i)) (journals i) in
-    let stand : (i : ℕ) → i < n → Stays curve w h (layers i) =
+always-flat form curve fits n w h one few lent opening journals handed among buffer room =
+    let layers : Layers = λ i. opened (editingBy form curve) (sheetBy (lent i)) (journals i) in
+    let stand : (i : ℕ) → i < n → Stays form curve w h (layers i) =
     λ i b.
     let o = opening i b in
-    opens curve (sheetBy (lent i)) (journals i) (handed-fits curve (lent i) (o .passes)) (o .width) (o .height) in
-    let first = flat-is curve fits n w h one few buffer room layers stand buffer room in
-    let ran = went curve fits n w h one few buffer room handed among layers stand in
+    opens form curve (sheetBy (lent i)) (journals i) (handed-fits form curve (lent i) (o .passes)) (o .width) (o .height) in
+    let first = flat-is form curve fits n w h one few buffer room layers stand buffer room in
+    let ran = went form curve fits n w h one few buffer room handed among layers stand in
     rw first
     (record {
       opening = refl;
       counts = ran .counts;
-      afresh = flat-is curve fits n w h one few buffer room _ (ran .stand) buffer room ∙ ap (leaving (result (4 * (w * h)))) (sym (ran .out));
+      afresh = flat-is form curve fits n w h one few buffer room _ (ran .stand) buffer room ∙ ap (leaving (result (4 * (w * h)))) (sym (ran .out));
       shows = ran .out;
     })

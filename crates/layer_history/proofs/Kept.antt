@@ -14,15 +14,12 @@ use Rattle.base.specs.Limits.{maxJournal}
 use Rattle.base.specs.Numbers.{noSpace}
 use Rattle.base.specs.Checks.{Check, firstOf, refusedOr}
 use Rattle.base.specs.declared.Handle.{Handle}
-use Rattle.base.specs.declared.Edit.{Edit}
-use Rattle.base.specs.declared.Edit.the-variants.{Pixels, PaletteSet, PaletteAdd, PaletteRemove, PaletteLock}
 use Rattle.base.specs.declared.Lab.{Lab}
 use Rattle.base.specs.declared.Rgb.{Rgb}
+use Rattle.base.specs.declared.Form.{Form}
 use Rattle.color_curve.specs.Curve.{Curve, labBy, CurveFits}
-use Rattle.sheet.specs.Sheet.{Sheet, view}
+use Rattle.sheet.specs.Sheet.{view}
 use Rattle.sheet.specs.Checks.{WellFormed}
-use Rattle.edit.specs.Change.{Change}
-use Rattle.edit.specs.Apply.{reverted}
 use Rattle.edit.proofs.Redone.{SameSize, redone-size}
 use Rattle.journal_record.specs.Record as records
 use Rattle.journal_record.specs.Record.{readBack, readForth}
@@ -42,17 +39,9 @@ use Rattle.history_ledger.proofs.Whole.{runs}
 use Rattle.history_model.specs.Document.{Document, documentDone, documentBack}
 use Rattle.history_model.specs.Editing.{Given, editingBy, taken, undoneBy, redoneBy}
 use Rattle.history_model.proofs.Keeps.{marked, keeps}
+use Rattle.edit.proofs.Reverted.{reverted-size}
 
--- ---- the size
-reverted-size : (s : Sheet) (e : Edit) (cs : List Change) → SameSize s (reverted s e cs)
-unfolding reverted
-reverted-size s (Pixels tool) cs = record { w = refl; h = refl }
-reverted-size s (PaletteSet i old new lab) cs = record { w = refl; h = refl }
-reverted-size s (PaletteAdd c) cs = record { w = refl; h = refl }
-reverted-size s (PaletteRemove i c lab) cs = record { w = refl; h = refl }
-reverted-size s (PaletteLock i old new) cs = record { w = refl; h = refl }
-
--- what a reading leads to
+-- ---- the size that a reading leads to
 abbrev Leads : (Document → Type 0) → Option (Taken Document) → Type 0
 Leads P none = Unit {0}
 Leads P (some r) = P (r .sheet)
@@ -100,10 +89,10 @@ applied s cs o h = go (firstOf cs) refl
     go zero e = absurd (h e)
     go (suc n) e = record { is = refl }
 
--- ---- with the curve of a session
-module _ (session : Curve) where
+-- ---- in either form, with the curve of a session
+module _ (form : Form) (session : Curve) where
   abbrev A : Algebra
-  A = editingBy session
+  A = editingBy form session
 
   -- ---- a call leaves the size, in every state
   module _ (st : State Document) where
@@ -130,14 +119,14 @@ module _ (session : Curve) where
         let used : List ℕ = take (st .handle .offset) (st .journal) in
         after-checks Sized st stands (moveChecks A st) _
         (or-still Sized st stands (eqb (st .handle .position) 0) _
-        (step-over (undoneBy (st .sheet) (readBack used)) (λ n. leb n (st .handle .offset)) steppedBack (undone-size (st .sheet) (readBack used))))
+        (step-over (undoneBy (st .sheet) (readBack form (st .sheet .sheet .w) used)) (λ n. leb n (st .handle .offset)) steppedBack (undone-size (st .sheet) (readBack form (st .sheet .sheet .w) used))))
     sized room redo =
         let used : List ℕ = take (st .handle .end - st .handle .offset) (drop (st .handle .offset) (st .journal)) in
         after-checks Sized st stands (redoChecks A st) _
         (or-still Sized st stands (eqb (st .handle .position) (st .handle .count)) _
         (after-checks Sized st stands (shortScratch A room st ∷ []) _
-        (step-over (redoneBy (labBy session) (st .sheet) (readForth used)) (λ n. leb (st .handle .offset + n) (st .handle .end)) steppedForth
-        (forth-size (labBy session) (st .sheet) (readForth used)))))
+        (step-over (redoneBy (labBy session) (st .sheet) (readForth form (st .sheet .sheet .w) used)) (λ n. leb (st .handle .offset + n) (st .handle .end)) steppedForth
+        (forth-size (labBy session) (st .sheet) (readForth form (st .sheet .sheet .w) used)))))
     sized room mark = record { is = stands }
 
   -- ---- a journal that is too long, or scratch that is too short, leaves everything as it was
@@ -163,7 +152,7 @@ module _ (session : Curve) where
     unfolding redoOf view
     short-redo =
         let used : List ℕ = take (st .handle .end - st .handle .offset) (drop (st .handle .offset) (st .journal)) in
-        let over = stepOver A st (redoneBy (labBy session) (st .sheet) (readForth used)) (λ n. leb (st .handle .offset + n) (st .handle .end)) steppedForth in
+        let over = stepOver A st (redoneBy (labBy session) (st .sheet) (readForth form (st .sheet .sheet .w) used)) (λ n. leb (st .handle .offset + n) (st .handle .end)) steppedForth in
         after-checks (λ s. s ≡ st) st refl (redoChecks A st) _
         (or-still (λ s. s ≡ st) st refl (eqb (st .handle .position) (st .handle .count)) _
         (applied st (shortScratch A room st ∷ []) over (λ e. not-enough (each-passes (shortScratch A room st ∷ []) e .0))))
@@ -182,7 +171,7 @@ module _ (session : Curve) where
       → Along room n (step A room st c .leaves)
   unfolding play lend
   along-step fits {room} {n} permitted a c t =
-      let ran = runs A (keeps session fits) room n permitted (λ i. room) (λ i. omega arith) (c ∷ []) (t, tt) (a .by) (a .holds) in
+      let ran = runs A (keeps form session fits) room n permitted (λ i. room) (λ i. omega arith) (c ∷ []) (t, tt) (a .by) (a .holds) in
       record { by = ran .to; holds = ran .holds; is = ap (λ s. step A room s c .leaves) (a .is) ∙ ap (λ p. p .ends) (ran .code) }
 
   -- ---- a layer of w by h

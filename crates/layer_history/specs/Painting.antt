@@ -1,8 +1,8 @@
 -- Layers that are edited, each by its own history, and repainted after every call: document 02, E1. Whatever the calls, the
 -- buffer is the flattening of the sheets as they stand. Proved: `always-flat` in proofs/Flat.antt. Definitions only.
 -- Assumes nothing. `flattenOf` and `repaintOf` (layer_shown/specs/Calls.antt) are what the contracts of `flatten` and
--- `repaint` say; `layered (stepLent (editingBy c))` makes a push, an undo, a redo or a mark on one layer
--- (history_model/specs/Layers.antt), c the curve of the session.
+-- `repaint` say; `layered (stepLent (editingBy f c))` makes a push, an undo, a redo or a mark on one layer
+-- (history_model/specs/Layers.antt), f the form of its history, c the curve of the session.
 use mathlib.Core.Path.{_≡_}
 use mathlib.Core.List.{List, [], _∷_, map, flatMap}
 use Prim.Native.Nat.{ℕ, _*_, _≤_, _<_}
@@ -14,6 +14,7 @@ use Rattle.base.specs.Checks.{firstOf}
 use Rattle.base.specs.Answer.{Told, Filled, leaving}
 use Rattle.base.specs.Answer.Told.{result}
 use Rattle.base.specs.Lists.{All, range, over}
+use Rattle.base.specs.declared.Form.{Form}
 use Rattle.color_curve.specs.Curve.{Curve, CurveFits}
 use Rattle.sheet.specs.Sheet.{Sheet}
 use Rattle.history_ledger.specs.Calls.{Call, Lent, play}
@@ -58,9 +59,9 @@ abbrev pub repaintLent : List Sheet → ℕ → Sheet → List ℕ → Filled �
 repaintLent sheets edited before out = repaintOf (sizesOf sheets) (lentLayers sheets) edited before out
 
 -- ---- "After an edit, undo or redo on one layer": `repaint`, with the sheet that the layer had before the call
-unfoldable pub repaintAfter : Curve → ℕ → Layers → OnLayer (Lent (Call Given)) → List ℕ → Filled ℕ
-repaintAfter curve n layers c out =
-    let next = layered (stepLent (editingBy curve)) layers c .leaves in
+unfoldable pub repaintAfter : Form → Curve → ℕ → Layers → OnLayer (Lent (Call Given)) → List ℕ → Filled ℕ
+repaintAfter form curve n layers c out =
+    let next = layered (stepLent (editingBy form curve)) layers c .leaves in
     repaintLent (sheetsOf n next) (c .layer) (layers (c .layer) .sheet .sheet) out
 
 -- a list of calls, with a repaint after each: what the repaints answer, and the buffer at the end
@@ -68,11 +69,11 @@ pub record Painted : Type 0 where
   pub answers : List (Told ℕ)
   pub out : List ℕ
 
-unfoldable pub painted : Curve → ℕ → Layers → List ℕ → List (OnLayer (Lent (Call Given))) → Painted
-painted curve n layers out [] = record { answers = []; out = out }
-painted curve n layers out (c ∷ cs) =
-    let now = repaintAfter curve n layers c out in
-    let later = painted curve n (layered (stepLent (editingBy curve)) layers c .leaves) (now .buffer) cs in
+unfoldable pub painted : Form → Curve → ℕ → Layers → List ℕ → List (OnLayer (Lent (Call Given))) → Painted
+painted form curve n layers out [] = record { answers = []; out = out }
+painted form curve n layers out (c ∷ cs) =
+    let now = repaintAfter form curve n layers c out in
+    let later = painted form curve n (layered (stepLent (editingBy form curve)) layers c .leaves) (now .buffer) cs in
     record { answers = now .answer ∷ later .answers; out = later .out }
 
 -- ---- a sheet of w by h, with its marks, that none of 1 to 3 refuses
@@ -89,17 +90,17 @@ pub record Flat (w h : ℕ) (handed : List HandedCall) (buffer : List ℕ) (firs
   pub afresh : flattenLent ends buffer ≡ leaving (result (4 * (w * h))) (ran .out)
   pub shows : ran .out ≡ over (flattened ends (w * h)) buffer
 
--- For every curve that fits, 1 to 8 layers of one size, every list of calls, each on one of them, and every buffer for w × h pixels that was
+-- For either form and every curve that fits, 1 to 8 layers of one size, every list of calls, each on one of them, and every buffer for w × h pixels that was
 -- flattened at first. Nothing is asked of the journals and of each call's scratch: a call that they refuse changes no sheet.
 abbrev pub AlwaysFlat : Type 0
 AlwaysFlat =
-    (curve : Curve) → CurveFits curve → (n w h : ℕ) → 1 ≤ n → n ≤ maxLayers
+    (form : Form) (curve : Curve) → CurveFits curve → (n w h : ℕ) → 1 ≤ n → n ≤ maxLayers
     → (lent : ℕ → HandedSheet) → ((i : ℕ) → i < n → Opens w h (sheetBy (lent i)))
     → (journals : ℕ → List ℕ)
     → (handed : List HandedCall) → All (λ c. c .layer < n) handed
     → (buffer : List ℕ) → 4 * (w * h) ≤ length buffer
-    → let opening : Layers = λ i. opened (editingBy curve) (sheetBy (lent i)) (journals i) in
+    → let opening : Layers = λ i. opened (editingBy form curve) (sheetBy (lent i)) (journals i) in
     let calls = map callOn handed in
     let first = flattenLent (sheetsOf n opening) buffer in
-    let ends = play (layered (stepLent (editingBy curve))) opening calls .ends in
-    Flat w h handed buffer first (painted curve n opening (first .buffer) calls) (sheetsOf n ends)
+    let ends = play (layered (stepLent (editingBy form curve))) opening calls .ends in
+    Flat w h handed buffer first (painted form curve n opening (first .buffer) calls) (sheetsOf n ends)

@@ -1,6 +1,7 @@
 // What a frame asks of the history of the open sheet.
 use base::Answer;
 use base::Edit;
+use base::Form;
 use base::Handle;
 use base::Moved;
 use base::Removal;
@@ -69,6 +70,7 @@ fn push_edit(
         &[],
         edit,
         &list[..n],
+        Form::Coordinates,
         journal,
         handle,
         scratch,
@@ -228,7 +230,7 @@ fn mark(k: usize, journal: &[u8], handle: Handle) -> Moved
         (outcomeOf (r .answer) (r .handle) ≡ ledgers.markOf (length (now (journal .entry))) handle) × (r .k ≡ k)
         ⌝ }
 {
-    let m = mark_saved(journal, handle);
+    let m = mark_saved(Form::Coordinates, journal, handle);
     let answer = m.answer;
     let next = m.handle;
     Moved {
@@ -323,7 +325,18 @@ pub fn call(
             list,
             bytes,
         ),
-        Frame::Undo => undo(w, h, k, palette, lab, indices, locks, journal, handle),
+        Frame::Undo => undo(
+            w,
+            h,
+            k,
+            palette,
+            lab,
+            indices,
+            locks,
+            Form::Coordinates,
+            journal,
+            handle,
+        ),
         Frame::Redo => redo(
             w,
             h,
@@ -334,6 +347,7 @@ pub fn call(
             locks,
             false,
             &[],
+            Form::Coordinates,
             journal,
             handle,
             bytes,

@@ -7,9 +7,11 @@ use borrow.Rule.Slice.PartMut.{putMid}
 use lib.ListN.{length, take, drop, getD, length-drop, drop-of-length-le}
 use lib.Seq.{take-all, take-add, drop-drop}
 use Rattle.base.specs.Lists.{over}
+use Rattle.base.specs.declared.Form.{Form}
 use Rattle.edit.specs.declared.ListKind.{ListKind}
 use Rattle.edit.specs.declared.ListKind.the-variants.{NoList, PixelList, RemapList}
 use Rattle.journal_record.specs.Bytes.{splice}
+use Rattle.journal_record.proofs.Strides.{change-fits}
 use Rattle.journal_write.specs.List.{Puttable}
 use Rattle.base.specs.declared.Change.{Change}
 use Rattle.struct_edit.specs.Walk.{flatOf, flatAll, none, PutsOne}
@@ -30,8 +32,10 @@ spliced-within l v part a at e =
     (sym (append-assoc (take a l) (take at (drop a l)) (v ++ drop (length v) (drop (a + at) l))))
 
 -- ---- a list: what is asked of all is asked of each
-pub puttable-at : (l : ListKind) (list : List Change) (i offset w n : ℕ) {m o : ℕ} → i < length list → o ≡ m → Puttable l w n (m - offset) (flatAll list) → PutsOne l offset o i w n (flatOf (getD list i none))
+pub puttable-at : (f : Form) (l : ListKind) (list : List Change) (i offset w n : ℕ) {m o : ℕ} → i < length list → o ≡ m → Puttable f l w n (m - offset) (flatAll list) → PutsOne f l offset o i w n (flatOf (getD list i none))
 unfolding Puttable PutsOne
-puttable-at NoList list i offset w n h q p = tt
-puttable-at PixelList list i offset w n h q p = (omega (arith, q, p .0 (rw (told-length list) (omega (arith, h))), told-length list), told-inside w n list i (p .1) h)
-puttable-at (RemapList j) list i offset w n h q p = omega (arith, q, p, told-length list)
+puttable-at f NoList list i offset w n h q p = tt
+puttable-at f PixelList list i offset w n {m} h q p =
+    let room = rw (told-length list) at (p .0 (rw (told-length list) (omega (arith, h)))) in
+    (omega (arith, q, change-fits f 6 (length list) i (m - offset) h room), told-inside w n list i (p .1) h)
+puttable-at f (RemapList j) list i offset w n {m} h q p = omega (arith, q, change-fits f 33 (length list) i (m - offset) h (rw (told-length list) at p))

@@ -7,13 +7,13 @@ use native.Mathlib.Nat.{le-of-suc-le-suc, not-suc-le-zero}
 use borrow.Author.Tests.{leb-false}
 use lib.ListN.{length, getD, length-map}
 use Rattle.base.specs.Lists.{some}
-use Rattle.base.proofs.Scan.{some-none}
+use Rattle.base.proofs.Scan.{some-none, drop-next}
 use Rattle.edit.specs.Change as flat
 use Rattle.edit.specs.Change.{place}
 use Rattle.edit_pixels.specs.Inside.{past}
+use Rattle.edit_pixels.proofs.Nth.{Nth}
 use Rattle.base.specs.declared.Change.{Change}
-use Rattle.struct_change.specs.Struct.{packedOf}
-use Rattle.struct_edit.specs.Walk.{flatOf, packedAll, flatAll, none}
+use Rattle.struct_edit.specs.Walk.{flatOf, flatAll, none}
 
 pub told-length : (list : List Change) → length (flatAll list) ≡ length list
 told-length list = rw (length-map, length-map)
@@ -23,10 +23,8 @@ told-at [] i d h = absurd (not-suc-le-zero h)
 told-at (c ∷ list) zero d h = refl
 told-at (c ∷ list) (suc i) d h = told-at list i d (le-of-suc-le-suc h)
 
-pub packed-at : (list : List Change) (i : ℕ) → i < length list → getD (packedAll list) i 0 ≡ packedOf (getD list i none)
-packed-at [] i h = absurd (not-suc-le-zero h)
-packed-at (c ∷ list) zero h = refl
-packed-at (c ∷ list) (suc i) h = packed-at list i (le-of-suc-le-suc h)
+pub told-nth : (list : List Change) (i : ℕ) → i < length list → Nth (flatAll list) i (flatOf (getD list i none))
+told-nth list i h = record { left = drop-next (flatAll list) i (flatOf none) (rw (told-length list) h) ∙ rw (told-at list i (flatOf none) h) }
 
 -- where none stands past the picture, the i-th does not
 pub told-one : (w n : ℕ) (list : List Change) (i : ℕ) → some (past w n) (flatAll list) ≡ false → i < length list → some (past w n) (flatOf (getD list i none) ∷ []) ≡ false

@@ -7,7 +7,7 @@ use Prim.Native.Nat.{ℕ, zero, suc, _+_, _*_, _<_, _≤_}
 use native.Mathlib.Numerals.{add-one}
 use native.Mathlib.Omega.{arith}
 use lib.IntN.{ℤ}
-use lib.ListN.{length, getD, set, take, replicate, length-map}
+use lib.ListN.{length, getD, set, take, replicate}
 use lib.Seq.{take-suc, take-all, take-set-lt, length-take-le}
 use Rattle.base.specs.Checks.{Check, orElse, firstOf}
 use Rattle.base.proofs.First.{or-else-assoc, or-else-zero, first-append}
@@ -16,16 +16,16 @@ use Rattle.sheet.specs.Sheet.{Sheet}
 use Rattle.edit.specs.declared.ListKind.{ListKind}
 use Rattle.edit.specs.declared.ListKind.the-variants.{NoList, PixelList, RemapList}
 use Rattle.edit.specs.Change as flat
-use Rattle.edit.specs.Change.{unpacked, place, painted, newOf}
+use Rattle.edit.specs.Change.{place, painted, newOf}
 use Rattle.edit.specs.List.{paintedList}
 use Rattle.edit.specs.Checks.{changeChecks}
 use Rattle.edit_pixels.specs.Inside.{bare}
 use Rattle.edit_checks.specs.Marks.{Markable, ClearFor, MarksFor}
 use Rattle.edit_remap.proofs.Marking.{Marking, marking-none, marking-next, marking-all, move-inside}
 use Rattle.base.specs.declared.Change.{Change}
-use Rattle.struct_edit.specs.Walk.{flatOf, packedAll, flatAll, none, walkedOf, checkUpto, markOne, markUpto, paintUpto}
+use Rattle.struct_edit.specs.Walk.{flatOf, flatAll, none, walkedOf, checkUpto, markOne, markUpto, paintUpto}
 use Rattle.struct_edit.proofs.Checking.{or-zero, first-zero}
-use Rattle.struct_edit.proofs.Told.{told-length, told-at, packed-at}
+use Rattle.struct_edit.proofs.Told.{told-length, told-at, told-nth}
 
 -- the first i changes and the next one are the first i + 1
 take-told : (list : List Change) (i : ℕ) → i < length list → take (suc i) (flatAll list) ≡ take i (flatAll list) ++ (flatOf (getD list i none) ∷ [])
@@ -57,16 +57,15 @@ module _ (replay : Bool) (s : Sheet) (j : ℕ) (list : List Change) (marks : Lis
   abbrev removal : ListKind
   removal = RemapList j
 
-  marking-upto : (i : ℕ) → i ≤ length list → checkUpto 0 replay s removal list i ≡ 0 → Marking (s .w) (packedAll list) m i (take m (markUpto 0 replay s removal list marks i))
+  marking-upto : (i : ℕ) → i ≤ length list → checkUpto 0 replay s removal list i ≡ 0 → Marking (s .w) (flatAll list) m i (take m (markUpto 0 replay s removal list marks i))
   unfolding markOne changeChecks
-  marking-upto zero h z = rw (length-take-le m marks long) at (marking-none (s .w) (packedAll list) m clear)
+  marking-upto zero h z = rw (length-take-le m marks long) at (marking-none (s .w) (flatAll list) m clear)
   marking-upto (suc i) h z =
       let c : flat.Change = flatOf (getD list i none) in
       let before : List ℕ = markUpto 0 replay s removal list marks i in
       let z₀ : checkUpto 0 replay s removal list i ≡ 0 = or-zero _ _ z in
       let stands : place (s .w) c < m = move-inside s j m c size (rw z₀ at z) in
-      let next : Marking (s .w) (packedAll list) m (i + 1) (set (take m before) (place (s .w) c) 1) =
-      marking-next (marking-upto i (omega arith) z₀) (rw length-map h) stands (ap (λ (v : ℕ). place (s .w) (unpacked v)) (sym (packed-at list i h))) in
+      let next : Marking (s .w) (flatAll list) m (i + 1) (set (take m before) (place (s .w) c) 1) = marking-next (marking-upto i (omega arith) z₀) (told-nth list i h) stands in
       rw (z, take-set-lt m before (place (s .w) c) 1 stands, ← add-one i) next
 
 pub marked-all : (n : ℕ) (replay : Bool) (s : Sheet) (l : ListKind) (list : List Change) (marks : List ℕ) (m : ℕ) → m ≡ s .w * s .h → Markable l m (length marks) → ClearFor l m marks
@@ -76,7 +75,7 @@ marked-all n replay s NoList list marks m size long clear z = tt
 marked-all n replay s PixelList list marks m size long clear z = tt
 marked-all n replay s (RemapList i) list marks m size long clear z =
     let none : n ≡ 0 = first-zero n replay s (RemapList i) list (length list) z in
-    rw none (marking-all (marking-upto replay s i list marks m size (long .1) clear (length list) (omega arith) (rw none at z)) (rw length-map (omega arith)))
+    rw none (marking-all (marking-upto replay s i list marks m size (long .1) clear (length list) (omega arith) (rw none at z)) (omega (arith, told-length list)))
 
 -- ---- what `check_list` answers and leaves, of the list that an edit goes by
 module _ (n : ℕ) (replay : Bool) (w h k : ℕ) (indices : List ℤ) (l kind : ListKind) (same : kind ≡ l) (list : List Change) (marks : List ℕ) (c : ℕ) (after : List ℕ)

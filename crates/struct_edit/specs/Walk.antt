@@ -5,6 +5,7 @@ use mathlib.Core.List.{List, [], _∷_, map}
 use lib.IntN.{ℤ, pos}
 use lib.ListN.{getD, set}
 use Rattle.base.specs.Checks.{orElse, firstOf}
+use Rattle.base.specs.declared.Form.{Form}
 use Rattle.sheet.specs.Sheet.{Sheet}
 use Rattle.edit.specs.declared.ListKind.{ListKind}
 use Rattle.edit.specs.declared.ListKind.the-variants.{NoList, PixelList, RemapList}
@@ -14,7 +15,7 @@ use Rattle.edit.specs.List.{paintedList}
 use Rattle.edit.specs.Checks.{changeChecks}
 use Rattle.edit_remap.specs.Marked.{whenNone}
 use Rattle.journal_record.specs.Bytes.{splice}
-use Rattle.journal_record.specs.Record.{changeBytes}
+use Rattle.journal_record.specs.Record.{stride, changeBytes}
 use Rattle.base.specs.declared.Change.{Change}
 use Rattle.struct_change.specs.Struct.{packedOf}
 
@@ -53,21 +54,21 @@ markUpto n replay s l list marks (suc i) =
     markOne (checkUpto n replay s l list (suc i)) l (s .w) (flatOf (getD list i none))
     (markUpto n replay s l list marks i)
 
--- ---- written: the eight bytes of change i, in the record that starts at `offset`. A pixel's old is the picture's index
-unfoldable pub putOne : ListKind → ℕ → ℕ → ℕ → List ℤ → flat.Change → List ℕ → List ℕ
-putOne NoList offset i w indices c journal = journal
-putOne PixelList offset i w indices c journal = splice journal (offset + (6 + 8 * i)) (changeBytes (filledIn w indices c))
-putOne (RemapList j) offset i w indices c journal = splice journal (offset + (33 + 8 * i)) (changeBytes c)
+-- ---- written: the bytes of change i, in the record that starts at `offset`. A pixel's old is the picture's index
+unfoldable pub putOne : Form → ListKind → ℕ → ℕ → ℕ → List ℤ → flat.Change → List ℕ → List ℕ
+putOne f NoList offset i w indices c journal = journal
+putOne f PixelList offset i w indices c journal = splice journal (offset + (6 + stride f * i)) (changeBytes f w (filledIn w indices c))
+putOne f (RemapList j) offset i w indices c journal = splice journal (offset + (33 + stride f * i)) (changeBytes f w c)
 
-abbrev pub putUpto : ListKind → ℕ → ℕ → List ℤ → List Change → List ℕ → ℕ → List ℕ
-putUpto l offset w indices list journal zero = journal
-putUpto l offset w indices list journal (suc i) = putOne l offset i w indices (flatOf (getD list i none)) (putUpto l offset w indices list journal i)
+abbrev pub putUpto : Form → ListKind → ℕ → ℕ → List ℤ → List Change → List ℕ → ℕ → List ℕ
+putUpto f l offset w indices list journal zero = journal
+putUpto f l offset w indices list journal (suc i) = putOne f l offset i w indices (flatOf (getD list i none)) (putUpto f l offset w indices list journal i)
 
 -- what is asked: the bytes lie in a journal of m, a pixel among n indices
-unfoldable pub PutsOne : ListKind → ℕ → ℕ → ℕ → ℕ → ℕ → flat.Change → Type 0
-PutsOne NoList offset m i w n c = Unit {0}
-PutsOne PixelList offset m i w n c = (offset + (14 + 8 * i) ≤ m) × (place w c < n)
-PutsOne (RemapList j) offset m i w n c = offset + (41 + 8 * i) ≤ m
+unfoldable pub PutsOne : Form → ListKind → ℕ → ℕ → ℕ → ℕ → ℕ → flat.Change → Type 0
+PutsOne f NoList offset m i w n c = Unit {0}
+PutsOne f PixelList offset m i w n c = (offset + (6 + stride f * i + stride f) ≤ m) × (place w c < n)
+PutsOne f (RemapList j) offset m i w n c = offset + (33 + stride f * i + stride f) ≤ m
 
 -- ---- painted: "paint each new at its place, in list order"
 abbrev pub paintUpto : ListKind → ℕ → List Change → List ℤ → ℕ → List ℤ

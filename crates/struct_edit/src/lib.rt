@@ -1,11 +1,13 @@
 // The loops over a lent slice of change structs: an edit's list checked, written and painted in place. Each hands its
 // changes one by one to a function over one change. The list of an edit that a check refused is not gone through.
 use base::Change;
+use base::Form;
 use edit::ListKind;
 use edit_pixels::filled_in;
 use edit_pixels::paint_new;
 use edit_pixels::pixel_no;
 use edit_remap::mark_move;
+use journal_record::list_bytes;
 use journal_write::put_change;
 use struct_change::packed;
 ghost use mathlib.Core.Path.{_≡_};
@@ -20,7 +22,7 @@ ghost use Rattle.edit_pixels.specs.Inside.{bare};
 ghost use Rattle.edit_checks.specs.Marks.{Checkable};
 ghost use Rattle.edit_list.specs.Paintable.{Paintable};
 ghost use Rattle.journal_record.specs.Bytes.{splice};
-ghost use Rattle.journal_record.specs.Record.{changeBytes};
+ghost use Rattle.journal_record.specs.Record.{stride, changeBytes};
 ghost use Rattle.journal_write.specs.List.{Puttable};
 ghost use Rattle.struct_edit.specs.Walk.{flatOf, flatAll, walkedOf, markOne, checkUpto, markUpto, paintUpto};
 ghost use Rattle.struct_edit.specs.Walk.{putOne, putUpto, PutsOne};
@@ -94,17 +96,20 @@ pub fn check_list(
 }
 
 // Writes a change into the part of the journal that starts at the offset, from `at` of it on.
-fn put_at(journal: &mut [u8], offset: usize, at: usize, c: u64)
-    requires { ⌜ offset + (at + 8) ≤ length (now journal) ⌝ }
-    ensures { λ _. ⌜ now (journal .exit) ≡ splice (now (journal .entry)) (offset + at) (changeBytes (unpacked c)) ⌝ }
+fn put_at(form: Form, journal: &mut [u8], offset: usize, at: usize, w: usize, c: u64)
+    requires { ⌜ offset + (at + stride form) ≤ length (now journal) ⌝ }
+    ensures { λ _. ⌜
+        now (journal .exit) ≡ splice (now (journal .entry)) (offset + at) (changeBytes form w (unpacked c))
+        ⌝ }
 {
-    put_change(&mut journal[offset..], at, c);
+    put_change(form, &mut journal[offset..], at, w, c);
 }
 
-// Writes the eight bytes of change i of an edit's list into its record, which starts at the offset: in the part of the
+// Writes the bytes of change i of an edit's list into its record, which starts at the offset: in the part of the
 // journal that starts there. The old of a pixel is the picture's index.
 pub fn put_one(
     kind: ListKind,
+    form: Form,
     journal: &mut [u8],
     offset: usize,
     i: usize,
@@ -112,9 +117,9 @@ pub fn put_one(
     w: usize,
     c: Change,
 )
-    requires { ⌜ PutsOne kind offset (length (now journal)) i w (length (now indices)) (flatOf c) ⌝ }
+    requires { ⌜ PutsOne form kind offset (length (now journal)) i w (length (now indices)) (flatOf c) ⌝ }
     ensures { λ _. ⌜
-        now (journal .exit) ≡ putOne kind offset i w (now (indices .entry)) (flatOf c) (now (journal .entry))
+        now (journal .exit) ≡ putOne form kind offset i w (now (indices .entry)) (flatOf c) (now (journal .entry))
         ⌝ }
 {
     let n = packed(c);
@@ -122,15 +127,23 @@ pub fn put_one(
         ListKind::NoList => (),
         ListKind::PixelList => {
             let filled = filled_in(indices, w, n);
-            put_at(journal, offset, 6 + 8 * i, filled)
+            put_at(form, journal, offset, 6 + list_bytes(form, i), w, filled)
         }
-        ListKind::RemapList { index: _ } => put_at(journal, offset, 33 + 8 * i, n),
+        ListKind::RemapList { index: _ } => put_at(
+            form,
+            journal,
+            offset,
+            33 + list_bytes(form, i),
+            w,
+            n,
+        ),
     }
 }
 
 // The same of the first n changes of a list.
 pub fn put_list(
     kind: ListKind,
+    form: Form,
     journal: &mut [u8],
     offset: usize,
     indices: &[i16],
@@ -140,16 +153,16 @@ pub fn put_list(
 )
     requires { ⌜
         (n ≤ length (now list))
-        × (0 < n → Puttable kind w (length (now indices)) (length (now journal) - offset) (flatAll (now list)))
+        × (0 < n → Puttable form kind w (length (now indices)) (length (now journal) - offset) (flatAll (now list)))
         ⌝ }
     ensures { λ _. ⌜
         now (journal .exit)
-        ≡ putUpto kind offset w (now (indices .entry)) (now (list .entry)) (now (journal .entry)) n
+        ≡ putUpto form kind offset w (now (indices .entry)) (now (list .entry)) (now (journal .entry)) n
         ⌝ }
 {
     let mut i: usize = 0;
     while i < n {
-        put_one(kind, journal, offset, i, indices, w, list[i]);
+        put_one(kind, form, journal, offset, i, indices, w, list[i]);
         i += 1;
     }
 }

@@ -1,12 +1,13 @@
 // `undo`, `redo` and `mark_saved` with the handle lent.
 use base::Answer;
+use base::Form;
 use base::Handle;
 ghost use mathlib.Core.Path.{_≡_};
 ghost use lib.ListN.{length};
-ghost use Rattle.color_curve.specs.Curve.{curveOf};
+ghost use Rattle.color_curve.specs.Curve.{curveOf, srgb};
 ghost use Rattle.history_ledger.specs.Journal.{undoOf, redoOf, markOf};
 ghost use Rattle.history_model.specs.Document.{documentOf};
-ghost use Rattle.history_model.specs.Editing.{editingBy, editing};
+ghost use Rattle.history_model.specs.Editing.{editingBy};
 ghost use Rattle.history_model.specs.Calls.{stateOf};
 ghost use Rattle.history_model.specs.Calls.{outcomeOf};
 ghost use Rattle.struct_push.specs.Lent.{leavesLent};
@@ -20,6 +21,7 @@ pub fn undo(
     lab: &mut [f64],
     indices: &mut [i16],
     locks: &mut [bool],
+    form: Form,
     journal: &[u8],
     handle: &mut Handle,
 ) -> Answer
@@ -29,10 +31,21 @@ pub fn undo(
         (now (locks .entry)) in
         leavesLent r w h (now (k .exit)) (now (palette .exit)) (now (lab .exit)) (now (indices .exit))
         (now (locks .exit)) (now (journal .entry)) (now (handle .exit))
-        ≡ undoOf editing (stateOf document (now (journal .entry)) (now (handle .entry)))
+        ≡ undoOf (editingBy form srgb) (stateOf document (now (journal .entry)) (now (handle .entry)))
         ) ⌝ }
 {
-    let undone = history::undo(w, h, *k, palette, lab, indices, locks, journal, *handle);
+    let undone = history::undo(
+        w,
+        h,
+        *k,
+        palette,
+        lab,
+        indices,
+        locks,
+        form,
+        journal,
+        *handle,
+    );
     *k = undone.k;
     *handle = undone.handle;
     undone.answer
@@ -49,6 +62,7 @@ pub fn redo(
     locks: &mut [bool],
     loaded: bool,
     curve: &[f64],
+    form: Form,
     journal: &[u8],
     handle: &mut Handle,
     scratch: &mut [u8],
@@ -59,7 +73,7 @@ pub fn redo(
         (now (locks .entry)) in
         (leavesLent r w h (now (k .exit)) (now (palette .exit)) (now (lab .exit)) (now (indices .exit))
         (now (locks .exit)) (now (journal .entry)) (now (handle .exit))
-        ≡ redoOf (editingBy (curveOf loaded (now (curve .entry)))) (length (now (scratch .entry))) (stateOf document (now (journal .entry)) (now (handle .entry))))
+        ≡ redoOf (editingBy form (curveOf loaded (now (curve .entry)))) (length (now (scratch .entry))) (stateOf document (now (journal .entry)) (now (handle .entry))))
         × (length (now (scratch .exit)) ≡ length (now (scratch .entry)))
         ) ⌝ }
 {
@@ -73,6 +87,7 @@ pub fn redo(
         locks,
         loaded,
         curve,
+        form,
         journal,
         *handle,
         scratch,
@@ -83,10 +98,10 @@ pub fn redo(
 }
 
 // `history::mark_saved`, with the handle lent.
-pub fn mark_saved(journal: &[u8], handle: &mut Handle) -> Answer
+pub fn mark_saved(form: Form, journal: &[u8], handle: &mut Handle) -> Answer
     ensures { λ r. ⌜ outcomeOf r (now (handle .exit)) ≡ markOf (length (now (journal .entry))) (now (handle .entry)) ⌝ }
 {
-    let marked = history::mark_saved(journal, *handle);
+    let marked = history::mark_saved(form, journal, *handle);
     *handle = marked.handle;
     marked.answer
 }

@@ -3,6 +3,7 @@
 use base::Answer;
 use base::Change;
 use base::Edit;
+use base::Form;
 use base::Handle;
 use base::Moved;
 use edit::list_of;
@@ -40,13 +41,14 @@ fn carry_out(
     curve: &[f64],
     edit: Edit,
     list: &[Change],
+    form: Form,
     journal: &mut [u8],
     handle: Handle,
 ) -> Moved
     requires { ⌜
         (no ≡ 0 → Standing (stateOf (documentOf w h k (now palette) (now lab) (now indices) (now locks)) (now journal) handle))
         × (no ≡ 0 → emptyPixels (listOf edit) (length (flatAll (now list))) ≡ false
-        → Acceptable (stateOf (documentOf w h k (now palette) (now lab) (now indices) (now locks)) (now journal) handle) edit
+        → Acceptable form (stateOf (documentOf w h k (now palette) (now lab) (now indices) (now locks)) (now journal) handle) edit
         (flatAll (now list)))
         × (no ≡ 0 → CurveFits (curveOf loaded (now curve)))
         ⌝ }
@@ -55,7 +57,7 @@ fn carry_out(
         → leaves r w h (now (palette .exit)) (now (lab .exit)) (now (indices .exit)) (now (locks .exit)) (now (journal .exit))
         ≡ pushedOr no (isStill (givenOf limited permitted edit (packedAll (now (list .entry)))))
         (stateOf (documentOf w h k (now (palette .entry)) (now (lab .entry)) (now (indices .entry)) (now (locks .entry)))
-        (now (journal .entry)) handle) (pushed (editingBy (curveOf loaded (now (curve .entry))))
+        (now (journal .entry)) handle) (pushed (editingBy form (curveOf loaded (now (curve .entry))))
         (stateOf (documentOf w h k (now (palette .entry)) (now (lab .entry)) (now (indices .entry)) (now (locks .entry)))
         (now (journal .entry)) handle) (givenOf limited permitted edit (packedAll (now (list .entry))))))
         ⌝ }
@@ -64,7 +66,7 @@ fn carry_out(
     let offset = handle.offset;
     let kind = list_of(edit);
     let m = walked(no, n);
-    put_list(kind, journal, offset, indices, w, list, m);
+    put_list(kind, form, journal, offset, indices, w, list, m);
     paint_list(kind, indices, w, list, m);
     finish(
         no,
@@ -77,6 +79,7 @@ fn carry_out(
         curve,
         edit,
         n,
+        form,
         journal,
         handle,
     )
@@ -98,6 +101,7 @@ pub fn push(
     curve: &[f64],
     edit: Edit,
     list: &[Change],
+    form: Form,
     journal: &mut [u8],
     handle: &mut Handle,
     scratch: &mut [u8],
@@ -108,7 +112,7 @@ pub fn push(
         (now (locks .entry)) in
         (leavesLent r w h (now (k .exit)) (now (palette .exit)) (now (lab .exit)) (now (indices .exit))
         (now (locks .exit)) (now (journal .exit)) (now (handle .exit))
-        ≡ pushOf (editingBy (curveOf loaded (now (curve .entry)))) (length (now (scratch .entry))) (stateOf document (now (journal .entry)) (now (handle .entry)))
+        ≡ pushOf (editingBy form (curveOf loaded (now (curve .entry)))) (length (now (scratch .entry))) (stateOf document (now (journal .entry)) (now (handle .entry)))
         (givenOf limited (now (permitted .entry)) edit (packedAll (now (list .entry)))))
         × (length (now (scratch .exit)) ≡ length (now (scratch .entry)))
         ) ⌝ }
@@ -129,6 +133,7 @@ pub fn push(
         curve,
         edit,
         list,
+        form,
         journal,
         held,
         scratch,
@@ -146,6 +151,7 @@ pub fn push(
         curve,
         edit,
         list,
+        form,
         journal,
         held,
     );

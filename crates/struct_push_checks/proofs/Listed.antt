@@ -10,6 +10,7 @@ use lib.ListN.{length, length-map}
 use Rattle.base.specs.Limits.{maxChanges, maxJournal}
 use Rattle.base.specs.Checks.{orElse, firstOf}
 use Rattle.base.specs.declared.Edit.{Edit}
+use Rattle.base.specs.declared.Form.{Form}
 use Rattle.base.specs.declared.Handle.{Handle}
 use Rattle.color_curve.specs.Curve.{Curve}
 use Rattle.edit.specs.declared.ListKind.{ListKind}
@@ -29,7 +30,7 @@ use Rattle.struct_change.specs.Struct.{packedOf}
 use Rattle.struct_edit.specs.Walk.{packedAll, flatAll, checkUpto, markUpto}
 use Rattle.struct_edit.proofs.Whole.{list-answer, list-marks}
 
-module _ (curve : Curve) (room w h k : ℕ) (palette : List ℕ) (lab : List Float) (indices : List ℤ) (locks : List Bool) (journal : List ℕ) (handle : Handle) (limited : Bool) (permitted : List ℕ) (e : Edit) (list : List Change) where
+module _ (form : Form) (curve : Curve) (room w h k : ℕ) (palette : List ℕ) (lab : List Float) (indices : List ℤ) (locks : List Bool) (journal : List ℕ) (handle : Handle) (limited : Bool) (permitted : List ℕ) (e : Edit) (list : List Change) where
   abbrev state : State Document
   state = stateOf (documentOf w h k palette lab indices locks) journal handle
 
@@ -39,9 +40,9 @@ module _ (curve : Curve) (room w h k : ℕ) (palette : List ℕ) (lab : List Flo
   abbrev long : length (packedAll list) ≡ length list
   long = length-map list packedOf
 
-  module _ (kind : ListKind) (same : kind ≡ listOf e) (n : ℕ) (marks : List ℕ) (b : Begun curve room state given n marks) where
+  module _ (kind : ListKind) (same : kind ≡ listOf e) (n : ℕ) (marks : List ℕ) (b : Begun form curve room state given n marks) where
     checkable : (m : ℕ) → m ≡ room → n ≡ 0 → Checkable (listOf e) w h (length indices) m
-    checkable = begun-checkable curve room w h k palette lab indices locks journal handle limited permitted e (packedAll list) (length list) long n marks b
+    checkable = begun-checkable form curve room w h k palette lab indices locks journal handle limited permitted e (packedAll list) (length list) long n marks b
 
     pub list-asks : (m : ℕ) → m ≡ room → (length list ≤ length list) × (n ≡ 0 → Checkable kind w h (length indices) m)
     list-asks m q = (omega arith, λ z. rw same (checkable m q z))
@@ -53,18 +54,18 @@ module _ (curve : Curve) (room w h k : ℕ) (palette : List ℕ) (lab : List Flo
 
       pub settle-asks : (m : ℕ) → m ≡ room → (c ≡ 0 → Checkable (listOf e) w h (length indices) m) × (c ≡ 0 → (length list ≤ maxChanges) × (handle .offset ≤ maxJournal))
       settle-asks m q = (
-        settle-checkable curve room w h k palette lab indices locks journal handle limited permitted e (packedAll list) (length list) long n marks b c answered m q,
-        settle-short curve room w h k palette lab indices locks journal handle limited permitted e (packedAll list) (length list) long n marks b c answered,
+        settle-checkable form curve room w h k palette lab indices locks journal handle limited permitted e (packedAll list) (length list) long n marks b c answered m q,
+        settle-short form curve room w h k palette lab indices locks journal handle limited permitted e (packedAll list) (length list) long n marks b c answered,
       )
 
       marked : length marks ≡ room → c ≡ 0 → MarksFor (listOf e) w (w * h) (flatAll list) after
       marked q z =
-          settle-marks curve room w h k palette lab indices locks journal handle limited permitted e (packedAll list) (length list) long n marks b c answered after z
+          settle-marks form curve room w h k palette lab indices locks journal handle limited permitted e (packedAll list) (length list) long n marks b c answered after z
           (list-marks n false w h k indices (listOf e) kind same list marks c after said (λ y. checkable (length marks) q y .markable) z)
 
       pub numbered : length marks ≡ room → (l : ℕ)
           → ((cs : List flat.Change) → (c ≡ 0 → MarksFor (listOf e) w (w * h) cs after)
-          → l ≡ orElse (orElse c (firstOf (leftChecks (bare w h 0 indices) (listOf e) cs))) (fullNumber (handle .offset) e (length list) (length journal)))
-          → PushNumbered curve room state given l
+          → l ≡ orElse (orElse c (firstOf (leftChecks (bare w h 0 indices) (listOf e) cs))) (fullNumber form (handle .offset) e (length list) (length journal)))
+          → PushNumbered form curve room state given l
       numbered q l settled =
-          push-number curve room w h k palette lab indices locks journal handle limited permitted e (packedAll list) (length list) long n marks b c answered l (settled (flatAll list) (marked q))
+          push-number form curve room w h k palette lab indices locks journal handle limited permitted e (packedAll list) (length list) long n marks b c answered l (settled (flatAll list) (marked q))

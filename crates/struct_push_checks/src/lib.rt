@@ -2,6 +2,7 @@
 // applies.
 use base::Change;
 use base::Edit;
+use base::Form;
 use base::Handle;
 use edit::list_of;
 use history_push_checks::begin;
@@ -30,6 +31,7 @@ pub fn push_no(
     curve: &[f64],
     edit: Edit,
     list: &[Change],
+    form: Form,
     journal: &[u8],
     handle: Handle,
     marks: &mut [u8],
@@ -37,7 +39,7 @@ pub fn push_no(
     ensures { λ r. ⌜ (
         let document =
         documentOf w h k (now (palette .entry)) (now (lab .entry)) (now (indices .entry)) (now (locks .entry)) in
-        PushNumbered (curveOf loaded (now (curve .entry))) (length (now (marks .entry))) (stateOf document (now (journal .entry)) handle)
+        PushNumbered form (curveOf loaded (now (curve .entry))) (length (now (marks .entry))) (stateOf document (now (journal .entry)) handle)
         (givenOf limited (now (permitted .entry)) edit (packedAll (now (list .entry)))) r
         ) ⌝ }
 {
@@ -64,5 +66,5 @@ pub fn push_no(
         marks,
     );
     let checked = check_list(begun, kind, false, w, h, k, indices, marks, list, n);
-    settle(checked, edit, n, w, h, indices, marks, size, offset)
+    settle(checked, edit, n, w, h, indices, marks, form, size, offset)
 }

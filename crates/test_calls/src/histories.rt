@@ -1,6 +1,7 @@
 // The calls of a history in a journal. What a call moves on, the palette count and the handle, goes from call to call in
 // `base::Moved`.
 use crate::bare::edit;
+use base::Form;
 use base::Handle;
 use base::Moved;
 use base::Removal;
@@ -91,6 +92,7 @@ fn pushed(
     lab: &mut [f64],
     indices: &mut [i16],
     locks: &mut [bool],
+    form: Form,
     journal: &mut [u8],
 ) -> Moved {
     let mut list = [0u64; 6];
@@ -113,6 +115,7 @@ fn pushed(
         lent_values(&values, rule),
         edit(a),
         front(&list, n),
+        form,
         journal,
         m.handle,
         &mut scratch,
@@ -128,6 +131,7 @@ fn redone(
     lab: &mut [f64],
     indices: &mut [i16],
     locks: &mut [bool],
+    form: Form,
     journal: &[u8],
 ) -> Moved {
     let mut scratch = [0u8; 6];
@@ -143,14 +147,15 @@ fn redone(
         locks,
         a.choice.loaded,
         lent_values(&values, rule),
+        form,
         journal,
         m.handle,
         &mut scratch,
     )
 }
 
-fn marked(m: Moved, journal: &[u8]) -> Moved {
-    let s = mark_saved(journal, m.handle);
+fn marked(m: Moved, form: Form, journal: &[u8]) -> Moved {
+    let s = mark_saved(form, journal, m.handle);
     let answer = s.answer;
     let handle = s.handle;
     Moved {
@@ -213,26 +218,74 @@ pub fn change(
     lab: &mut [f64],
     indices: &mut [i16],
     locks: &mut [bool],
+    form: Form,
     journal: &mut [u8],
 ) -> Moved {
     match c {
-        45 => pushed(a, w, h, m, palette, lab, indices, locks, journal),
-        46 => undo(w, h, m.k, palette, lab, indices, locks, journal, m.handle),
-        47 => redone(a, w, h, m, palette, lab, indices, locks, journal),
-        48 => marked(m, journal),
+        45 => pushed(a, w, h, m, palette, lab, indices, locks, form, journal),
+        46 => undo(
+            w,
+            h,
+            m.k,
+            palette,
+            lab,
+            indices,
+            locks,
+            form,
+            journal,
+            m.handle,
+        ),
+        47 => redone(a, w, h, m, palette, lab, indices, locks, form, journal),
+        48 => marked(m, form, journal),
         _ => replayed(a, w, h, m, palette, lab, indices, locks),
     }
 }
 
-// What is asked of the journal and the handle.
-pub fn look(c: usize, a: Hand, journal: &[u8], handle: Handle) -> Outcome {
+// The journal in the other form.
+fn convert(
+    w: usize,
+    h: usize,
+    form: Form,
+    journal: &[u8],
+    handle: Handle,
+    out: &mut [u8],
+) -> Outcome {
+    let c = editor::convert(w, h, form, journal, handle, out);
+    let answer = c.answer;
+    let s = c.handle;
+    let no = answer.number();
+    let moved = [s.offset, s.end, s.position, s.count, s.saved];
+    told(no, mix_bytes(mix_sizes(mix_number(no), &moved), out))
+}
+
+// The same into some bytes, which may be too few.
+fn converted(a: Hand, w: usize, h: usize, form: Form, journal: &[u8], handle: Handle) -> Outcome {
+    let mut few = [0x5au8; 40];
+    let mut enough = [0x5au8; 140];
+    if a.choice.even {
+        return convert(w, h, form, journal, handle, &mut few);
+    }
+    convert(w, h, form, journal, handle, &mut enough)
+}
+
+// What is asked of the journal and the handle, and `convert`.
+pub fn look(
+    c: usize,
+    a: Hand,
+    w: usize,
+    h: usize,
+    form: Form,
+    journal: &[u8],
+    handle: Handle,
+) -> Outcome {
     match c {
-        49 => of_truth(editor::is_dirty(journal, handle)),
-        50 => of_truth(editor::can_undo(journal, handle)),
-        51 => of_truth(editor::can_redo(journal, handle)),
-        52 => of_next(editor::next_undo(journal, handle)),
-        53 => of_next(editor::next_redo(journal, handle)),
-        _ => of_next(editor::applied(journal, handle, a.seeds.number)),
+        49 => of_truth(editor::is_dirty(form, journal, handle)),
+        50 => of_truth(editor::can_undo(form, journal, handle)),
+        51 => of_truth(editor::can_redo(form, journal, handle)),
+        52 => of_next(editor::next_undo(form, journal, handle)),
+        53 => of_next(editor::next_redo(form, journal, handle)),
+        54 => of_next(editor::applied(form, journal, handle, a.seeds.number)),
+        _ => converted(a, w, h, form, journal, handle),
     }
 }
 

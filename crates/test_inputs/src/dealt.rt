@@ -1,4 +1,5 @@
 // Inputs, dealt from a seed: a fixed sequence of numbers, and what is picked by them.
+use base::Form;
 use base::Rgb;
 use selection::Selection;
 ghost use mathlib.Core.Path.{_≡_};
@@ -43,6 +44,15 @@ pub fn once_in(x: u64, n: usize) -> bool
     requires { ⌜ 0 < n ⌝ }
 {
     pick(x, n) == 0
+}
+
+// The form of a journal.
+pub fn form(x: u64) -> Form {
+    if once_in(x, 2) {
+        Form::Places
+    } else {
+        Form::Coordinates
+    }
 }
 
 // A coordinate on a sheet of six pixels or beside it.

@@ -1,6 +1,7 @@
 // What a call is given, picked from its numbers once.
 use crate::dealt::byte;
 use crate::dealt::coordinate;
+use crate::dealt::form;
 use crate::dealt::height;
 use crate::dealt::index;
 use crate::dealt::kind;
@@ -10,6 +11,7 @@ use crate::dealt::part;
 use crate::dealt::pick;
 use crate::dealt::side;
 use crate::dealt::width;
+use base::Form;
 use selection::Area;
 use selection::Selection;
 
@@ -29,7 +31,7 @@ pub struct Spot {
 }
 
 // Two indices, two entries and a brush; whether there is a list of colours, and a curve, and its rule that is broken;
-// an edit's kind, tool, byte and new mark; a radicand.
+// a journal's form; an edit's kind, tool, byte and new mark; a radicand.
 pub struct Choice {
     pub index: i16,
     pub other: i16,
@@ -39,6 +41,7 @@ pub struct Choice {
     pub limited: bool,
     pub loaded: bool,
     pub rule: usize,
+    pub form: Form,
     pub even: bool,
     pub kind: u8,
     pub tool: u8,
@@ -155,6 +158,7 @@ fn deal_choice(d: &[u64; 32]) -> Choice {
         limited: once_in(d[28], 3),
         loaded: once_in(d[16], 3),
         rule: pick(d[18], 12),
+        form: form(d[15]),
         even: once_in(d[26], 2),
         kind: kind(d[23]),
         tool: byte(d[24]),

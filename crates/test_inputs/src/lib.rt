@@ -15,6 +15,7 @@ pub use dealt::fill_bytes;
 pub use dealt::fill_indices;
 pub use dealt::fill_list;
 pub use dealt::fill_locks;
+pub use dealt::form;
 pub use dealt::height;
 pub use dealt::mix;
 pub use dealt::pick;

@@ -6,6 +6,7 @@
 // inputs, takes the answers from the Rust and document 01's checks, and prints the lines (`compare/run FOLDER sample`).
 mod names;
 
+use base::Form;
 use base::Moved;
 use test_calls::bare_answer;
 use test_calls::change;
@@ -21,6 +22,7 @@ use test_inputs::deck;
 use test_inputs::fill_bytes;
 use test_inputs::fill_indices;
 use test_inputs::fill_locks;
+use test_inputs::form;
 use test_inputs::pick;
 use test_sheets::open;
 use test_sheets::over_sheet;
@@ -65,7 +67,7 @@ fn print_call(c: usize, seed: u64) {
     }
 }
 
-// The calls from 44 to 55 are a history's.
+// The calls from 44 to 55, and 65, are a history's.
 fn number(i: usize) -> usize {
     match i {
         44..=52 => i + 12,
@@ -86,7 +88,7 @@ fn print_calls() {
 
 // Which call of a history is made: mostly a push, an undo or a redo.
 fn call_of(x: u64) -> usize {
-    match pick(x, 24) {
+    match pick(x, 26) {
         0..=9 => 45,
         10..=12 => 46,
         13..=15 => 47,
@@ -97,7 +99,16 @@ fn call_of(x: u64) -> usize {
         20 => 52,
         21 => 53,
         22 => 54,
-        _ => 55,
+        23 => 55,
+        _ => 65,
+    }
+}
+
+// Whether a call moves nothing on: the questions, and `convert`.
+fn looks(c: usize) -> bool {
+    match c {
+        49..=54 | 65 => true,
+        _ => false,
     }
 }
 
@@ -112,16 +123,15 @@ fn print_step(
     lab: &mut [f64],
     indices: &mut [i16],
     locks: &mut [bool],
+    form: Form,
     journal: &mut [u8],
 ) -> Moved {
     damage(a, journal);
-    if 48 < c {
-        if c < 55 {
-            print_line(c, look(c, a, journal, m.handle));
-            return m;
-        }
+    if looks(c) {
+        print_line(c, look(c, a, w, h, form, journal, m.handle));
+        return m;
     }
-    let n = change(c, a, w, h, m, palette, lab, indices, locks, journal);
+    let n = change(c, a, w, h, m, palette, lab, indices, locks, form, journal);
     print_line(c, told_change(c, n, palette, lab, indices, locks, journal));
     n
 }
@@ -136,11 +146,24 @@ fn print_next(
     lab: &mut [f64],
     indices: &mut [i16],
     locks: &mut [bool],
+    form: Form,
     journal: &mut [u8],
 ) -> Moved {
     let d = deck(seed);
     let c = call_of(d[8]);
-    print_step(c, deal(&d), w, h, m, palette, lab, indices, locks, journal)
+    print_step(
+        c,
+        deal(&d),
+        w,
+        h,
+        m,
+        palette,
+        lab,
+        indices,
+        locks,
+        form,
+        journal,
+    )
 }
 
 // The calls of a history after its first.
@@ -153,18 +176,19 @@ fn print_steps(
     lab: &mut [f64],
     indices: &mut [i16],
     locks: &mut [bool],
+    form: Form,
     journal: &mut [u8],
 ) {
     let mut m = first;
     let mut i: u64 = 1;
     while i < STEPS {
         let next = std::num::wrapping_add_u64(seed, i);
-        m = print_next(next, w, h, m, palette, lab, indices, locks, journal);
+        m = print_next(next, w, h, m, palette, lab, indices, locks, form, journal);
         i += 1;
     }
 }
 
-// A history over a sheet, call by call. Of the first, `fresh`, the count is told as 1.
+// A history over a sheet, in one form, call by call. Of the first, `fresh`, the count is told as 1.
 fn print_history(seed: u64) {
     let d = deck(seed);
     let w = 3;
@@ -191,6 +215,7 @@ fn print_history(seed: u64) {
         &mut lab,
         &mut indices,
         &mut locks,
+        form(d[15]),
         &mut journal,
     );
 }

@@ -50,7 +50,8 @@ pub(crate) fn print_name(c: usize) {
           rgb8_to_lab cbrt all from_corners contains contains_i translated grown positions region \
           bresenham normalize pixels is_empty kind extend Stroke check_color fresh push undo redo \
           mark_saved is_dirty can_undo can_redo next_undo next_redo applied replay flip extract \
-          mirror_tiles linear dist2 permitted_no any_stray_below load_curve rgb8_to_lab_by",
+          mirror_tiles linear dist2 permitted_no any_stray_below load_curve rgb8_to_lab_by \
+          convert",
         c,
     )
 }

@@ -91,7 +91,9 @@ pub(crate) fn load_curve(
     lab: &mut [f64],
     indices: &[i16],
 ) -> Outcome {
-    let rule = a.choice.rule;
+    let choice = a.choice;
+    let form = choice.form;
+    let rule = choice.rule;
     let journal = [0u8; 16];
     let values = curve(a.seeds.curve, rule);
     let no = editor::load_curve(
@@ -101,6 +103,7 @@ pub(crate) fn load_curve(
         palette,
         lab,
         indices,
+        form,
         &journal,
         handle(a.spot.across),
         lent_values(&values, rule),

@@ -5,6 +5,7 @@ use mathlib.Core.List.{List, [], map}
 use Prim.Native.Nat.{ℕ}
 use native.Mathlib.Omega.{arith}
 use lib.ListN.{length, length-map}
+use Rattle.base.specs.declared.Form.the-variants.{Coordinates}
 use Rattle.base.specs.Checks.{firstOf}
 use Rattle.color_curve.specs.Curve.{curveOf}
 use Rattle.edit.specs.Change.{unpacked}
@@ -24,7 +25,7 @@ entry-no-requires : tie.Need-entry-no-requires
 entry-no-requires c κs = search needs
 
 returns : tie.Need-returns
-returns c list q = begun-refused _ _ _ _ _ (c .if1 .taken) (number-entry _ _ _ _ _ (c .before .entry-no .ensures (c .before .before .before .before .before .before .before .before .before .args .edit) list .value) (c .if1 .taken))
+returns c f list q = begun-refused f _ _ _ _ _ (c .if1 .taken) (number-entry f _ _ _ _ _ (c .before .entry-no .ensures (c .before .before .before .before .before .before .before .before .before .args .edit) list .value) (c .if1 .taken))
 
 list-of-requires : tie.Need-list-of-requires
 list-of-requires c κs = search needs
@@ -36,7 +37,7 @@ abbrev state : tie.Else2 → State Document
 state c = let a = c .before .before .before .before .before .before .before .before .before .before .before .before .args in stateOf (documentOf (a .w) (a .h) (a .k) (a .palette .now) (a .lab .now) (a .indices .now) (a .locks .now)) (a .journal .now) (a .handle)
 
 -- past the first test nothing of 1 to 4 applies, past the second the push is not still
-entered : (c : tie.Else1) → let a = c .before .before .before .before .before .before .before .before .before .args in (list : List ℕ) → firstOf (entryChecks (editingBy (curveOf (a .loaded) (a .curve .now))) (stateOf (documentOf (a .w) (a .h) (a .k) (a .palette .now) (a .lab .now) (a .indices .now) (a .locks .now)) (a .journal .now) (a .handle)) (givenOf (a .limited) (a .permitted .now) (a .edit) list)) ≡ 0
+entered : (c : tie.Else1) → let a = c .before .before .before .before .before .before .before .before .before .args in (list : List ℕ) → firstOf (entryChecks (editingBy Coordinates (curveOf (a .loaded) (a .curve .now))) (stateOf (documentOf (a .w) (a .h) (a .k) (a .palette .now) (a .lab .now) (a .indices .now) (a .locks .now)) (a .journal .now) (a .handle)) (givenOf (a .limited) (a .permitted .now) (a .edit) list)) ≡ 0
 entered c list = sym (c .before .entry-no .ensures (c .before .before .before .before .before .before .before .before .before .args .edit) list .value) ∙ c .if1 .left
 
 standing : (c : tie.Else1) → let a = c .before .before .before .before .before .before .before .before .before .args in Standing (stateOf (documentOf (a .w) (a .h) (a .k) (a .palette .now) (a .lab .now) (a .indices .now) (a .locks .now)) (a .journal .now) (a .handle))
@@ -49,22 +50,22 @@ moving : (c : tie.Else2) → let a = c .before .before .before .before .before .
 moving c list q = sym (empty (c .before) list q) ∙ c .if2 .left
 
 returns-2 : tie.Need-returns-2
-returns-2 c list q = begun-still _ _ _ _ (entered (c .before .before .before) list) (standing (c .before .before .before)) (sym (empty (c .before) list q) ∙ c .if2 .taken)
+returns-2 c f list q = begun-still f _ _ _ _ (entered (c .before .before .before) list) (standing (c .before .before .before)) (sym (empty (c .before) list q) ∙ c .if2 .taken)
 
 returns-3 : tie.Need-returns-3
-returns-3 c list q = begun-refused _ _ _ _ _ (λ z. omega (arith, z)) (number-push _ _ _ _ _ (entered (c .before .before .before .before) list) (moving (c .before) list q) (pushes-long _ (state (c .before)) _ (rw (length-map, q) (c .if3 .taken)) .value))
+returns-3 c f list q = begun-refused f _ _ _ _ _ (λ z. omega (arith, z)) (number-push f _ _ _ _ _ (entered (c .before .before .before .before) list) (moving (c .before) list q) (pushes-long f _ (state (c .before)) _ (rw (length-map, q) (c .if3 .taken)) .value))
 
 returns-4 : tie.Need-returns-4
-returns-4 c list q = begun-refused _ _ _ _ _ (λ z. omega (arith, z)) (number-push _ _ _ _ _ (entered (c .before .before .before .before .before) list) (moving (c .before .before) list q) (pushes-scratch _ _ _ (rw (length-map, q) (c .before .if3 .left)) (standing (c .before .before .before .before .before)) (c .if4 .taken) .value))
+returns-4 c f list q = begun-refused f _ _ _ _ _ (λ z. omega (arith, z)) (number-push f _ _ _ _ _ (entered (c .before .before .before .before .before) list) (moving (c .before .before) list q) (pushes-scratch f _ _ _ (rw (length-map, q) (c .before .if3 .left)) (standing (c .before .before .before .before .before)) (c .if4 .taken) .value))
 
 head-no-requires : tie.Need-head-no-requires
 head-no-requires c κs = let s = standing (c .before .before .before .before .before) in (s .fits .limits .k-small, s .fits .limits .palette-length, s .marks)
 
 returns-5 : tie.Need-returns-5
-returns-5 c list q =
+returns-5 c f list q =
     let own = head-decides false _ _ _ _ (map unpacked list) _ (c .before .head-no .ensures _ _ (c .before .before .before .before .before .before .before .before .before .before .before .before .before .before .before .before .args .lab .now) _) (c .if5 .taken) in
-    begun-refused _ _ _ _ _ (c .if5 .taken)
-    (number-push _ _ _ _ _ (entered (c .before .before .before .before .before .before .before) list) (moving (c .before .before .before .before) list q) (pushes-own _ _ _ (rw (length-map, q) (c .before .before .before .if3 .left)) (standing (c .before .before .before .before .before .before .before)) (c .before .before .if4 .left) _ own (c .if5 .taken) .value))
+    begun-refused f _ _ _ _ _ (c .if5 .taken)
+    (number-push f _ _ _ _ _ (entered (c .before .before .before .before .before .before .before) list) (moving (c .before .before .before .before) list q) (pushes-own f _ _ _ (rw (length-map, q) (c .before .before .before .if3 .left)) (standing (c .before .before .before .before .before .before .before)) (c .before .before .if4 .left) _ own (c .if5 .taken) .value))
 
 clear-marks-requires : tie.Need-clear-marks-requires
 clear-marks-requires c κs = search needs
@@ -73,9 +74,9 @@ same-length : tie.Need-same-length
 same-length c = search needs
 
 returns-6 : tie.Need-returns-6
-returns-6 c list q =
+returns-6 c f list q =
     let stands = standing (c .before .before .before .before .before .before .before .before .before .before .before) in
-    begun-ready _ _ _ _ (entered (c .before .before .before .before .before .before .before .before .before .before .before) list) stands
+    begun-ready f _ _ _ _ (entered (c .before .before .before .before .before .before .before .before .before .before .before) list) stands
     (record {
       short = rw (length-map, q) (c .before .before .before .before .before .before .before .if3 .left);
       enough = c .before .before .before .before .before .before .if4 .left;

@@ -19,7 +19,7 @@ same-length : tie.Need-same-length
 same-length c = search needs
 
 returns : tie.Need-returns
-returns c = refused-number _ _ _ _ _ (c .before .before .before .begin .ensures (c .before .before .before .before .before .before .before .before .before .before .before .before .before .args .list .now) refl) (c .if1 .taken)
+returns c = refused-number _ _ _ _ _ _ (c .before .before .before .begin .ensures _ (c .before .before .before .before .before .before .before .before .before .before .before .before .before .args .list .now) refl) (c .if1 .taken)
 
 list-of-requires : tie.Need-list-of-requires
 list-of-requires c κs = search needs
@@ -27,7 +27,7 @@ list-of-requires c κs = search needs
 check-list-requires : tie.Need-check-list-requires
 check-list-requires c κs =
     rw (c .before .list-of .ensures)
-    (begun-checkable _ _ _ _ _ _ _ _ _ _ _ _ _ _ (c .before .before .before .before .before .before .before .before .before .before .before .before .before .before .before .args .list .now) _ refl _ _ (c .before .before .before .before .before .begin .ensures (c .before .before .before .before .before .before .before .before .before .before .before .before .before .before .before .args .list .now) refl) _ (search needs) (c .before .before .if1 .left))
+    (begun-checkable _ _ _ _ _ _ _ _ _ _ _ _ _ _ _ (c .before .before .before .before .before .before .before .before .before .before .before .before .before .before .before .args .list .now) _ refl _ _ (c .before .before .before .before .before .begin .ensures (c .before .before .before .before .before .before .before .before .before .before .before .before .before .before .before .args .form) (c .before .before .before .before .before .before .before .before .before .before .before .before .before .before .before .args .list .now) refl) _ (search needs) (c .before .before .if1 .left))
 
 -- past the test the number so far is that of the list
 checked : (c : tie.After-check-list) → let a = c .before .before .before .before .before .before .before .before .before .before .before .before .before .before .before .before .args in c .check-list .result
@@ -36,9 +36,9 @@ checked c = rw (c .before .before .before .if1 .left) (rw (c .before .before .li
 
 settle-requires : tie.Need-settle-requires
 settle-requires c κs =
-    let b = c .before .before .before .before .before .before .before .before .before .begin .ensures (c .before .before .before .before .before .before .before .before .before .before .before .before .before .before .before .before .before .before .before .args .list .now) refl in
+    let b = c .before .before .before .before .before .before .before .before .before .begin .ensures (c .before .before .before .before .before .before .before .before .before .before .before .before .before .before .before .before .before .before .before .args .form) (c .before .before .before .before .before .before .before .before .before .before .before .before .before .before .before .before .before .before .before .args .list .now) refl in
     let d = checked (c .before .before .before) in
-    (λ z. settle-checkable _ _ _ _ _ _ _ _ _ _ _ _ _ _ (c .before .before .before .before .before .before .before .before .before .before .before .before .before .before .before .before .before .before .before .args .list .now) _ refl _ _ b _ d _ (search needs) z, λ z. settle-short _ _ _ _ _ _ _ _ _ _ _ _ _ _ (c .before .before .before .before .before .before .before .before .before .before .before .before .before .before .before .before .before .before .before .args .list .now) _ refl _ _ b _ d z)
+    (λ z. settle-checkable _ _ _ _ _ _ _ _ _ _ _ _ _ _ _ (c .before .before .before .before .before .before .before .before .before .before .before .before .before .before .before .before .before .before .before .args .list .now) _ refl _ _ b _ d _ (search needs) z, λ z. settle-short _ _ _ _ _ _ _ _ _ _ _ _ _ _ _ (c .before .before .before .before .before .before .before .before .before .before .before .before .before .before .before .before .before .before .before .args .list .now) _ refl _ _ b _ d z)
 
 same-length-2 : tie.Need-same-length-2
 same-length-2 c = search needs
@@ -46,10 +46,10 @@ same-length-2 c = search needs
 returns-2 : tie.Need-returns-2
 returns-2 c =
     let list = c .before .before .before .before .before .before .before .before .before .before .before .before .before .before .before .before .before .before .before .before .args .list .now in
-    let b = c .before .before .before .before .before .before .before .before .before .before .begin .ensures list refl in
+    let b = c .before .before .before .before .before .before .before .before .before .before .begin .ensures (c .before .before .before .before .before .before .before .before .before .before .before .before .before .before .before .before .before .before .before .before .args .form) list refl in
     let d = checked (c .before .before .before .before) in
-    push-number _ _ _ _ _ _ _ _ _ _ _ _ _ _ list _ refl _ _ b _ d _ (c .settle .ensures (map unpacked list)
-    (λ z. settle-marks _ _ _ _ _ _ _ _ _ _ _ _ _ _ list _ refl _ _ b _ d _ z (rw (c .before .before .before .before .before .before .list-of .ensures) at (c .before .before .before .before .check-list .ensures .1 z))))
+    push-number _ _ _ _ _ _ _ _ _ _ _ _ _ _ _ list _ refl _ _ b _ d _ (c .settle .ensures (map unpacked list)
+    (λ z. settle-marks _ _ _ _ _ _ _ _ _ _ _ _ _ _ _ list _ refl _ _ b _ d _ z (rw (c .before .before .before .before .before .before .list-of .ensures) at (c .before .before .before .before .check-list .ensures .1 z))))
 
 pub push-no-spec : {M : Type 1} → statement M
 push-no-spec =

@@ -44,13 +44,13 @@ record-length-requires : tie.Need-record-length-requires
 record-length-requires c κs = c .before .before .before .before .before .before .before .pre .1 (c .before .before .before .before .before .if1 .left) .0
 
 add-if4 : tie.Need-add-if4
-add-if4 c = let p = c .before .before .before .before .before .before .before .before .pre .1 (c .before .before .before .before .before .before .if1 .left) in record { fits = end-small _ _ _ _ (p .1) (p .0) (c .record-length .ensures) }
+add-if4 c = let p = c .before .before .before .before .before .before .before .before .pre .1 (c .before .before .before .before .before .before .if1 .left) in record { fits = end-small _ _ _ _ _ (p .1) (p .0) (c .record-length .ensures) }
 
 returns-4 : tie.Need-returns-4
-returns-4 c cs m = rw (← left (c .before .before .before .before .before) cs m, c .before .before .before .before .if2 .left) (full-here _ _ _ _ _ (sym (empty (c .before .before .before)) ∙ c .before .before .if3 .left) (c .before .record-length .ensures) (c .if4 .taken))
+returns-4 c cs m = rw (← left (c .before .before .before .before .before) cs m, c .before .before .before .before .if2 .left) (full-here _ _ _ _ _ _ (sym (empty (c .before .before .before)) ∙ c .before .before .if3 .left) (c .before .record-length .ensures) (c .if4 .taken))
 
 returns-5 : tie.Need-returns-5
-returns-5 c cs m = rw (← left (c .before .before .before .before .before) cs m, c .before .before .before .before .if2 .left) (full-not _ _ _ _ _ (sym (empty (c .before .before .before)) ∙ c .before .before .if3 .left) (c .before .record-length .ensures) (c .if4 .left))
+returns-5 c cs m = rw (← left (c .before .before .before .before .before) cs m, c .before .before .before .before .if2 .left) (full-not _ _ _ _ _ _ (sym (empty (c .before .before .before)) ∙ c .before .before .if3 .left) (c .before .record-length .ensures) (c .if4 .left))
 
 pub settle-spec : {M : Type 1} → statement M
 settle-spec =

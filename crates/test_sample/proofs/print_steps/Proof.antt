@@ -7,10 +7,10 @@ use Rattle.test_sample.proofs.print_steps.Statement.{statement}
 use Rattle.test_sample.proofs.print_steps.Tie as tie
 
 abbrev Inv-loop : tie.InvT-loop
-Inv-loop seed w h palette₀ lab₀ indices₀ locks₀ journal₀ m₀ i₀ palette lab indices locks journal m i = (i ≤ 60) × (length palette ≡ length palette₀) × (length lab ≡ length lab₀) × (length indices ≡ length indices₀) × (length locks ≡ length locks₀) × (length journal ≡ length journal₀)
+Inv-loop seed w h palette₀ lab₀ indices₀ locks₀ form journal₀ m₀ i₀ palette lab indices locks journal m i = (i ≤ 60) × (length palette ≡ length palette₀) × (length lab ≡ length lab₀) × (length indices ≡ length indices₀) × (length locks ≡ length locks₀) × (length journal ≡ length journal₀)
 
 abbrev μ-loop : tie.MeasureT-loop
-μ-loop seed w h palette₀ lab₀ indices₀ locks₀ journal₀ m₀ i₀ palette lab indices locks journal m i = 60 - i
+μ-loop seed w h palette₀ lab₀ indices₀ locks₀ form journal₀ m₀ i₀ palette lab indices locks journal m i = 60 - i
 
 loop-holds : tie.Need-loop-holds Inv-loop μ-loop
 loop-holds c = search needs

@@ -1,14 +1,16 @@
 -- `record_length`: by kinds. Assumes nothing.
-use Rattle.journal_record.specs.Record.{recordLength}
 use borrow.Author.Needs.{needs}
+use native.Mathlib.Omega.{arith}
+use Rattle.journal_record.specs.Record.{recordLength}
+use Rattle.journal_record.proofs.Strides.{stride-most}
 use Rattle.history_model.proofs.measure.record_length.Statement.{statement}
 use Rattle.history_model.proofs.measure.record_length.Tie as tie
 
 enum-told : tie.Need-enum-told
 enum-told c = search needs
 
-mul-result : tie.Need-mul-result
-mul-result c = search needs
+list-bytes-requires : tie.Need-list-bytes-requires
+list-bytes-requires c κs = omega (arith, stride-most (c .before .before .args .form) (c .before .before .args .n))
 
 add-result : tie.Need-add-result
 add-result c = search needs
@@ -22,8 +24,8 @@ enum-told-3 c = search needs
 enum-told-4 : tie.Need-enum-told-4
 enum-told-4 c = search needs
 
-mul-result-2 : tie.Need-mul-result-2
-mul-result-2 c = search needs
+list-bytes-requires-2 : tie.Need-list-bytes-requires-2
+list-bytes-requires-2 c κs = omega (arith, stride-most (c .before .before .args .form) (c .before .before .args .n))
 
 add-result-2 : tie.Need-add-result-2
 add-result-2 c = search needs
@@ -33,7 +35,7 @@ enum-told-5 c = search needs
 
 returns : tie.Need-returns
 unfolding recordLength
-returns c = rw (c .enum-told .given .1)
+returns c = rw (c .before .enum-told .given .1, c .list-bytes .ensures .0)
 
 returns-2 : tie.Need-returns-2
 unfolding recordLength
@@ -45,7 +47,7 @@ returns-3 c = rw (c .enum-told3 .given .1)
 
 returns-4 : tie.Need-returns-4
 unfolding recordLength
-returns-4 c = rw (c .enum-told4 .given .1)
+returns-4 c = rw (c .before .enum-told4 .given .1, c .list-bytes2 .ensures .0)
 
 returns-5 : tie.Need-returns-5
 unfolding recordLength
@@ -56,12 +58,12 @@ record-length-spec =
     tie.close
     (tie.spec
     enum-told
-    mul-result
+    list-bytes-requires
     add-result
     enum-told-2
     enum-told-3
     enum-told-4
-    mul-result-2
+    list-bytes-requires-2
     add-result-2
     enum-told-5
     returns

@@ -15,22 +15,22 @@ list-of-requires : tie.Need-list-of-requires
 list-of-requires c κs = search needs
 
 sub-put-list : tie.Need-sub-put-list
-sub-put-list c = carry-inside _ _ _ _ _ _ _ _ _ _ (c .before .before .before .before .before .before .before .args .list .now) _ refl (c .before .before .before .before .before .before .before .pre .0) (c .before .before .before .before .before .before .before .pre .1 .0)
+sub-put-list c = carry-inside _ _ _ _ _ _ _ _ _ _ _ (c .before .before .before .before .before .before .before .args .list .now) _ refl (c .before .before .before .before .before .before .before .pre .0) (c .before .before .before .before .before .before .before .pre .1 .0)
 
 part-put-list-start : tie.Need-part-put-list-start
-part-put-list-start c = carry-inside _ _ _ _ _ _ _ _ _ _ (c .before .before .before .before .before .before .before .args .list .now) _ refl (c .before .before .before .before .before .before .before .pre .0) (c .before .before .before .before .before .before .before .pre .1 .0)
+part-put-list-start c = carry-inside _ _ _ _ _ _ _ _ _ _ _ (c .before .before .before .before .before .before .before .args .list .now) _ refl (c .before .before .before .before .before .before .before .pre .0) (c .before .before .before .before .before .before .before .pre .1 .0)
 
 part-put-list-end : tie.Need-part-put-list-end
 part-put-list-end c = search needs
 
 put-list-requires : tie.Need-put-list-requires
-put-list-requires c κs = rw (c .before .before .list-of .ensures, part-length) (carry-puts _ _ _ _ _ _ _ _ _ _ (c .before .before .before .before .before .before .before .before .before .args .list .now) _ refl (c .before .before .before .before .before .before .before .before .before .pre .0) (c .before .before .before .before .before .before .before .before .before .pre .1 .0))
+put-list-requires c κs = rw (c .before .before .list-of .ensures, part-length) (carry-puts _ _ _ _ _ _ _ _ _ _ _ (c .before .before .before .before .before .before .before .before .before .args .list .now) _ refl (c .before .before .before .before .before .before .before .before .before .pre .0) (c .before .before .before .before .before .before .before .before .before .pre .1 .0))
 
 paint-list-requires : tie.Need-paint-list-requires
-paint-list-requires c κs = rw (c .before .before .before .before .before .before .list-of .ensures) (carry-paints _ _ _ _ _ _ _ _ _ _ (c .before .before .before .before .before .before .before .before .before .before .before .before .before .args .list .now) _ refl (c .before .before .before .before .before .before .before .before .before .before .before .before .before .pre .0) (c .before .before .before .before .before .before .before .before .before .before .before .before .before .pre .1 .0))
+paint-list-requires c κs = rw (c .before .before .before .before .before .before .list-of .ensures) (carry-paints _ _ _ _ _ _ _ _ _ _ _ (c .before .before .before .before .before .before .before .before .before .before .before .before .before .args .list .now) _ refl (c .before .before .before .before .before .before .before .before .before .before .before .before .before .pre .0) (c .before .before .before .before .before .before .before .before .before .before .before .before .before .pre .1 .0))
 
 finish-requires : tie.Need-finish-requires
-finish-requires c κs = (λ _ t. carry-finishes _ _ _ _ _ _ _ _ _ _ (c .before .before .before .before .before .before .before .before .before .before .before .before .before .before .before .before .before .before .before .before .args .list .now) _ refl (c .before .before .before .before .before .before .before .before .before .before .before .before .before .before .before .before .before .before .before .before .pre .0) (c .before .before .before .before .before .before .before .before .before .before .before .before .before .before .before .before .before .before .before .before .pre .1 .0) _ (search needs) t, λ _. c .before .before .before .before .before .before .before .before .before .before .before .before .before .before .before .before .before .before .before .before .pre .1 .1)
+finish-requires c κs = (λ _ t. carry-finishes _ _ _ _ _ _ _ _ _ _ _ (c .before .before .before .before .before .before .before .before .before .before .before .before .before .before .before .before .before .before .before .before .args .list .now) _ refl (c .before .before .before .before .before .before .before .before .before .before .before .before .before .before .before .before .before .before .before .before .pre .0) (c .before .before .before .before .before .before .before .before .before .before .before .before .before .before .before .before .before .before .before .before .pre .1 .0) _ (search needs) t, λ _. c .before .before .before .before .before .before .before .before .before .before .before .before .before .before .before .before .before .before .before .before .pre .1 .1)
 
 same-length : tie.Need-same-length
 same-length c = search needs
@@ -52,9 +52,9 @@ returns c limited permitted =
     let a = c .before .before .before .before .before .before .before .before .before .before .before .before .before .before .before .before .before .before .before .before .before .before .before .before .before .before .before .before .before .before .args in
     let kind = c .before .before .before .before .before .before .before .before .before .before .before .before .before .before .before .before .before .before .before .before .before .before .before .list-of .ensures in
     let changes = filledList (listOf (a .edit)) (a .w) (a .indices .now) (map unpacked (a .list .now)) in
-    let put = from-offset (within (listOf (a .edit)) changes) (a .journal .now) _ (a .handle .offset) (rw kind at (c .before .before .before .before .before .before .before .before .before .before .before .before .before .before .before .before .before .before .before .before .put-list .ensures)) in
+    let put = from-offset (within (a .form) (a .w) (listOf (a .edit)) changes) (a .journal .now) _ (a .handle .offset) (rw kind at (c .before .before .before .before .before .before .before .before .before .before .before .before .before .before .before .before .before .before .before .before .put-list .ensures)) in
     let painted = rw kind at (c .before .before .before .before .before .before .before .before .before .before .before .before .before .before .before .before .paint-list .ensures) in
-    c .before .before .before .before .before .before .before .before .before .finish .ensures (a .w) (a .h) ∙ carried _ _ _ _ _ _ _ _ _ _ (a .list .now) _ refl (curveOf (a .loaded) (a .curve .now)) limited permitted _ _ painted put (c .before .before .before .before .before .before .before .before .before .before .before .before .before .before .before .before .before .before .before .before .before .before .before .before .before .before .before .before .before .before .pre .1 .0)
+    c .before .before .before .before .before .before .before .before .before .finish .ensures (a .w) (a .h) ∙ carried _ _ _ _ _ _ _ _ _ _ _ (a .list .now) _ refl (curveOf (a .loaded) (a .curve .now)) limited permitted _ _ painted put (c .before .before .before .before .before .before .before .before .before .before .before .before .before .before .before .before .before .before .before .before .before .before .before .before .before .before .before .before .before .before .pre .1 .0)
 
 pub carry-out-spec : {M : Type 1} → statement M
 carry-out-spec =

@@ -33,7 +33,7 @@ returns-2 : tie.Need-returns-2
 returns-2 c w h = leaves-still _ _ _ _ _ _ _ _ _ _ (c .still .ensures) ∙ still-push _ _ _ _ (c .before .before .before .before .if1 .left) (sym (empty (c .before .before)) ∙ c .before .if2 .taken)
 
 -- past both tests what is asked is given
-asks : (c : tie.Else2) → let a = c .before .before .before .before .before .before .before .before .before .args in Finishes (a .k) (a .palette .now) (a .lab .now) (a .locks .now) (a .journal .now) (a .handle) (a .edit) (a .n)
+asks : (c : tie.Else2) → let a = c .before .before .before .before .before .before .before .before .before .args in Finishes (a .form) (a .k) (a .palette .now) (a .lab .now) (a .locks .now) (a .journal .now) (a .handle) (a .edit) (a .n)
 asks c = c .before .before .before .before .before .before .before .before .before .pre .0 (c .before .before .before .if1 .left) (sym (empty (c .before)) ∙ c .if2 .left)
 
 fill-edit-requires : tie.Need-fill-edit-requires
@@ -43,13 +43,13 @@ sub-write-around : tie.Need-sub-write-around
 sub-write-around c = omega (arith, asks (c .before .before .before .before) .room)
 
 part-write-around-start : tie.Need-part-write-around-start
-part-write-around-start c = offset-inside _ _ _ _ _ _ _ _ (asks (c .before .before .before .before))
+part-write-around-start c = offset-inside _ _ _ _ _ _ _ _ _ (asks (c .before .before .before .before))
 
 part-write-around-end : tie.Need-part-write-around-end
 part-write-around-end c = search needs
 
 write-around-requires : tie.Need-write-around-requires
-write-around-requires c κs = around-asks _ _ _ _ _ _ _ _ (asks (c .before .before .before .before .before)) _ (c .before .fill-edit .ensures 0 0 _ [])
+write-around-requires c κs = around-asks _ _ _ _ _ _ _ _ _ (asks (c .before .before .before .before .before)) _ (c .before .fill-edit .ensures 0 0 _ [])
 
 redo-locks-requires : tie.Need-redo-locks-requires
 redo-locks-requires c κs = asks (c .before .before .before .before .before .before .before .before .before) .marks
@@ -81,7 +81,7 @@ same-length-5 c = search needs
 returns-3 : tie.Need-returns-3
 returns-3 c w h =
     done-push _ _ _ _ _ (c .before .before .before .before .before .before .before .before .before .before .before .before .before .before .before .before .before .before .before .before .before .before .before .before .before .before .if1 .left) (sym (empty (c .before .before .before .before .before .before .before .before .before .before .before .before .before .before .before .before .before .before .before .before .before .before .before .before)) ∙ c .before .before .before .before .before .before .before .before .before .before .before .before .before .before .before .before .before .before .before .before .before .before .before .if2 .left)
-    (finished-is _ _ _ _ _ _ _ _ _ _ (c .before .before .before .before .before .before .before .finish-edit .ensures w h) (c .before .before .before .before .before .before .before .before .before .before .before .before .before .redo-locks .ensures) (c .before .before .before .before .before .before .before .before .before .before .before .before .before .before .before .before .before .before .before .fill-edit .ensures w h _ _) (c .before .before .before .before .before .before .before .before .before .before .before .before .before .before .before .before .before .write-around .ensures) (c .before .record-length .ensures) (c .after-push .ensures))
+    (finished-is _ _ _ _ _ _ _ _ _ _ _ (c .before .before .before .before .before .before .before .finish-edit .ensures w h) (c .before .before .before .before .before .before .before .before .before .before .before .before .before .redo-locks .ensures) (c .before .before .before .before .before .before .before .before .before .before .before .before .before .before .before .before .before .before .before .fill-edit .ensures w h _ _) (c .before .before .before .before .before .before .before .before .before .before .before .before .before .before .before .before .before .write-around .ensures) (c .before .record-length .ensures) (c .after-push .ensures))
 
 pub finish-spec : {M : Type 1} → statement M
 finish-spec =

@@ -41,7 +41,7 @@ same-length-6 c = search needs
 returns : tie.Need-returns
 returns c =
     let no = c .before .before .before .before .push-no .ensures in
-    (leaves-refused _ _ _ _ _ _ _ _ _ _ _ (c .refused .ensures) ∙ refused-push _ _ _ _ (c .before .if1 .taken) ∙ push-is _ _ _ _ _ (no .value), search needs)
+    (leaves-refused _ _ _ _ _ _ _ _ _ _ _ (c .refused .ensures) ∙ refused-push _ _ _ _ (c .before .if1 .taken) ∙ push-is _ _ _ _ _ _ (no .value), search needs)
 
 -- what the call is handed, and that past the test its number is 0
 abbrev state : tie.Start → State Document
@@ -53,11 +53,11 @@ curve c = let a = c .args in curveOf (a .loaded) (a .curve .now)
 abbrev given : tie.Start → Given
 given c = let a = c .args in givenOf (a .limited) (a .permitted .now) (a .edit) (a .list .now)
 
-number : (c : tie.Else1) → 0 ≡ pushNumber (curve (c .before .before .before .before .before .before .before .before .before .before .before .before .before .before .before .before .before .before)) (length (c .before .before .before .before .before .before .before .before .before .before .before .before .before .before .before .before .before .before .args .scratch .now)) (state (c .before .before .before .before .before .before .before .before .before .before .before .before .before .before .before .before .before .before)) (given (c .before .before .before .before .before .before .before .before .before .before .before .before .before .before .before .before .before .before))
+number : (c : tie.Else1) → 0 ≡ pushNumber (c .before .before .before .before .before .before .before .before .before .before .before .before .before .before .before .before .before .before .args .form) (curve (c .before .before .before .before .before .before .before .before .before .before .before .before .before .before .before .before .before .before)) (length (c .before .before .before .before .before .before .before .before .before .before .before .before .before .before .before .before .before .before .args .scratch .now)) (state (c .before .before .before .before .before .before .before .before .before .before .before .before .before .before .before .before .before .before)) (given (c .before .before .before .before .before .before .before .before .before .before .before .before .before .before .before .before .before .before))
 number c = sym (c .if1 .left) ∙ c .before .before .before .push-no .ensures .value
 
 carry-out-requires : tie.Need-carry-out-requires
-carry-out-requires c κs = let no = c .before .before .before .before .before .before .before .before .push-no .ensures in let z = c .before .before .before .before .before .if1 .left in (no .stands z, (no .fine z, number-fits _ _ _ _ _ (no .value) z))
+carry-out-requires c κs = let no = c .before .before .before .before .before .before .before .before .push-no .ensures in let z = c .before .before .before .before .before .if1 .left in (no .stands z, (no .fine z, number-fits _ _ _ _ _ _ (no .value) z))
 
 same-length-7 : tie.Need-same-length-7
 same-length-7 c = search needs
@@ -80,7 +80,7 @@ same-length-12 c = search needs
 returns-2 : tie.Need-returns-2
 returns-2 c =
     let a = c .before .before .before .before .before .before .before .before .before .before .before .before .before .before .before .before .before .before .before .before .before .before .before .before .before .before .before .before .before .before .before .before .before .args in
-    (c .before .before .before .before .before .before .before .before .before .carry-out .ensures (a .limited) (a .permitted .now) ∙ push-is (curveOf (a .loaded) (a .curve .now)) (length (a .scratch .now)) (state (c .before .before .before .before .before .before .before .before .before .before .before .before .before .before .before .before .before .before .before .before .before .before .before .before .before .before .before .before .before .before .before .before .before)) (given (c .before .before .before .before .before .before .before .before .before .before .before .before .before .before .before .before .before .before .before .before .before .before .before .before .before .before .before .before .before .before .before .before .before)) 0 (number (c .before .before .before .before .before .before .before .before .before .before .before .before .before .before .before)), search needs)
+    (c .before .before .before .before .before .before .before .before .before .carry-out .ensures (a .limited) (a .permitted .now) ∙ push-is (a .form) (curveOf (a .loaded) (a .curve .now)) (length (a .scratch .now)) (state (c .before .before .before .before .before .before .before .before .before .before .before .before .before .before .before .before .before .before .before .before .before .before .before .before .before .before .before .before .before .before .before .before .before)) (given (c .before .before .before .before .before .before .before .before .before .before .before .before .before .before .before .before .before .before .before .before .before .before .before .before .before .before .before .before .before .before .before .before .before)) 0 (number (c .before .before .before .before .before .before .before .before .before .before .before .before .before .before .before)), search needs)
 
 pub push-spec : {M : Type 1} → statement M
 push-spec =

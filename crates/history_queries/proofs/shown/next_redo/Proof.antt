@@ -18,7 +18,7 @@ handle-no-requires : tie.Need-handle-no-requires
 handle-no-requires c κs = search needs
 
 returns : tie.Need-returns
-returns c = redo-refused _ _ _ (c .before .handle-no .ensures) (c .if1 .taken)
+returns c = redo-refused _ _ _ _ (c .before .handle-no .ensures) (c .if1 .taken)
 
 -- past the first test the handle is sound
 fine : (c : tie.Else1) → let a = c .before .before .before .args in firstOf (handleChecks (length (a .journal .now)) (a .handle)) ≡ 0
@@ -28,7 +28,7 @@ sound-here : (c : tie.Else1) → let a = c .before .before .before .args in Soun
 sound-here c = handle-sound _ _ (fine c)
 
 returns-2 : tie.Need-returns-2
-returns-2 c = redo-nothing _ _ (fine (c .before .before)) (c .if2 .taken)
+returns-2 c = redo-nothing _ _ _ (fine (c .before .before)) (c .if2 .taken)
 
 find-forth-requires : tie.Need-find-forth-requires
 find-forth-requires c κs = let s = sound-here (c .before .before) in (s .ends, s .fits)
@@ -37,8 +37,8 @@ enum-known-kind : tie.Need-enum-known-kind
 enum-known-kind c = search needs
 
 -- what was found
-seen : (c : tie.After-known-told) → let a = c .before .before .before .before .before .before .before .before .before .args in let g = c .before .kind .given .0 in SeenForth (a .journal .now) (a .handle .offset) (a .handle .end) (g .0) (g .1 .0) (g .1 .1 .0) (g .1 .1 .1 .0)
-seen c = seen-forth _ _ _ _ _ _ _ (sound-here (c .before .before .before .before .before .before) .ends) (sound-here (c .before .before .before .before .before .before) .fits) (sym (c .before .before .before .find-forth .ensures) ∙ c .before .kind .given .1)
+seen : (c : tie.After-known-told) → let a = c .before .before .before .before .before .before .before .before .before .args in let g = c .before .kind .given .0 in SeenForth (a .form) (a .journal .now) (a .handle .offset) (a .handle .end) (g .0) (g .1 .0) (g .1 .1 .0) (g .1 .1 .1 .0)
+seen c = seen-forth _ _ _ _ _ _ _ _ (sound-here (c .before .before .before .before .before .before) .ends) (sound-here (c .before .before .before .before .before .before) .fits) (sym (c .before .before .before .find-forth .ensures _) ∙ c .before .kind .given .1)
 
 stepped-forth-requires : tie.Need-stepped-forth-requires
 stepped-forth-requires c κs = let s = sound-here (c .before .before .before .before .before .before) in let f = seen c in (omega (arith, f .ends, f .starts), omega (arith, s .stands, c .before .before .before .before .if2 .left))
@@ -51,7 +51,7 @@ after : (c : tie.After-sound) → let a = c .before .before .before .before .bef
 after c = rw (c .before .stepped-forth .ensures) at (c .sound .ensures)
 
 returns-3 : tie.Need-returns-3
-returns-3 c = redo-unsound _ _ (fine (c .before .before .before .before .before .before .before .before .before)) (c .before .before .before .before .before .before .before .if2 .left) (seen (c .before .before .before)) (sym (after (c .before)) ∙ not-true _ (c .if3 .taken))
+returns-3 c = redo-unsound _ _ _ (fine (c .before .before .before .before .before .before .before .before .before)) (c .before .before .before .before .before .before .before .if2 .left) (seen (c .before .before .before)) (sym (after (c .before)) ∙ not-true _ (c .if3 .taken))
 
 record-at-requires : tie.Need-record-at-requires
 record-at-requires c κs = let f = seen (c .before .before .before) .found in (f .lies, f .inside, f .room)
@@ -60,10 +60,10 @@ enum-told : tie.Need-enum-told
 enum-told c = search needs
 
 returns-4 : tie.Need-returns-4
-returns-4 c = c .record-at .ensures ∙ redo-shown _ _ (fine (c .before .before .before .before .before .before .before .before .before .before)) (c .before .before .before .before .before .before .before .before .if2 .left) (seen (c .before .before .before .before)) (sym (after (c .before .before)) ∙ not-false _ (c .before .if3 .left))
+returns-4 c = c .record-at .ensures ∙ redo-shown _ _ _ (fine (c .before .before .before .before .before .before .before .before .before .before)) (c .before .before .before .before .before .before .before .before .if2 .left) (seen (c .before .before .before .before)) (sym (after (c .before .before)) ∙ not-false _ (c .before .if3 .left))
 
 returns-5 : tie.Need-returns-5
-returns-5 c = redo-unread _ _ (fine (c .before .before .before .before .before)) (c .before .before .before .if2 .left) (unread-at _ _ (sym (c .before .before .find-forth .ensures) ∙ c .enum-told .given .1))
+returns-5 c = redo-unread _ _ _ (fine (c .before .before .before .before .before)) (c .before .before .before .if2 .left) (unread-at _ _ (sym (c .before .before .find-forth .ensures _) ∙ c .enum-told .given .1))
 
 pub next-redo-spec : {M : Type 1} → statement M
 next-redo-spec =

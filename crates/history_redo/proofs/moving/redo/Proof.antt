@@ -35,7 +35,7 @@ same-length-4 : tie.Need-same-length-4
 same-length-4 c = search needs
 
 returns : tie.Need-returns
-returns c = (leaves-refused _ _ _ _ _ _ _ _ _ _ _ (c .refused .ensures) ∙ redo-refused (session (c .before .before .before .before .before .before .before .before .before .before .before .before .before)) _ (room (c .before .before .before .before .before .before .before .before .before .before .before .before .before)) _ (c .before .before .move-no .ensures) (c .before .if1 .taken), search needs)
+returns c = (leaves-refused _ _ _ _ _ _ _ _ _ _ _ (c .refused .ensures) ∙ redo-refused _ (session (c .before .before .before .before .before .before .before .before .before .before .before .before .before)) _ (room (c .before .before .before .before .before .before .before .before .before .before .before .before .before)) _ (c .before .before .move-no .ensures) (c .before .if1 .taken), search needs)
 
 curve-no-requires : tie.Need-curve-no-requires
 curve-no-requires c κs = search needs
@@ -56,7 +56,7 @@ same-length-8 : tie.Need-same-length-8
 same-length-8 c = search needs
 
 returns-2 : tie.Need-returns-2
-returns-2 c = (leaves-refused _ _ _ _ _ _ _ _ _ _ _ (c .refused2 .ensures) ∙ redo-unfit (session (c .before .before .before .before .before .before .before .before .before .before .before .before .before .before .before)) _ _ (c .before .before .before .before .move-no .ensures) (c .before .before .before .if1 .left) (room (c .before .before .before .before .before .before .before .before .before .before .before .before .before .before .before)) _ (c .before .before .curve-no .ensures) (c .before .if2 .taken), search needs)
+returns-2 c = (leaves-refused _ _ _ _ _ _ _ _ _ _ _ (c .refused2 .ensures) ∙ redo-unfit _ (session (c .before .before .before .before .before .before .before .before .before .before .before .before .before .before .before)) _ _ (c .before .before .before .before .move-no .ensures) (c .before .before .before .if1 .left) (room (c .before .before .before .before .before .before .before .before .before .before .before .before .before .before .before)) _ (c .before .before .curve-no .ensures) (c .before .if2 .taken), search needs)
 
 still-requires : tie.Need-still-requires
 still-requires c κs = search needs
@@ -74,7 +74,7 @@ same-length-12 : tie.Need-same-length-12
 same-length-12 c = search needs
 
 returns-3 : tie.Need-returns-3
-returns-3 c = (leaves-still _ _ _ _ _ _ _ _ _ _ (c .still .ensures) ∙ redo-still (session (c .before .before .before .before .before .before .before .before .before .before .before .before .before .before .before .before .before)) _ _ (c .before .before .before .before .before .before .move-no .ensures) (c .before .before .before .before .before .if1 .left) _ (c .before .before .before .before .curve-no .ensures) (c .before .before .before .if2 .left) (room (c .before .before .before .before .before .before .before .before .before .before .before .before .before .before .before .before .before)) (c .before .if3 .taken), search needs)
+returns-3 c = (leaves-still _ _ _ _ _ _ _ _ _ _ (c .still .ensures) ∙ redo-still _ (session (c .before .before .before .before .before .before .before .before .before .before .before .before .before .before .before .before .before)) _ _ (c .before .before .before .before .before .before .move-no .ensures) (c .before .before .before .before .before .if1 .left) _ (c .before .before .before .before .curve-no .ensures) (c .before .before .before .if2 .left) (room (c .before .before .before .before .before .before .before .before .before .before .before .before .before .before .before .before .before)) (c .before .if3 .taken), search needs)
 
 refused-requires-3 : tie.Need-refused-requires-3
 refused-requires-3 c κs = search needs
@@ -92,7 +92,7 @@ same-length-16 : tie.Need-same-length-16
 same-length-16 c = search needs
 
 returns-4 : tie.Need-returns-4
-returns-4 c = (leaves-refused _ _ _ _ _ _ _ _ _ _ _ (c .refused3 .ensures) ∙ redo-scratch (session (c .before .before .before .before .before .before .before .before .before .before .before .before .before .before .before .before .before .before)) _ _ (c .before .before .before .before .before .before .before .move-no .ensures) (c .before .before .before .before .before .before .if1 .left) _ (c .before .before .before .before .before .curve-no .ensures) (c .before .before .before .before .if2 .left) _ (c .before .before .if3 .left) (c .before .if4 .taken), search needs)
+returns-4 c = (leaves-refused _ _ _ _ _ _ _ _ _ _ _ (c .refused3 .ensures) ∙ redo-scratch _ (session (c .before .before .before .before .before .before .before .before .before .before .before .before .before .before .before .before .before .before)) _ _ (c .before .before .before .before .before .before .before .move-no .ensures) (c .before .before .before .before .before .before .if1 .left) _ (c .before .before .before .before .before .curve-no .ensures) (c .before .before .before .before .if2 .left) _ (c .before .before .if3 .left) (c .before .if4 .taken), search needs)
 
 find-forth-requires : tie.Need-find-forth-requires
 find-forth-requires c κs = used-inside _ (c .before .before .before .before .before .before .move-no .ensures .fine (c .before .before .before .before .before .if1 .left))
@@ -100,7 +100,7 @@ find-forth-requires c κs = used-inside _ (c .before .before .before .before .be
 redo-found-requires : tie.Need-redo-found-requires
 redo-found-requires c κs =
     let stands = c .before .before .before .before .before .before .before .before .before .before .before .before .move-no .ensures .fine (c .before .before .before .before .before .before .before .before .before .before .before .if1 .left) in
-    (stands, ((not-last _ stands (c .before .before .before .before .before .before .before .if3 .left), c .before .before .before .before .before .before .if4 .left, sym (c .before .before .before .before .before .before .before .before .before .before .curve-no .ensures) ∙ c .before .before .before .before .before .before .before .before .before .if2 .left), c .before .before .before .before .before .find-forth .ensures))
+    (stands, ((not-last _ stands (c .before .before .before .before .before .before .before .if3 .left), c .before .before .before .before .before .before .if4 .left, sym (c .before .before .before .before .before .before .before .before .before .before .curve-no .ensures) ∙ c .before .before .before .before .before .before .before .before .before .if2 .left), c .before .before .before .before .before .find-forth .ensures _))
 
 same-length-17 : tie.Need-same-length-17
 same-length-17 c = search needs
@@ -118,7 +118,7 @@ same-length-21 : tie.Need-same-length-21
 same-length-21 c = search needs
 
 returns-5 : tie.Need-returns-5
-returns-5 c = (c .before .before .before .before .before .before .before .before .before .redo-found .ensures ∙ redo-over (session (c .before .before .before .before .before .before .before .before .before .before .before .before .before .before .before .before .before .before .before .before .before .before .before .before .before .before .before .before .before .before .before .before .before)) _ _ (c .before .before .before .before .before .before .before .before .before .before .before .before .before .before .before .before .before .before .before .before .before .before .move-no .ensures) (c .before .before .before .before .before .before .before .before .before .before .before .before .before .before .before .before .before .before .before .before .before .if1 .left) _ (c .before .before .before .before .before .before .before .before .before .before .before .before .before .before .before .before .before .before .before .before .curve-no .ensures) (c .before .before .before .before .before .before .before .before .before .before .before .before .before .before .before .before .before .before .before .if2 .left) _ (c .before .before .before .before .before .before .before .before .before .before .before .before .before .before .before .before .before .if3 .left) (c .before .before .before .before .before .before .before .before .before .before .before .before .before .before .before .before .if4 .left), search needs)
+returns-5 c = (c .before .before .before .before .before .before .before .before .before .redo-found .ensures ∙ redo-over _ (session (c .before .before .before .before .before .before .before .before .before .before .before .before .before .before .before .before .before .before .before .before .before .before .before .before .before .before .before .before .before .before .before .before .before)) _ _ (c .before .before .before .before .before .before .before .before .before .before .before .before .before .before .before .before .before .before .before .before .before .before .move-no .ensures) (c .before .before .before .before .before .before .before .before .before .before .before .before .before .before .before .before .before .before .before .before .before .if1 .left) _ (c .before .before .before .before .before .before .before .before .before .before .before .before .before .before .before .before .before .before .before .before .curve-no .ensures) (c .before .before .before .before .before .before .before .before .before .before .before .before .before .before .before .before .before .before .before .if2 .left) _ (c .before .before .before .before .before .before .before .before .before .before .before .before .before .before .before .before .before .if3 .left) (c .before .before .before .before .before .before .before .before .before .before .before .before .before .before .before .before .if4 .left), search needs)
 
 pub redo-spec : {M : Type 1} → statement M
 redo-spec =

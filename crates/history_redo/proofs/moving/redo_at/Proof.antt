@@ -17,7 +17,7 @@ abbrev curve : tie.Start → Rgb → Lab
 curve c = labBy (curveOf (c .args .loaded) (c .args .curve .now))
 
 stepped-forth-requires : tie.Need-stepped-forth-requires
-stepped-forth-requires c κs = (forth-inside (curve (c .before .before .before .before .before .before)) (c .before .before .before .before .before .before .pre .0) _ _ _ _ (c .before .before .before .before .before .before .pre .1 .1), c .before .before .before .before .before .before .pre .1 .0 .0)
+stepped-forth-requires c κs = (forth-inside _ (curve (c .before .before .before .before .before .before)) (c .before .before .before .before .before .before .pre .0) _ _ _ _ (c .before .before .before .before .before .before .pre .1 .1), c .before .before .before .before .before .before .pre .1 .0 .0)
 
 sound-requires : tie.Need-sound-requires
 sound-requires c κs = search needs
@@ -28,14 +28,14 @@ refused-requires c κs = search needs
 returns : tie.Need-returns
 returns c =
     leaves-refused _ _ _ _ _ _ _ _ _ _ _ (c .refused .ensures)
-    ∙ step-unsound (forth _ (c .before .before .before .before .before .before .before .before .before .before .pre .0)) (c .before .before .before .before .before .before .before .before .before .before .pre .1 .1) _ (c .before .before .before .stepped-forth .ensures) (sym (c .before .before .sound .ensures) ∙ not-true _ (c .before .if1 .taken))
+    ∙ step-unsound (forth _ _ (c .before .before .before .before .before .before .before .before .before .before .pre .0)) (c .before .before .before .before .before .before .before .before .before .before .pre .1 .1) _ (c .before .before .before .stepped-forth .ensures) (sym (c .before .before .sound .ensures) ∙ not-true _ (c .before .if1 .taken))
 
 can-redo-requires : tie.Need-can-redo-requires
 can-redo-requires c κs =
     let start = c .before .before .before .before .before .before .before .before .before .before .before .before .before in
     let p = start .pre in
     let l = p .0 .fits .limits in
-    (step-lies (forth (curve start) (p .0)) (p .1 .1), ((l .k-small, l .palette-length, p .0 .marks), (l .indices-length, rw (l .indices-length) at (p .1 .0 .1))))
+    (step-lies (forth _ (curve start) (p .0)) (p .1 .1), ((l .k-small, l .palette-length, p .0 .marks), (l .indices-length, rw (l .indices-length) at (p .1 .0 .1))))
 
 refused-requires-2 : tie.Need-refused-requires-2
 refused-requires-2 c κs = search needs
@@ -55,11 +55,11 @@ same-length-4 c = search needs
 returns-2 : tie.Need-returns-2
 returns-2 c =
     leaves-refused _ _ _ _ _ _ _ _ _ _ _ (c .refused2 .ensures)
-    ∙ step-not (forth _ (c .before .before .before .before .before .before .before .before .before .before .before .before .before .before .before .before .before .before .pre .0)) (c .before .before .before .before .before .before .before .before .before .before .before .before .before .before .before .before .before .before .pre .1 .1) (sym (c .before .before .before .before .can-redo .ensures _) ∙ not-true _ (c .before .if2 .taken))
+    ∙ step-not (forth _ _ (c .before .before .before .before .before .before .before .before .before .before .before .before .before .before .before .before .before .before .pre .0)) (c .before .before .before .before .before .before .before .before .before .before .before .before .before .before .before .before .before .before .pre .1 .1) (sym (c .before .before .before .before .can-redo .ensures _) ∙ not-true _ (c .before .if2 .taken))
 
 redo-record-requires : tie.Need-redo-record-requires
 redo-record-requires c κs =
-    (step-lies (forth (curve (c .before .before .before .before .before .before .before .before .before .before .before .before .before .before .before .before .before .before .before .before .before)) (c .before .before .before .before .before .before .before .before .before .before .before .before .before .before .before .before .before .before .before .before .before .pre .0)) (c .before .before .before .before .before .before .before .before .before .before .before .before .before .before .before .before .before .before .before .before .before .pre .1 .1), (may-redo _ (c .before .before .before .before .before .before .before .before .before .before .before .before .before .before .before .before .before .before .before .before .before .args .h) _ _ _ _ _ _ _ (c .before .before .before .before .before .before .before .before .before .before .before .before .before .before .before .before .before .before .before .before .before .pre .0 .fits) (sym (c .before .before .before .before .before .before .before .can-redo .ensures _) ∙ not-false _ (c .before .before .before .before .if2 .left)), (c .before .before .before .before .before .before .before .before .before .before .before .before .before .before .before .before .before .before .before .before .before .pre .0 .marks, c .before .before .before .before .before .before .before .before .before .before .before .before .before .before .before .before .before .before .before .before .before .pre .1 .0 .2)))
+    (step-lies (forth _ (curve (c .before .before .before .before .before .before .before .before .before .before .before .before .before .before .before .before .before .before .before .before .before)) (c .before .before .before .before .before .before .before .before .before .before .before .before .before .before .before .before .before .before .before .before .before .pre .0)) (c .before .before .before .before .before .before .before .before .before .before .before .before .before .before .before .before .before .before .before .before .before .pre .1 .1), (may-redo _ (c .before .before .before .before .before .before .before .before .before .before .before .before .before .before .before .before .before .before .before .before .before .args .h) _ _ _ _ _ _ _ (c .before .before .before .before .before .before .before .before .before .before .before .before .before .before .before .before .before .before .before .before .before .pre .0 .fits) (sym (c .before .before .before .before .before .before .before .can-redo .ensures _) ∙ not-false _ (c .before .before .before .before .if2 .left)), (c .before .before .before .before .before .before .before .before .before .before .before .before .before .before .before .before .before .before .before .before .before .pre .0 .marks, c .before .before .before .before .before .before .before .before .before .before .before .before .before .before .before .before .before .before .before .before .before .pre .1 .0 .2)))
 
 same-length-5 : tie.Need-same-length-5
 same-length-5 c = search needs
@@ -78,8 +78,8 @@ same-length-9 c = search needs
 
 returns-3 : tie.Need-returns-3
 returns-3 c =
-    step-done (forth _ (c .before .before .before .before .before .before .before .before .before .before .before .before .before .before .before .before .before .before .before .before .before .before .before .before .before .before .before .before .before .pre .0)) (c .before .before .before .before .before .before .before .before .before .before .before .before .before .before .before .before .before .before .before .before .before .before .before .before .before .before .before .before .before .pre .1 .1) _ (c .before .before .before .before .before .before .before .before .before .before .before .before .before .before .before .before .before .before .before .before .before .before .stepped-forth .ensures) (sym (c .before .before .before .before .before .before .before .before .before .before .before .before .before .before .before .before .before .before .before .before .before .sound .ensures) ∙ not-false _ (c .before .before .before .before .before .before .before .before .before .before .before .before .before .before .before .before .before .before .before .before .if1 .left))
-    (sym (c .before .before .before .before .before .before .before .before .before .before .before .before .before .before .before .can-redo .ensures _) ∙ not-false _ (c .before .before .before .before .before .before .before .before .before .before .before .before .if2 .left)) (forth-makes _ (c .before .before .before .before .before .before .before .before .before .before .before .before .before .before .before .before .before .before .before .before .before .before .before .before .before .before .before .before .before .pre .0) _ _ (c .before .before .before .before .before .before .before .redo-record .ensures .0 _) (c .before .before .before .before .before .before .before .redo-record .ensures .1))
+    step-done (forth _ _ (c .before .before .before .before .before .before .before .before .before .before .before .before .before .before .before .before .before .before .before .before .before .before .before .before .before .before .before .before .before .pre .0)) (c .before .before .before .before .before .before .before .before .before .before .before .before .before .before .before .before .before .before .before .before .before .before .before .before .before .before .before .before .before .pre .1 .1) _ (c .before .before .before .before .before .before .before .before .before .before .before .before .before .before .before .before .before .before .before .before .before .before .stepped-forth .ensures) (sym (c .before .before .before .before .before .before .before .before .before .before .before .before .before .before .before .before .before .before .before .before .before .sound .ensures) ∙ not-false _ (c .before .before .before .before .before .before .before .before .before .before .before .before .before .before .before .before .before .before .before .before .if1 .left))
+    (sym (c .before .before .before .before .before .before .before .before .before .before .before .before .before .before .before .can-redo .ensures _) ∙ not-false _ (c .before .before .before .before .before .before .before .before .before .before .before .before .if2 .left)) (forth-makes (c .before .before .before .before .before .before .before .before .before .before .before .before .before .before .before .before .before .before .before .before .before .before .before .before .before .before .before .before .before .args .form) _ (c .before .before .before .before .before .before .before .before .before .before .before .before .before .before .before .before .before .before .before .before .before .before .before .before .before .before .before .before .before .pre .0) _ _ (c .before .before .before .before .before .before .before .redo-record .ensures .0 _) (c .before .before .before .before .before .before .before .redo-record .ensures .1))
 
 pub redo-at-spec : {M : Type 1} → statement M
 redo-at-spec =

@@ -38,7 +38,7 @@ returns : tie.Need-returns
 returns c = c .before .before .before .before .before .before .before .before .before .redo-at .ensures
 
 returns-2 : tie.Need-returns-2
-returns-2 c = leaves-refused _ _ _ _ _ _ _ _ _ _ _ (c .refused .ensures) ∙ step-none (forth _ (c .before .before .before .before .before .before .before .before .before .pre .0)) (sym (c .before .before .before .before .before .before .before .before .before .pre .1 .1) ∙ c .before .enum-told .given .1)
+returns-2 c = leaves-refused _ _ _ _ _ _ _ _ _ _ _ (c .refused .ensures) ∙ step-none (forth _ _ (c .before .before .before .before .before .before .before .before .before .pre .0)) (sym (c .before .before .before .before .before .before .before .before .before .pre .1 .1) ∙ c .before .enum-told .given .1)
 
 pub redo-found-spec : {M : Type 1} → statement M
 redo-found-spec =

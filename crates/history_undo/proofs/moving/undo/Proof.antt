@@ -25,7 +25,7 @@ same-length-4 : tie.Need-same-length-4
 same-length-4 c = search needs
 
 returns : tie.Need-returns
-returns c = leaves-refused _ _ _ _ _ _ _ _ _ _ _ (c .refused .ensures) ∙ undo-refused _ _ (c .before .before .move-no .ensures) (c .before .if1 .taken)
+returns c = leaves-refused _ _ _ _ _ _ _ _ _ _ _ (c .refused .ensures) ∙ undo-refused _ _ _ (c .before .before .move-no .ensures) (c .before .if1 .taken)
 
 still-requires : tie.Need-still-requires
 still-requires c κs = search needs
@@ -43,13 +43,13 @@ same-length-8 : tie.Need-same-length-8
 same-length-8 c = search needs
 
 returns-2 : tie.Need-returns-2
-returns-2 c = leaves-still _ _ _ _ _ _ _ _ _ _ (c .still .ensures) ∙ undo-still _ _ (c .before .before .before .before .move-no .ensures) (c .before .before .before .if1 .left) (c .before .if2 .taken)
+returns-2 c = leaves-still _ _ _ _ _ _ _ _ _ _ (c .still .ensures) ∙ undo-still _ _ _ (c .before .before .before .before .move-no .ensures) (c .before .before .before .if1 .left) (c .before .if2 .taken)
 
 find-back-requires : tie.Need-find-back-requires
 find-back-requires c κs = offset-inside _ (c .before .before .before .move-no .ensures .fine (c .before .before .if1 .left))
 
 undo-found-requires : tie.Need-undo-found-requires
-undo-found-requires c κs = (c .before .before .before .before .before .before .before .before .move-no .ensures .fine (c .before .before .before .before .before .before .before .if1 .left), (not-first _ (c .before .before .before .before .before .before .before .before .move-no .ensures .fine (c .before .before .before .before .before .before .before .if1 .left)) (c .before .before .before .before .before .if2 .left), c .before .before .before .before .find-back .ensures))
+undo-found-requires c κs = (c .before .before .before .before .before .before .before .before .move-no .ensures .fine (c .before .before .before .before .before .before .before .if1 .left), (not-first _ (c .before .before .before .before .before .before .before .before .move-no .ensures .fine (c .before .before .before .before .before .before .before .if1 .left)) (c .before .before .before .before .before .if2 .left), c .before .before .before .before .find-back .ensures _))
 
 same-length-9 : tie.Need-same-length-9
 same-length-9 c = search needs
@@ -64,7 +64,7 @@ same-length-12 : tie.Need-same-length-12
 same-length-12 c = search needs
 
 returns-3 : tie.Need-returns-3
-returns-3 c = c .before .before .before .before .before .before .before .undo-found .ensures ∙ undo-over _ _ (c .before .before .before .before .before .before .before .before .before .before .before .before .before .before .before .before .move-no .ensures) (c .before .before .before .before .before .before .before .before .before .before .before .before .before .before .before .if1 .left) (c .before .before .before .before .before .before .before .before .before .before .before .before .before .if2 .left)
+returns-3 c = c .before .before .before .before .before .before .before .undo-found .ensures ∙ undo-over _ _ _ (c .before .before .before .before .before .before .before .before .before .before .before .before .before .before .before .before .move-no .ensures) (c .before .before .before .before .before .before .before .before .before .before .before .before .before .before .before .if1 .left) (c .before .before .before .before .before .before .before .before .before .before .before .before .before .if2 .left)
 
 pub undo-spec : {M : Type 1} → statement M
 undo-spec =

@@ -9,7 +9,7 @@ use Rattle.history_undo.proofs.moving.undo_at.Statement.{statement}
 use Rattle.history_undo.proofs.moving.undo_at.Tie as tie
 
 stepped-back-requires : tie.Need-stepped-back-requires
-stepped-back-requires c κs = (back-inside (c .before .before .before .before .pre .0) _ _ _ _ (c .before .before .before .before .pre .1 .1), c .before .before .before .before .pre .1 .0)
+stepped-back-requires c κs = (back-inside _ (c .before .before .before .before .pre .0) _ _ _ _ (c .before .before .before .before .pre .1 .1), c .before .before .before .before .pre .1 .0)
 
 sound-requires : tie.Need-sound-requires
 sound-requires c κs = search needs
@@ -18,10 +18,10 @@ refused-requires : tie.Need-refused-requires
 refused-requires c κs = search needs
 
 returns : tie.Need-returns
-returns c = leaves-refused _ _ _ _ _ _ _ _ _ _ _ (c .refused .ensures) ∙ step-unsound (back (c .before .before .before .before .before .before .before .before .pre .0)) (c .before .before .before .before .before .before .before .before .pre .1 .1) _ (c .before .before .before .stepped-back .ensures) (sym (c .before .before .sound .ensures) ∙ not-true _ (c .before .if1 .taken))
+returns c = leaves-refused _ _ _ _ _ _ _ _ _ _ _ (c .refused .ensures) ∙ step-unsound (back _ (c .before .before .before .before .before .before .before .before .pre .0)) (c .before .before .before .before .before .before .before .before .pre .1 .1) _ (c .before .before .before .stepped-back .ensures) (sym (c .before .before .sound .ensures) ∙ not-true _ (c .before .if1 .taken))
 
 can-undo-requires : tie.Need-can-undo-requires
-can-undo-requires c κs = (step-lies (back (c .before .before .before .before .before .before .before .before .before .before .before .pre .0)) (c .before .before .before .before .before .before .before .before .before .before .before .pre .1 .1), (c .before .before .before .before .before .before .before .before .before .before .before .pre .0 .fits, c .before .before .before .before .before .before .before .before .before .before .before .pre .0 .marks))
+can-undo-requires c κs = (step-lies (back _ (c .before .before .before .before .before .before .before .before .before .before .before .pre .0)) (c .before .before .before .before .before .before .before .before .before .before .before .pre .1 .1), (c .before .before .before .before .before .before .before .before .before .before .before .pre .0 .fits, c .before .before .before .before .before .before .before .before .before .before .before .pre .0 .marks))
 
 refused-requires-2 : tie.Need-refused-requires-2
 refused-requires-2 c κs = search needs
@@ -39,12 +39,12 @@ same-length-4 : tie.Need-same-length-4
 same-length-4 c = search needs
 
 returns-2 : tie.Need-returns-2
-returns-2 c = leaves-refused _ _ _ _ _ _ _ _ _ _ _ (c .refused2 .ensures) ∙ back-not (c .before .before .before .before .before .before .before .before .before .before .before .before .before .before .before .pre .0) _ (c .before .before .before .can-undo .ensures .0) _ _ _ _ (c .before .before .before .before .before .before .before .before .before .before .before .before .before .before .before .pre .1 .1) (sym (c .before .before .before .can-undo .ensures .1) ∙ not-true _ (c .before .if2 .taken))
+returns-2 c = leaves-refused _ _ _ _ _ _ _ _ _ _ _ (c .refused2 .ensures) ∙ back-not _ (c .before .before .before .before .before .before .before .before .before .before .before .before .before .before .before .pre .0) _ (c .before .before .before .can-undo .ensures .0) _ _ _ _ (c .before .before .before .before .before .before .before .before .before .before .before .before .before .before .before .pre .1 .1) (sym (c .before .before .before .can-undo .ensures .1) ∙ not-true _ (c .before .if2 .taken))
 
 undo-record-requires : tie.Need-undo-record-requires
 undo-record-requires c κs = (
-  step-lies (back (c .before .before .before .before .before .before .before .before .before .before .before .before .before .before .before .before .before .before .pre .0)) (c .before .before .before .before .before .before .before .before .before .before .before .before .before .before .before .before .before .before .pre .1 .1),
-  ((kept-fits (c .before .before .before .before .before .before .before .before .before .before .before .before .before .before .before .before .before .before .pre .0) _ (c .before .before .before .before .before .before .can-undo .ensures .0), c .before .before .before .before .before .before .before .before .before .before .before .before .before .before .before .before .before .before .pre .0 .marks), kept-undoable (c .before .before .before .before .before .before .before .before .before .before .before .before .before .before .before .before .before .before .pre .0) _ (c .before .before .before .before .before .before .can-undo .ensures .0) _ _ _ (sym (c .before .before .before .before .before .before .can-undo .ensures .1) ∙ not-false _ (c .before .before .before .before .if2 .left))),
+  step-lies (back _ (c .before .before .before .before .before .before .before .before .before .before .before .before .before .before .before .before .before .before .pre .0)) (c .before .before .before .before .before .before .before .before .before .before .before .before .before .before .before .before .before .before .pre .1 .1),
+  ((kept-fits (c .before .before .before .before .before .before .before .before .before .before .before .before .before .before .before .before .before .before .args .form) (c .before .before .before .before .before .before .before .before .before .before .before .before .before .before .before .before .before .before .pre .0) _ (c .before .before .before .before .before .before .can-undo .ensures .0), c .before .before .before .before .before .before .before .before .before .before .before .before .before .before .before .before .before .before .pre .0 .marks), kept-undoable _ (c .before .before .before .before .before .before .before .before .before .before .before .before .before .before .before .before .before .before .pre .0) _ (c .before .before .before .before .before .before .can-undo .ensures .0) _ _ _ (sym (c .before .before .before .before .before .before .can-undo .ensures .1) ∙ not-false _ (c .before .before .before .before .if2 .left))),
 )
 
 same-length-5 : tie.Need-same-length-5
@@ -60,7 +60,7 @@ same-length-8 : tie.Need-same-length-8
 same-length-8 c = search needs
 
 returns-3 : tie.Need-returns-3
-returns-3 c = back-done (c .before .before .before .before .before .before .before .before .before .before .before .before .before .before .before .before .before .before .before .before .before .before .before .before .before .before .pre .0) _ (c .before .before .before .before .before .before .before .before .before .before .before .before .before .before .can-undo .ensures .0) _ _ _ _ (c .before .before .before .before .before .before .before .before .before .before .before .before .before .before .before .before .before .before .before .before .before .before .before .before .before .before .pre .1 .1) _ (c .before .before .before .before .before .before .before .before .before .before .before .before .before .before .before .before .before .before .before .before .before .stepped-back .ensures) (sym (c .before .before .before .before .before .before .before .before .before .before .before .before .before .before .before .before .before .before .before .before .sound .ensures) ∙ not-false _ (c .before .before .before .before .before .before .before .before .before .before .before .before .before .before .before .before .before .before .before .if1 .left)) (sym (c .before .before .before .before .before .before .before .before .before .before .before .before .before .before .can-undo .ensures .1) ∙ not-false _ (c .before .before .before .before .before .before .before .before .before .before .before .before .if2 .left)) (c .before .before .before .before .before .before .before .undo-record .ensures .0) (c .before .before .before .before .before .before .before .undo-record .ensures .1)
+returns-3 c = back-done _ (c .before .before .before .before .before .before .before .before .before .before .before .before .before .before .before .before .before .before .before .before .before .before .before .before .before .before .pre .0) _ (c .before .before .before .before .before .before .before .before .before .before .before .before .before .before .can-undo .ensures .0) _ _ _ _ (c .before .before .before .before .before .before .before .before .before .before .before .before .before .before .before .before .before .before .before .before .before .before .before .before .before .before .pre .1 .1) _ (c .before .before .before .before .before .before .before .before .before .before .before .before .before .before .before .before .before .before .before .before .before .stepped-back .ensures) (sym (c .before .before .before .before .before .before .before .before .before .before .before .before .before .before .before .before .before .before .before .before .sound .ensures) ∙ not-false _ (c .before .before .before .before .before .before .before .before .before .before .before .before .before .before .before .before .before .before .before .if1 .left)) (sym (c .before .before .before .before .before .before .before .before .before .before .before .before .before .before .can-undo .ensures .1) ∙ not-false _ (c .before .before .before .before .before .before .before .before .before .before .before .before .if2 .left)) (c .before .before .before .before .before .before .before .undo-record .ensures .0) (c .before .before .before .before .before .before .before .undo-record .ensures .1)
 
 pub undo-at-spec : {M : Type 1} → statement M
 undo-at-spec =

@@ -1,8 +1,16 @@
 -- `around_remove`: kind and index, colour, LAB, count and length. Assumes nothing.
+use native.Mathlib.Omega.{arith}
+use Rattle.journal_record.proofs.Strides.{stride-least}
 use Rattle.journal_frame.proofs.Framing.{remove-around}
 use borrow.Author.Needs.{needs}
 use Rattle.journal_frame.proofs.around.around_remove.Statement.{statement}
 use Rattle.journal_frame.proofs.around.around_remove.Tie as tie
+
+list-bytes-requires : tie.Need-list-bytes-requires
+list-bytes-requires c κs = search needs
+
+remove-kind-requires : tie.Need-remove-kind-requires
+remove-kind-requires c κs = search needs
 
 cast-put-kind : tie.Need-cast-put-kind
 cast-put-kind c = search needs
@@ -17,19 +25,13 @@ put-lab-requires : tie.Need-put-lab-requires
 put-lab-requires c κs = search needs
 
 cast-put-u32 : tie.Need-cast-put-u32
-cast-put-u32 c = search needs
+cast-put-u32 c = let start = c .before .before .before .before .before .before .before .before .before .before .before .before .before .before .before .before in omega (arith, start .pre .0, start .pre .1 .0, stride-least (start .args .form) (start .args .n))
 
 put-u32-requires : tie.Need-put-u32-requires
 put-u32-requires c κs = search needs
 
-mul-put-u32 : tie.Need-mul-put-u32
-mul-put-u32 c = search needs
-
 add-put-u32 : tie.Need-add-put-u32
 add-put-u32 c = search needs
-
-mul-put-u32-2 : tie.Need-mul-put-u32-2
-mul-put-u32-2 c = search needs
 
 add-put-u32-2 : tie.Need-add-put-u32-2
 add-put-u32-2 c = search needs
@@ -50,21 +52,23 @@ returns c =
     let lab = count .before .before .before .before in
     let colour = lab .before .before .before .before in
     let kind = colour .before .before .before .before in
-    remove-around _ _ _ _ _ _ _ _ _ _ (kind .put-kind .ensures) (colour .put-rgb .ensures) (lab .put-lab .ensures) (count .put-u32 .ensures) (whole .put-u322 .ensures)
+    let number = rw (kind .before .remove-kind .ensures) at (kind .put-kind .ensures) in
+    let bytes = kind .before .before .before .list-bytes .ensures .0 in
+    remove-around _ _ _ _ _ _ _ _ _ _ _ number (colour .put-rgb .ensures) (lab .put-lab .ensures) (count .put-u32 .ensures) (rw bytes at (whole .put-u322 .ensures))
 
 pub around-remove-spec : {M : Type 1} → statement M
 around-remove-spec =
     tie.close
     (tie.spec
+    list-bytes-requires
+    remove-kind-requires
     cast-put-kind
     put-kind-requires
     put-rgb-requires
     put-lab-requires
     cast-put-u32
     put-u32-requires
-    mul-put-u32
     add-put-u32
-    mul-put-u32-2
     add-put-u32-2
     cast-put-u32-2
     put-u32-requires-2

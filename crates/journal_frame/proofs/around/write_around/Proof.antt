@@ -51,14 +51,14 @@ same-length-2 c = search needs
 
 returns-2 : tie.Need-returns-2
 unfolding around
-returns-2 c = rw (c .before .before .before .before .before .edit2 .given .1) (c .before .before .write-set .ensures)
+returns-2 c = rw (c .before .before .before .before .before .edit2 .given .1) (c .before .before .write-set .ensures _ 0)
 
 same-length-3 : tie.Need-same-length-3
 same-length-3 c = search needs
 
 returns-3 : tie.Need-returns-3
 unfolding around
-returns-3 c = rw (c .before .before .before .before .before .edit3 .given .1) (c .before .before .write-add .ensures)
+returns-3 c = rw (c .before .before .before .before .before .edit3 .given .1) (c .before .before .write-add .ensures _ 0)
 
 same-length-4 : tie.Need-same-length-4
 same-length-4 c = search needs
@@ -71,7 +71,7 @@ same-length-5 c = search needs
 
 returns-5 : tie.Need-returns-5
 unfolding around
-returns-5 c = rw (c .before .before .before .before .before .edit5 .given .1) (c .before .before .write-lock .ensures)
+returns-5 c = rw (c .before .before .before .before .before .edit5 .given .1) (c .before .before .write-lock .ensures _ 0)
 
 pub write-around-spec : {M : Type 1} → statement M
 write-around-spec =

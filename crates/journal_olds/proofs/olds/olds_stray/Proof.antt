@@ -12,7 +12,7 @@ any-stray-old-in-requires : tie.Need-any-stray-old-in-requires
 any-stray-old-in-requires c κs = search needs
 
 returns : tie.Need-returns
-returns c = (refl, sym (painted-nowhere oldOf _ (stray _) _ _ (c .before .before .before .pre .1 .1) (sym (c .before .any-stray-old-in .ensures) ∙ not-true (c .before .any-stray-old-in .result) (c .if1 .taken))))
+returns c = (refl, sym (painted-nowhere oldOf _ (stray _) _ _ (c .before .before .before .pre .1 .1) (sym (c .before .any-stray-old-in .ensures _) ∙ not-true (c .before .any-stray-old-in .result) (c .if1 .taken))))
 
 claim-places-requires : tie.Need-claim-places-requires
 claim-places-requires c κs = c .before .before .before .before .pre

@@ -1,27 +1,37 @@
 -- `any_outside_in`: the flag and what is left say what the whole list says. Assumes nothing.
-use borrow.Author.Needs.{needs}
 use mathlib.Core.Path.{refl}
 use Prim.Native.Nat.{_-_}
-use Rattle.base.proofs.Scan.{Flagged}
-use Rattle.edit.specs.Change.{unpacked, outside}
-use Rattle.journal_read.proofs.Numbers.{numbersIn, flag-next-in, flag-all-in}
+use native.Mathlib.Omega.{arith}
+use Rattle.base.proofs.Scan.{Flagged, flag-end}
+use Rattle.edit.specs.Change.{outside}
+use Rattle.edit_pixels.proofs.Nth.{Nth, nth-flag}
+use Rattle.journal_record.specs.Record.{changesIn}
+use Rattle.journal_record.proofs.Strides.{change-fits}
+use Rattle.journal_read.specs.Number.{changeOf}
+use Rattle.journal_read.proofs.Read.{nth-read, all-read}
+use borrow.Author.Needs.{needs}
 use Rattle.journal_read.proofs.list.any_outside_in.Statement.{statement}
 use Rattle.journal_read.proofs.list.any_outside_in.Tie as tie
 
 abbrev Inv-loop : tie.InvT-loop
-Inv-loop w h journal at n bad₀ i₀ bad i = Flagged (λ v. outside w h (unpacked v)) (numbersIn journal at n) i bad
+Inv-loop w h form journal at n bad₀ i₀ bad i = Flagged (outside w h) (changesIn form w journal at n) i bad
 
 abbrev μ-loop : tie.MeasureT-loop
-μ-loop w h journal at n bad₀ i₀ bad i = n - i
+μ-loop w h form journal at n bad₀ i₀ bad i = n - i
 
 loop-holds : tie.Need-loop-holds Inv-loop μ-loop
 loop-holds c = record { says = refl }
 
 change-at-requires : tie.Need-change-at-requires Inv-loop μ-loop
-change-at-requires c κs = search needs
+change-at-requires c κs = let a = c .before .before .before .args in omega (arith, change-fits (a .form) (a .at) (a .n) _ _ (c .loop-test .taken) (c .before .before .before .pre .1))
 
-is-outside-requires : tie.Need-is-outside-requires Inv-loop μ-loop
-is-outside-requires c κs = search needs
+-- the change that a turn reads
+nth : (c : tie.After-change-at Inv-loop μ-loop) → let a = c .before .before .before .before .args in
+    Nth (changesIn (a .form) (a .w) (a .journal .now) (a .at) (a .n)) (c .before .before .loop .i) (changeOf (a .form) (a .w) (c .change-at .result))
+nth c = nth-read _ _ _ _ _ _ _ (c .before .loop-test .taken) (c .change-at .ensures)
+
+is-off-requires : tie.Need-is-off-requires Inv-loop μ-loop
+is-off-requires c κs = search needs
 
 either-requires : tie.Need-either-requires Inv-loop μ-loop
 either-requires c κs = search needs
@@ -33,10 +43,10 @@ loop-less : tie.Need-loop-less Inv-loop μ-loop
 loop-less c = search needs
 
 loop-again : tie.Need-loop-again Inv-loop μ-loop
-loop-again c = flag-next-in _ _ _ _ (c .before .before .before .loop-test .taken) (c .before .before .change-at .ensures) (outside _ _) (c .before .before .before .before .loop .inv) (c .before .is-outside .ensures) (c .either .ensures)
+loop-again c = nth-flag (nth (c .before .before)) (outside _ _) (c .before .before .before .before .loop .inv) (c .before .is-off .ensures) (c .either .ensures)
 
 returns : tie.Need-returns Inv-loop μ-loop
-returns c = flag-all-in _ _ _ _ (c .loop-test .left) (outside _ _) (c .before .loop .inv)
+returns c = let a = c .before .before .before .args in flag-end (c .before .loop .inv) (all-read (a .form) (a .w) (a .journal .now) (a .at) (a .n) _ (c .loop-test .left))
 
 pub any-outside-in-spec : {M : Type 1} → statement M
 any-outside-in-spec =
@@ -46,7 +56,7 @@ any-outside-in-spec =
     μ-loop
     loop-holds
     change-at-requires
-    is-outside-requires
+    is-off-requires
     either-requires
     add-i
     loop-less

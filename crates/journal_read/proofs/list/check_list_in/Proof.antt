@@ -32,7 +32,7 @@ returns c = (rw (c .enum-told .given .1) (sym (no-checks _)), λ _ _. rw (c .enu
 
 returns-2 : tie.Need-returns-2
 unfolding changeChecks MarksFor
-returns-2 c = let e = c .before .enum-told2 .given .1 in (rw e (c .pixels-no-in .ensures), λ _ _. rw e tt)
+returns-2 c = let e = c .before .enum-told2 .given .1 in (rw e (c .pixels-no-in .ensures _), λ _ _. rw e tt)
 
 same-length : tie.Need-same-length
 same-length c = search needs

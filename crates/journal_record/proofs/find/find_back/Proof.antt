@@ -7,7 +7,7 @@ use Rattle.journal_record.proofs.find.find_back.Statement.{statement}
 use Rattle.journal_record.proofs.find.find_back.Tie as tie
 
 returns : tie.Need-returns
-returns c = back-none _ _ (omega arith) (c .if1 .taken)
+returns c w = back-none _ w _ _ (omega arith) (c .if1 .taken)
 
 sub-get-u32 : tie.Need-sub-get-u32
 sub-get-u32 c = search needs
@@ -19,7 +19,7 @@ cast-n : tie.Need-cast-n
 cast-n c = search needs
 
 returns-2 : tie.Need-returns-2
-returns-2 c = back-short _ _ (c .before .before .before .before .pre) (c .before .before .if1 .left) _ (c .before .get-u32 .ensures) (c .if2 .taken)
+returns-2 c w = back-short _ w _ _ (c .before .before .before .before .pre) (c .before .before .if1 .left) _ (c .before .get-u32 .ensures) (c .if2 .taken)
 
 sub-find-in : tie.Need-sub-find-in
 sub-find-in c = search needs
@@ -37,12 +37,12 @@ whole-only-requires : tie.Need-whole-only-requires
 whole-only-requires c κs = search needs
 
 returns-3 : tie.Need-returns-3
-returns-3 c =
-    let found = rw (c .before .find-in .ensures) at (c .whole-only .ensures) in
+returns-3 c w =
+    let found = rw (c .before .find-in .ensures w) at (c .whole-only .ensures) in
     let inside = c .before .before .before in
     let last = inside .before .get-u32 .ensures in
     let room = inside .before .before in
-    found ∙ back-is _ _ (room .before .before .pre) (room .if1 .left) _ last (inside .if2 .left)
+    found ∙ back-is _ w _ _ (room .before .before .pre) (room .if1 .left) _ last (inside .if2 .left)
 
 pub find-back-spec : {M : Type 1} → statement M
 find-back-spec =

@@ -4,6 +4,7 @@ use Prim.Native.Nat.{ℕ, _+_, _*_, _≤_}
 use native.Mathlib.Omega.{arith}
 use lib.ListN.{length}
 use Rattle.edit_checks.specs.Marks.{Checkable}
+use Rattle.journal_record.specs.Record.{stride}
 use Rattle.journal_read.proofs.Rooms.{lies-bare, list-markable, read-list, read-room}
 use Rattle.journal_redo.proofs.Redos.{too-many, head-refused, list-refused, left-decides}
 use borrow.Author.Needs.{needs}
@@ -14,7 +15,7 @@ returns : tie.Need-returns
 returns c lab = too-many (c .before .before .before .before .before .pre .0) _ _ (c .if1 .taken)
 
 edit-at-requires : tie.Need-edit-at-requires
-edit-at-requires c κs = lies-bare _ _ (c .before .before .before .before .before .pre .0)
+edit-at-requires c κs = lies-bare _ _ _ (c .before .before .before .before .before .pre .0)
 
 slice-aggregate-head-no : tie.Need-slice-aggregate-head-no
 slice-aggregate-head-no c = search needs
@@ -32,7 +33,7 @@ list-offset-requires : tie.Need-list-offset-requires
 list-offset-requires c κs = search needs
 
 -- the list stands in the journal, and a removal's marks in a scratch that has a byte a pixel
-room : (c : tie.After-list-offset) → let a = c .before .before .before .before .before .before .before .before .before .before .before .args in a .start + c .list-offset .result + 8 * a .count ≤ length (a .journal .now)
+room : (c : tie.After-list-offset) → let a = c .before .before .before .before .before .before .before .before .before .before .before .args in a .start + c .list-offset .result + stride (a .form) * a .count ≤ length (a .journal .now)
 room c = read-room (c .before .before .before .before .before .before .before .before .before .before .before .pre .0) (c .before .before .before .before .before .edit-at .ensures) (c .before .list-of .ensures) (c .list-offset .ensures)
 
 checkable : (c : tie.After-list-offset) (m : ℕ) → let a = c .before .before .before .before .before .before .before .before .before .before .before .args in a .w * a .h ≤ m → Checkable (c .before .list-of .result) (a .w) (a .h) (length (a .indices .now)) m
@@ -41,7 +42,7 @@ checkable c m h =
     let byte = c .before .before .before .before .before .before .before .before .shared-slice-known3 .given (s .args .start + 1) in
     record {
       pixels = s .pre .1 .1 .0;
-      markable = rw (read-list (s .pre .0) (c .before .before .before .before .before .edit-at .ensures) (c .before .list-of .ensures) (c .list-offset .ensures)) (list-markable _ _ _ _ (s .pre .0) (omega arith) _ m h);
+      markable = rw (read-list (s .pre .0) (c .before .before .before .before .before .edit-at .ensures) (c .before .list-of .ensures) (c .list-offset .ensures)) (list-markable _ _ _ _ _ (s .pre .0) (omega arith) _ m h);
     }
 
 add-at : tie.Need-add-at
@@ -63,7 +64,7 @@ returns-3 c lab =
 
 left-no-requires : tie.Need-left-no-requires
 left-no-requires c κs =
-    let listed : length (c .before .before .before .before .check-list-in .last .1 .1 .1 .1 .1 .1 .1 .1 .0) ≡ length (c .before .before .before .before .before .before .before .before .clear-marks .last .1 .1 .0) = c .before .before .before .before .check-list-in .kept .1 .1 .1 .1 .1 .1 .1 .1 .0 in
+    let listed : length (c .before .before .before .before .check-list-in .last .1 .1 .1 .1 .1 .1 .1 .1 .1 .0) ≡ length (c .before .before .before .before .before .before .before .before .clear-marks .last .1 .1 .0) = c .before .before .before .before .check-list-in .kept .1 .1 .1 .1 .1 .1 .1 .1 .1 .0 in
     let cleared : length (c .before .before .before .before .before .before .before .before .clear-marks .last .1 .1 .0) ≡ length (c .before .before .before .before .before .before .before .before .before .before .before .before .before .before .before .before .before .before .before .before .before .args .marks .now) = c .before .before .before .before .before .before .before .before .clear-marks .kept .1 .1 .0 in
     checkable (c .before .before .before .before .before .before .before .before .before .before) _ (omega (arith, c .before .before .before .before .before .before .before .before .before .before .before .before .before .before .before .before .before .before .before .before .before .pre .1 .1 .1))
 

@@ -2,6 +2,7 @@
 use Prim.Native.Nat.{_+_, _*_, _≤_}
 use native.Mathlib.Omega.{arith}
 use lib.ListN.{length}
+use Rattle.journal_record.specs.Record.{stride}
 use Rattle.journal_read.proofs.Rooms.{lies-bare, read-room}
 use Rattle.journal_redo.proofs.RedoneAt.{list-paints, rest-finishes, redone-by, marks-move, marks-done}
 use borrow.Author.Needs.{needs}
@@ -9,7 +10,7 @@ use Rattle.journal_redo.proofs.redo.redo_record.Statement.{statement}
 use Rattle.journal_redo.proofs.redo.redo_record.Tie as tie
 
 edit-at-requires : tie.Need-edit-at-requires
-edit-at-requires c κs = lies-bare _ _ (c .before .before .before .before .before .pre .0)
+edit-at-requires c κs = lies-bare _ _ _ (c .before .before .before .before .before .pre .0)
 
 list-of-requires : tie.Need-list-of-requires
 list-of-requires c κs = search needs
@@ -18,7 +19,7 @@ list-offset-requires : tie.Need-list-offset-requires
 list-offset-requires c κs = search needs
 
 -- the list stands in the journal
-room : (c : tie.After-list-offset) → let a = c .before .before .before .before .before .before .before .before .args in a .start + c .list-offset .result + 8 * a .count ≤ length (a .journal .now)
+room : (c : tie.After-list-offset) → let a = c .before .before .before .before .before .before .before .before .args in a .start + c .list-offset .result + stride (a .form) * a .count ≤ length (a .journal .now)
 room c = read-room (c .before .before .before .before .before .before .before .before .pre .0) (c .before .before .edit-at .ensures) (c .before .list-of .ensures) (c .list-offset .ensures)
 
 add-at : tie.Need-add-at

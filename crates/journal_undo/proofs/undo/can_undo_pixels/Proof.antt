@@ -19,7 +19,7 @@ unfolding pixelsBack
 returns c = (refl, rw (sym (c .before .any-outside-in .ensures) ∙ c .if1 .taken))
 
 -- past the first test none is off the sheet
-inside : (c : tie.Else1) → let a = c .before .before .before .args in some (outside (a .w) (a .h)) (changesIn (a .journal .now) (a .at) (a .count)) ≡ false
+inside : (c : tie.Else1) → let a = c .before .before .before .args in some (outside (a .w) (a .h)) (changesIn (a .form) (a .w) (a .journal .now) (a .at) (a .count)) ≡ false
 inside c = sym (c .before .any-outside-in .ensures) ∙ c .if1 .left
 
 olds-stray-requires : tie.Need-olds-stray-requires

@@ -34,7 +34,7 @@ any-outside-in-requires c κs = search needs
 entry : (c : tie.Else1) → let a = c .before .before .before .args in leb (getD (a .journal .now) (a .start + 1) 0) (a .k) ≡ true
 entry c = rw (← c .before .entry-at .ensures .0) (le-leb _ _ (c .if1 .left))
 
-inside : (c : tie.Else2) → let a = c .before .before .before .before .before .args in some (outside (a .w) (a .h)) (changesIn (a .journal .now) (a .start + 33) (a .count)) ≡ false
+inside : (c : tie.Else2) → let a = c .before .before .before .before .before .args in some (outside (a .w) (a .h)) (changesIn (a .form) (a .w) (a .journal .now) (a .start + 33) (a .count)) ≡ false
 inside c = sym (c .before .any-outside-in .ensures) ∙ c .if2 .left
 
 returns-2 : tie.Need-returns-2

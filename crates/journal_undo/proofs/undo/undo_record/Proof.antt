@@ -6,12 +6,12 @@ use Rattle.journal_undo.proofs.undo.undo_record.Statement.{statement}
 use Rattle.journal_undo.proofs.undo.undo_record.Tie as tie
 
 edit-at-requires : tie.Need-edit-at-requires
-edit-at-requires c κs = lies-bare _ _ (c .before .before .before .before .before .pre .0)
+edit-at-requires c κs = lies-bare _ _ _ (c .before .before .before .before .before .pre .0)
 
 undo-locks-requires : tie.Need-undo-locks-requires
 undo-locks-requires c κs =
     let p = c .before .before .before .before .before .before .pre in
-    marks-undo _ _ _ (c .edit-at .ensures) _ (p .1 .0 .0) _ _ (p .1 .1) _ (p .1 .0 .1)
+    marks-undo _ _ _ (c .edit-at .ensures) _ _ (p .1 .0 .0) _ _ (p .1 .1) _ (p .1 .0 .1)
 
 revert-record-requires : tie.Need-revert-record-requires
 revert-record-requires c κs =

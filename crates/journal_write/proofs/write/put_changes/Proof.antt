@@ -1,37 +1,43 @@
 -- `write::put_changes` meets its contract: each turn writes one change more. Assumes nothing.
-use borrow.Author.Needs.{needs}
-use Prim.Native.Nat.{_-_}
+use Prim.Native.Nat.{_+_, _*_, _-_, _≤_}
 use mathlib.Core.List.{map}
+use native.Mathlib.Omega.{arith}
 use lib.ListN.{length, length-map}
 use Rattle.edit.specs.Change.{unpacked}
-use Rattle.journal_write.proofs.Putting.{Putting, putting-none, putting-next, putting-all}
+use Rattle.journal_record.specs.Record.{stride}
+use Rattle.journal_write.proofs.Putting.{Putting, putting-none, putting-room, putting-next, putting-all}
 use Rattle.journal_write.proofs.Filled.{unpacked-at}
+use borrow.Author.Needs.{needs}
 use Rattle.journal_write.proofs.write.put_changes.Statement.{statement}
 use Rattle.journal_write.proofs.write.put_changes.Tie as tie
 
 abbrev Inv-loop : tie.InvT-loop
-Inv-loop part₀ at list i₀ part i = Putting part₀ at (map unpacked list) part i
+Inv-loop form part₀ at list w i₀ part i = Putting form w part₀ at (map unpacked list) part i
 
 abbrev μ-loop : tie.MeasureT-loop
-μ-loop part₀ at list i₀ part i = length list - i
+μ-loop form part₀ at list w i₀ part i = length list - i
+
+-- the next change has room
+room : (c : tie.In-loop Inv-loop μ-loop) → let a = c .before .before .before .before .args in a .at + stride (a .form) * c .before .loop .i + stride (a .form) ≤ length (c .before .loop .part)
+room c = let start = c .before .before .before .before in putting-room _ _ _ _ _ _ _ _ (λ _. start .pre) (c .before .loop .inv) (c .loop-test .taken)
 
 loop-holds : tie.Need-loop-holds Inv-loop μ-loop
-loop-holds c = putting-none _ _ _
+loop-holds c = putting-none _ _ _ _ _
 
-mul-put-u64 : tie.Need-mul-put-u64 Inv-loop μ-loop
-mul-put-u64 c = search needs
+list-bytes-requires : tie.Need-list-bytes-requires Inv-loop μ-loop
+list-bytes-requires c κs = omega (arith, room (c .before))
 
-add-put-u64 : tie.Need-add-put-u64 Inv-loop μ-loop
-add-put-u64 c = search needs
+add-put-change : tie.Need-add-put-change Inv-loop μ-loop
+add-put-change c = omega (arith, room (c .before .before), c .list-bytes .ensures .0)
 
-mul-put-u64-2 : tie.Need-mul-put-u64-2 Inv-loop μ-loop
-mul-put-u64-2 c = search needs
+mul-put-change : tie.Need-mul-put-change Inv-loop μ-loop
+mul-put-change c = search needs
 
-shared-slice-read-put-u64 : tie.Need-shared-slice-read-put-u64 Inv-loop μ-loop
-shared-slice-read-put-u64 c = search needs
+shared-slice-read-put-change : tie.Need-shared-slice-read-put-change Inv-loop μ-loop
+shared-slice-read-put-change c = search needs
 
-put-u64-requires : tie.Need-put-u64-requires Inv-loop μ-loop
-put-u64-requires c κs = search needs
+put-change-requires : tie.Need-put-change-requires Inv-loop μ-loop
+put-change-requires c κs = omega (arith, room (c .before .before .before), c .before .list-bytes .ensures .0)
 
 add-i : tie.Need-add-i Inv-loop μ-loop
 add-i c = search needs
@@ -41,17 +47,17 @@ loop-less c = search needs
 
 loop-again : tie.Need-loop-again Inv-loop μ-loop
 loop-again c =
-    let turn = c .before .before .before .before .before in
+    let turn = c .before .before .before .before .before .before in
     let start = turn .before .before .before .before in
     let list = start .args .list .now in
-    let put = c .before .before .put-u64 .ensures in
-    putting-next _ _ _ (unpacked 0) _ _ _ _ _ (length-map list unpacked) (λ _. start .pre) (turn .before .loop .inv) (turn .loop-test .taken) (unpacked-at list _) put
+    let put = rw (c .before .before .before .before .list-bytes .ensures .0) at (c .before .before .put-change .ensures) in
+    putting-next _ _ _ _ _ (unpacked 0) _ _ _ _ _ (length-map list unpacked) (λ _. start .pre) (turn .before .loop .inv) (turn .loop-test .taken) (unpacked-at list _) put
 
 same-length : tie.Need-same-length Inv-loop μ-loop
 same-length c = c .before .loop .inv .same-length
 
 returns : tie.Need-returns Inv-loop μ-loop
-returns c = putting-all _ _ _ _ _ (c .before .loop .inv) (rw length-map (c .loop-test .left))
+returns c = putting-all _ _ _ _ _ _ _ (c .before .loop .inv) (rw length-map (c .loop-test .left))
 
 pub put-changes-spec : {M : Type 1} → statement M
 put-changes-spec =
@@ -60,11 +66,11 @@ put-changes-spec =
     Inv-loop
     μ-loop
     loop-holds
-    mul-put-u64
-    add-put-u64
-    mul-put-u64-2
-    shared-slice-read-put-u64
-    put-u64-requires
+    list-bytes-requires
+    add-put-change
+    mul-put-change
+    shared-slice-read-put-change
+    put-change-requires
     add-i
     loop-less
     loop-again

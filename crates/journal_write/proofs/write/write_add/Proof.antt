@@ -25,11 +25,11 @@ same-length c = c .before .before .put-u32 .kept .0 ∙ c .before .before .befor
 
 returns : tie.Need-returns
 unfolding splice
-returns c =
+returns c f w =
     let a = c .before .before .before .before .before .before .before .before .before .args in
     let kind = splice-sets (3 ∷ []) (a .part .now) 0 (omega arith) in
     let colour = over-then (3 ∷ []) (bytesOf (a .c)) _ _ _ 1 refl kind (c .before .before .before .before .before .before .put-rgb .ensures) in
-    add-written _ _ _ _ colour (c .before .before .put-u32 .ensures)
+    add-written _ f w _ _ _ colour (c .before .before .put-u32 .ensures)
 
 pub write-add-spec : {M : Type 1} → statement M
 write-add-spec =

@@ -20,11 +20,11 @@ same-length : tie.Need-same-length
 same-length c = search needs
 
 returns : tie.Need-returns
-returns c =
+returns c f w =
     let whole = c .before .before in
     let marks = whole .before .before .before .before in
     let kind = marks .before .before .before .before in
-    lock-written _ _ _ _ _ _ _ (kind .put-kind .ensures) (marks .put-marks .ensures) (whole .put-u32 .ensures)
+    lock-written _ f w _ _ _ _ _ _ (kind .put-kind .ensures) (marks .put-marks .ensures) (whole .put-u32 .ensures)
 
 pub write-lock-spec : {M : Type 1} → statement M
 write-lock-spec =

@@ -26,13 +26,13 @@ same-length : tie.Need-same-length
 same-length c = search needs
 
 returns : tie.Need-returns
-returns c =
+returns c f w =
     let whole = c .before .before in
     let lab = whole .before .before .before .before in
     let new = lab .before .before .before .before in
     let old = new .before .before .before .before in
     let kind = old .before .before .before .before in
-    set-written _ _ _ _ _ _ _ _ _ _ (kind .put-kind .ensures) (old .put-rgb .ensures) (new .put-rgb2 .ensures) (lab .put-lab .ensures) (whole .put-u32 .ensures)
+    set-written _ f w _ _ _ _ _ _ _ _ _ (kind .put-kind .ensures) (old .put-rgb .ensures) (new .put-rgb2 .ensures) (lab .put-lab .ensures) (whole .put-u32 .ensures)
 
 pub write-set-spec : {M : Type 1} → statement M
 write-set-spec =

@@ -1,0 +1,12 @@
+pub mod Converting
+pub mod Standing
+pub mod Doubles
+pub mod Stepping
+pub mod Pushed
+pub mod Alike
+pub mod Playing
+pub mod Theorems
+pub mod Measuring
+pub mod Both
+pub mod Writing
+pub mod Calling
