@@ -105,7 +105,7 @@ pub const JOINED_TOO_LONG: u8 = 27;
 pub const FLAT_MISFIT: u8 = 28;
 
 // A colour of the palette: three bytes of sRGB.
-#[derive(Drop)]
+#[derive(Clone, Copy)]
 pub struct Rgb {
     pub r: u8,
     pub g: u8,
@@ -113,7 +113,7 @@ pub struct Rgb {
 }
 
 // One LAB triple: "three doubles that travel together".
-#[derive(Drop)]
+#[derive(Clone, Copy)]
 pub struct Lab {
     pub l: f64,
     pub a: f64,
@@ -121,7 +121,7 @@ pub struct Lab {
 }
 
 // What a call that returns no value answers.
-#[derive(Drop)]
+#[derive(Clone, Copy)]
 pub enum Answer {
     Done,
     Still,
@@ -129,7 +129,7 @@ pub enum Answer {
 }
 
 // What a call that fills a buffer answers: how many results it wrote.
-#[derive(Drop)]
+#[derive(Clone, Copy)]
 pub enum Counted {
     Count(usize),
     Refused(u8),
@@ -161,7 +161,7 @@ impl Counted {
 }
 
 // An edit, beside its list of changes: `Op` of op.rs.
-#[derive(Drop)]
+#[derive(Clone, Copy)]
 pub enum Edit {
     // Pixels set to new indices; the tool is a note.
     Pixels {
@@ -193,7 +193,7 @@ pub enum Edit {
 }
 
 // "a list of changes, each with x, y, old and new".
-#[derive(Drop)]
+#[derive(Clone, Copy)]
 pub struct Change {
     pub x: u16,
     pub y: u16,
@@ -203,7 +203,7 @@ pub struct Change {
 
 // How the records of a history hold a change: column, row, old and new in two bytes each; or, document 02, E9, its
 // place in three, and old and new in two each. A history is in one form throughout.
-#[derive(Drop)]
+#[derive(Clone, Copy)]
 pub enum Form {
     Coordinates,
     Places,
@@ -213,7 +213,7 @@ pub enum Form {
 pub const NOWHERE: usize = 18_446_744_073_709_551_615;
 
 // Document 01's "handle": standing offset, end offset, standing position, count, saved position or NOWHERE.
-#[derive(Drop)]
+#[derive(Clone, Copy)]
 pub struct Handle {
     pub offset: usize,
     pub end: usize,
@@ -223,7 +223,7 @@ pub struct Handle {
 }
 
 // What push, undo and redo answer: the palette count and the handle after the call.
-#[derive(Drop)]
+#[derive(Clone, Copy)]
 pub struct Moved {
     pub answer: Answer,
     pub k: usize,
@@ -231,28 +231,28 @@ pub struct Moved {
 }
 
 // What `mark_saved` answers, and the handle that it leaves.
-#[derive(Drop)]
+#[derive(Clone, Copy)]
 pub struct Marked {
     pub answer: Answer,
     pub handle: Handle,
 }
 
 // What `convert` answers, and the handle that it leaves.
-#[derive(Drop)]
+#[derive(Clone, Copy)]
 pub struct Converted {
     pub answer: Answer,
     pub handle: Handle,
 }
 
 // What `replay` answers, and the palette count after it.
-#[derive(Drop)]
+#[derive(Clone, Copy)]
 pub struct Replayed {
     pub answer: Answer,
     pub k: usize,
 }
 
 // What a question about a history answers.
-#[derive(Drop)]
+#[derive(Clone, Copy)]
 pub enum Truth {
     Is(bool),
     Refused(u8),
@@ -260,7 +260,7 @@ pub enum Truth {
 
 // What a look at a record answers: the edit, where its record starts and how long it is, and where its
 // changes start, 8 bytes each in coordinates and 7 in places, and how many there are.
-#[derive(Drop)]
+#[derive(Clone, Copy)]
 pub enum Next {
     Record {
         edit: Edit,
@@ -274,7 +274,7 @@ pub enum Next {
 }
 
 // What `get_at` answers.
-#[derive(Drop)]
+#[derive(Clone, Copy)]
 pub enum Got {
     Index(i16),
     Outside,
@@ -282,28 +282,28 @@ pub enum Got {
 }
 
 // What `cbrt` answers.
-#[derive(Drop)]
+#[derive(Clone, Copy)]
 pub enum Root {
     Value(f64),
     Refused(u8),
 }
 
 // What the LAB of a colour under a curve answers.
-#[derive(Drop)]
+#[derive(Clone, Copy)]
 pub enum Triple {
     Value(Lab),
     Refused(u8),
 }
 
 // What a search for an entry answers: the entry, and its squared distance.
-#[derive(Drop)]
+#[derive(Clone, Copy)]
 pub enum Found {
     Entry { index: usize, distance: f64 },
     Refused(u8),
 }
 
 // What `fixed_choices` answers: how many colours there are to choose from, or that all are free.
-#[derive(Drop)]
+#[derive(Clone, Copy)]
 pub enum Choices {
     Free,
     Count(usize),
@@ -311,7 +311,7 @@ pub enum Choices {
 }
 
 // What `set_color` and `add_color` answer.
-#[derive(Drop)]
+#[derive(Clone, Copy)]
 pub enum MadeEdit {
     Edit(Edit),
     Refused(u8),
@@ -319,7 +319,7 @@ pub enum MadeEdit {
 
 // What `remove_entry` answers: the edit, how many changes its list has, and the entry that its pixels move to with the
 // squared distance of that entry, also where no pixel moves.
-#[derive(Drop)]
+#[derive(Clone, Copy)]
 pub enum Removed {
     Made {
         edit: Edit,
@@ -331,42 +331,42 @@ pub enum Removed {
 }
 
 // What `merge_entries` answers: the edit, and how many changes its list has.
-#[derive(Drop)]
+#[derive(Clone, Copy)]
 pub enum Removal {
     Made { edit: Edit, count: usize },
     Refused(u8),
 }
 
 // What a call answers that makes an edit with a list of changes: the edit, and how many they are.
-#[derive(Drop)]
+#[derive(Clone, Copy)]
 pub enum MadeOp {
     Op { edit: Edit, count: usize },
     Refused(u8),
 }
 
 // What a call that makes a clip answers: the clip's size.
-#[derive(Drop)]
+#[derive(Clone, Copy)]
 pub enum Copied {
     Clip { w: usize, h: usize },
     Refused(u8),
 }
 
 // How many tiles and map entries `extract` made.
-#[derive(Drop)]
+#[derive(Clone, Copy)]
 pub enum Extraction {
     Made { tiles: usize, entries: usize },
     Refused(u8),
 }
 
 // What a call that reads a sheet from a line answers: its sides and its palette count.
-#[derive(Drop)]
+#[derive(Clone, Copy)]
 pub enum Opened {
     Sheet { w: usize, h: usize, k: usize },
     Refused(u8),
 }
 
 // What `join` answers: the count of the joined palette, and a fresh history for each of the two sheets.
-#[derive(Drop)]
+#[derive(Clone, Copy)]
 pub enum Joined {
     Palette {
         k: usize,
@@ -377,7 +377,7 @@ pub enum Joined {
 }
 
 // What `journal_need` answers: the journal length that the calls need, and the palette count that they end with.
-#[derive(Drop)]
+#[derive(Clone, Copy)]
 pub enum Need {
     Bytes { need: usize, k: usize },
     Refused(u8),

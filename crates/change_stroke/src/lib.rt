@@ -9,7 +9,7 @@ pub use strokes::{extend, extend_no};
 
 // A drag: the tool that it is noted with, and how many changes its buffer holds so far, at the front. A maker may write
 // any count: the calls that read the buffer check it.
-#[derive(Drop)]
+#[derive(Clone, Copy)]
 pub struct Stroke {
     pub tool: u8,
     pub count: usize,

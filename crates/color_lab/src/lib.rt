@@ -7,7 +7,7 @@ pub use convert::{lab_in, lab_of_linear};
 pub use curve::{linear_in, table};
 
 // A colour's three linear values, from 0 to 1.
-#[derive(Drop)]
+#[derive(Clone, Copy)]
 pub struct LinearRgb {
     pub r: f64,
     pub g: f64,

@@ -7,7 +7,7 @@ ghost use Rattle.color_root.specs.CubeRoot.{in_root_range, RootFound, Rooted};
 ghost use Rattle.color_root.specs.Cubes.{cube, target, top, NearestRoot, Digits};
 
 // A number squared, by its four digits in base 2^28.
-#[derive(Drop)]
+#[derive(Clone, Copy)]
 struct Square {
     s0: u64,
     s1: u64,

@@ -6,7 +6,7 @@ ghost use Rattle.edit.specs.List.{list_of, empty_pixels};
 use base::Edit;
 
 // The list of changes that an edit goes by: none, one of pixels, or the remap of a removed entry.
-#[derive(Drop)]
+#[derive(Clone, Copy)]
 pub enum ListKind {
     NoList,
     PixelList,

@@ -11,7 +11,7 @@ use editor::{join, read_sheet, spell};
 const LONGEST: usize = 1555;
 
 // A sheet, as a program keeps it.
-#[derive(Drop)]
+#[derive(Clone, Copy)]
 struct Symbol {
     k: usize,
     palette: [u8; 765],
@@ -20,7 +20,7 @@ struct Symbol {
     locks: [bool; 255],
 }
 
-#[derive(Drop)]
+#[derive(Clone, Copy)]
 struct Pair {
     first: Symbol,
     second: Symbol,

@@ -17,7 +17,7 @@ use print::{draw, show};
 const FORM: Form = Form::Coordinates;
 
 // A call of a history.
-#[derive(Drop)]
+#[derive(Clone, Copy)]
 enum Act {
     Push(Edit),
     Undo,

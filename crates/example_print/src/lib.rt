@@ -2,7 +2,7 @@
 use base::{Answer, Truth};
 
 // The steps of the program.
-#[derive(Drop)]
+#[derive(Clone, Copy)]
 pub enum Step {
     New,
     Push,

@@ -13,7 +13,7 @@ use selection::Area;
 const FORM: Form = Form::Places;
 
 // A sheet with its history: what a program keeps from step to step.
-#[derive(Drop)]
+#[derive(Clone, Copy)]
 struct Drawing {
     k: usize,
     palette: [u8; 765],

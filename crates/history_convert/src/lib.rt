@@ -9,14 +9,14 @@ mod write;
 pub use call::convert;
 
 // The length of a part of the journal in the other form.
-#[derive(Drop)]
+#[derive(Clone, Copy)]
 pub enum Size {
     Bytes(usize),
     Unsound,
 }
 
 // The same of the records before the standing offset and of those after it.
-#[derive(Drop)]
+#[derive(Clone, Copy)]
 pub enum Sizes {
     Both { past: usize, future: usize },
     Unsound,

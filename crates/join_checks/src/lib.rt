@@ -7,7 +7,7 @@ pub use judging::joinable;
 pub use news::find;
 
 // The number of the first check that applies, or 0, and how many entries of the second bring a colour.
-#[derive(Drop)]
+#[derive(Clone, Copy)]
 pub struct Brought {
     pub no: u8,
     pub n: usize,

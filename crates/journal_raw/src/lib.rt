@@ -10,14 +10,14 @@ pub use kinds::other;
 pub use rewrite::write_record;
 
 // What a measure of a record answers: its length, and its length in the other form.
-#[derive(Drop)]
+#[derive(Clone, Copy)]
 pub enum Measured {
     Record { length: usize, size: usize },
     Unsound,
 }
 
 // What a written record answers: its length, and its length in the other form.
-#[derive(Drop)]
+#[derive(Clone, Copy)]
 pub struct Written {
     pub length: usize,
     pub size: usize,

@@ -2,14 +2,14 @@
 // are read and written by `journal_bytes`, a record is found by `journal_find`.
 
 // A double that was read, or that the bits are no number's.
-#[derive(Drop)]
+#[derive(Clone, Copy)]
 pub enum Real {
     Number(f64),
     NotANumber,
 }
 
 // Where a sound record lies in the journal, its kind, 1 to 5 in either form, and how many changes it holds.
-#[derive(Drop)]
+#[derive(Clone, Copy)]
 pub enum Found {
     Record {
         kind: u8,

@@ -12,7 +12,7 @@ use need_lines::{line_end, next_line};
 
 // What a session came to: whether a push was answered "journal full", which ends it, the palette count, and the farthest
 // that the end offset got.
-#[derive(Drop)]
+#[derive(Clone, Copy)]
 pub struct Played {
     pub full: bool,
     pub k: usize,

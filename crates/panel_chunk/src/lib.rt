@@ -9,7 +9,7 @@ use panel_input::{Turn, pour};
 use panel_streams::send;
 
 // After a chunk: the turn, how many bytes of text were taken, and whether these were all.
-#[derive(Drop)]
+#[derive(Clone, Copy)]
 pub struct Told {
     pub turn: Turn,
     pub said: usize,

@@ -6,7 +6,7 @@ pub use reads::run;
 
 // After a read: the turn, how many bytes the read brought, how many of text were taken, whether no stream failed, and
 // whether there may be more to read.
-#[derive(Drop)]
+#[derive(Clone, Copy)]
 struct Got {
     turn: Turn,
     n: usize,
@@ -17,7 +17,7 @@ struct Got {
 
 // A session: the turn, how many reads were made, how many bytes they brought and how many of text were taken, both as 64
 // bits count them, what the last read brought, whether no stream failed, and whether there may be more to read.
-#[derive(Drop)]
+#[derive(Clone, Copy)]
 pub struct Session {
     pub turn: Turn,
     pub reads: u64,

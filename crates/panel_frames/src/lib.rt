@@ -19,7 +19,7 @@ pub const MAX_OPEN: usize = 64;
 
 // What a line is read as. An opening's palette and indices, and the changes of a pixel frame, stay in the
 // frame's bytes.
-#[derive(Drop)]
+#[derive(Clone, Copy)]
 pub enum Frame {
     Open { w: usize, h: usize, k: usize },
     Pixels { tool: u8, n: usize },

@@ -5,7 +5,7 @@ ghost use Rattle.panel_hex.specs.Hex.{hex_val, pair_val, upper_digit, hex_byte, 
 ghost use Rattle.panel_hex.specs.Spelt.{spelt, Within};
 
 // How many bytes the digits of a line spell.
-#[derive(Drop)]
+#[derive(Clone, Copy)]
 pub enum Spelt {
     Bytes(usize),
     Bad,

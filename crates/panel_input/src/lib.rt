@@ -16,7 +16,7 @@ const LONGEST: usize = 8_203;
 pub const GATHERED: usize = 65_536;
 
 // After a byte: the numbers, how much of a line is held, and where the text ends.
-#[derive(Drop)]
+#[derive(Clone, Copy)]
 pub struct Turn {
     pub core: Core,
     pub len: usize,
@@ -24,7 +24,7 @@ pub struct Turn {
 }
 
 // After a part of a chunk: the turn, and the next byte's place.
-#[derive(Drop)]
+#[derive(Clone, Copy)]
 pub struct Poured {
     pub turn: Turn,
     pub next: usize,

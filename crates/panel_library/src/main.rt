@@ -13,14 +13,14 @@ const HELD: usize = 16_385;
 const LONGEST: usize = 9_735;
 
 // After a byte: how much of a line is held, and how many bytes of text there are to write.
-#[derive(Drop)]
+#[derive(Clone, Copy)]
 struct Turn {
     len: usize,
     n: usize,
 }
 
 // After a chunk: how much of a line is held, how many bytes of text were taken, and whether these were all.
-#[derive(Drop)]
+#[derive(Clone, Copy)]
 struct Told {
     len: usize,
     said: usize,
@@ -29,7 +29,7 @@ struct Told {
 
 // After a read: how much of a line is held, how many bytes the read brought and how many of text were taken, whether no
 // stream failed, and whether there may be more to read.
-#[derive(Drop)]
+#[derive(Clone, Copy)]
 struct Got {
     len: usize,
     n: usize,
@@ -41,7 +41,7 @@ struct Got {
 // A run: how much of a line is held, how many reads were made, how many bytes they brought and how many of text were
 // taken, both as 64 bits count them, what the last read brought, whether no stream failed, and whether there may be more
 // to read.
-#[derive(Drop)]
+#[derive(Clone, Copy)]
 struct Run {
     len: usize,
     reads: u64,

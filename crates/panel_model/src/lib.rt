@@ -3,7 +3,7 @@
 use base::Edit;
 
 // What a frame asks for: an edit with the first n changes of a list, another call, or nothing, where a number refuses it.
-#[derive(Drop)]
+#[derive(Clone, Copy)]
 pub enum Asked {
     Push { edit: Edit, n: usize },
     Undo,

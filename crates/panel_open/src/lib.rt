@@ -9,7 +9,7 @@ pub use text::{number, whole};
 
 // The numbers of the open sheet, and its history's. Its palette, LAB, indices and lock marks, and the journal, are in
 // buffers; the indices are the first w × h places of theirs.
-#[derive(Drop)]
+#[derive(Clone, Copy)]
 pub struct Core {
     pub opened: bool,
     pub w: usize,
@@ -19,7 +19,7 @@ pub struct Core {
 }
 
 // After a line: the numbers, and where the text ends.
-#[derive(Drop)]
+#[derive(Clone, Copy)]
 pub struct Stepped {
     pub core: Core,
     pub at: usize,

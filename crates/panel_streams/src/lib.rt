@@ -5,7 +5,7 @@ ghost use Rattle.panel_streams.specs.Sends.{Sends};
 use libc::{EAGAIN, EINTR, STDOUT_FILENO};
 
 // What was written: how many bytes were taken, by how many calls of write, and whether to go on.
-#[derive(Drop)]
+#[derive(Clone, Copy)]
 pub struct Sent {
     pub n: usize,
     pub calls: u64,

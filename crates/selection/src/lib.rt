@@ -20,7 +20,7 @@ use selection_spans::{Span, between, in_span, shifted, widened, write_rows};
 const MAX_MARGIN: usize = MAX_DISTANCE as usize;
 
 // The rectangle x .. x + w by y .. y + h.
-#[derive(Drop)]
+#[derive(Clone, Copy)]
 pub struct Selection {
     pub x: u16,
     pub y: u16,
@@ -29,14 +29,14 @@ pub struct Selection {
 }
 
 // What a tool is given: "none means all".
-#[derive(Drop)]
+#[derive(Clone, Copy)]
 pub enum Area {
     Whole,
     Part(Selection),
 }
 
 // What a call that makes a selection answers.
-#[derive(Drop)]
+#[derive(Clone, Copy)]
 pub enum Chosen {
     Part(Selection),
     Nothing,
@@ -44,7 +44,7 @@ pub enum Chosen {
 }
 
 // Whether a pointer position is in a selection.
-#[derive(Drop)]
+#[derive(Clone, Copy)]
 pub enum Held {
     Inside,
     Outside,
@@ -260,7 +260,7 @@ fn clip(x: Span, y: Span) -> Chosen
 
 // What a call answers that puts a rectangle of indices somewhere: how many changes it makes, and the rectangle as
 // the new selection, a part or nothing.
-#[derive(Drop)]
+#[derive(Clone, Copy)]
 pub enum Shifted {
     Changes { count: usize, selection: Chosen },
     Refused(u8),

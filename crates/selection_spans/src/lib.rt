@@ -8,7 +8,7 @@ ghost use Rattle.selection_spans.specs.Positions.{row, rows, flat, RowFits};
 use base::{from_zero, max_i32, min_i32, min_usize, saturating_sub, up_to};
 
 // The places that a rectangle takes of one axis: count of them from start on.
-#[derive(Drop)]
+#[derive(Clone, Copy)]
 pub struct Span {
     pub start: usize,
     pub count: usize,

@@ -131,7 +131,7 @@ pub fn of_shifted(s: Shifted) -> Outcome {
 
 // An edit as numbers: its index; its kind, its tool, its old colour and its new one; its LAB. A lock's marks stand where the
 // colours' reds do.
-#[derive(Drop)]
+#[derive(Clone, Copy)]
 struct Plain {
     index: usize,
     bytes: [u8; 8],

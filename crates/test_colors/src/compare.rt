@@ -5,7 +5,7 @@ ghost use Rattle.test_colors.specs.Counts.{max_rows, Counts};
 use base::{Lab, Rgb};
 
 // How many rows there are, how many agree at the printed digits, and how many lie within 0.01.
-#[derive(Drop)]
+#[derive(Clone, Copy)]
 pub struct Tally {
     pub rows: usize,
     pub agree: usize,

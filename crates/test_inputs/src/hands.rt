@@ -6,7 +6,7 @@ use base::Form;
 use selection::{Area, Selection};
 
 // Two places, near the sheet, with coordinates that may be far; a place from 0 on; a selection or all.
-#[derive(Drop)]
+#[derive(Clone, Copy)]
 pub struct Spot {
     pub x: i32,
     pub y: i32,
@@ -23,7 +23,7 @@ pub struct Spot {
 
 // Two indices, two entries and a brush; whether there is a list of colours, and a curve, and its rule that is broken;
 // a journal's form; an edit's kind, tool, byte and new mark; a radicand.
-#[derive(Drop)]
+#[derive(Clone, Copy)]
 pub struct Choice {
     pub index: i16,
     pub other: i16,
@@ -43,7 +43,7 @@ pub struct Choice {
 }
 
 // The sides of a picture of six pixels, of a baseline, and of any picture; a margin.
-#[derive(Drop)]
+#[derive(Clone, Copy)]
 pub struct Sides {
     pub w: usize,
     pub h: usize,
@@ -56,7 +56,7 @@ pub struct Sides {
 }
 
 // The number of an applied record, where a byte of the journal may be changed, and the seeds of lists.
-#[derive(Drop)]
+#[derive(Clone, Copy)]
 pub struct Seeds {
     pub number: usize,
     pub hit: bool,
@@ -69,7 +69,7 @@ pub struct Seeds {
     pub listed: u64,
 }
 
-#[derive(Drop)]
+#[derive(Clone, Copy)]
 pub struct Hand {
     pub spot: Spot,
     pub choice: Choice,

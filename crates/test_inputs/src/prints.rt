@@ -2,7 +2,7 @@
 use crate::dealt::mix;
 
 // A call's number, and the fingerprint of all that it answered and left.
-#[derive(Drop)]
+#[derive(Clone, Copy)]
 pub struct Outcome {
     pub number: u8,
     pub print: u64,

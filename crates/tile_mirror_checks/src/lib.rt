@@ -12,7 +12,7 @@ use selection::{Area, Chosen, Selection, region};
 use sheet::check;
 
 // What the checks leave: the region that copies change, or their number.
-#[derive(Drop)]
+#[derive(Clone, Copy)]
 pub enum Stage {
     Canvas(Selection),
     Refused(u8),

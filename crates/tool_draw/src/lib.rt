@@ -10,7 +10,7 @@ pub use calls::{eraser, eraser_in, line, line_in, pencil, pencil_in, rectangle, 
 use selection::Selection;
 
 // What the checks leave: the region to draw in, or their number.
-#[derive(Drop)]
+#[derive(Clone, Copy)]
 pub(crate) enum Stage {
     Canvas(Selection),
     Refused(u8),

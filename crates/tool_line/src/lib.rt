@@ -12,7 +12,7 @@ pub use reach::{stand_at, steps_within};
 
 // One axis of a walk: where it is, one place toward the end, the line's side here, and the rest of the
 // division by twice the longer side.
-#[derive(Drop)]
+#[derive(Clone, Copy)]
 pub struct Axis {
     pub at: i32,
     pub step: i32,
@@ -21,7 +21,7 @@ pub struct Axis {
 }
 
 // A point of a line, with what it takes to go on; it is `steps` steps from the first point to the last.
-#[derive(Drop)]
+#[derive(Clone, Copy)]
 pub struct Walk {
     pub x: Axis,
     pub y: Axis,
@@ -29,7 +29,7 @@ pub struct Walk {
 }
 
 // Steps of a line: those from `first` on and below `end`.
-#[derive(Drop)]
+#[derive(Clone, Copy)]
 pub struct Steps {
     pub first: usize,
     pub end: usize,

@@ -3,7 +3,7 @@
 
 // Of one axis of a rectangle that is moved: the first place that lands on the sheet, where it lands, and how many
 // land.
-#[derive(Drop)]
+#[derive(Clone, Copy)]
 pub struct Landing {
     pub from: usize,
     pub to: usize,

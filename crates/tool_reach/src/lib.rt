@@ -6,7 +6,7 @@ pub use rows::{line_rows, path_rows, rectangle_rows};
 pub use touch::touched_steps;
 
 // The least and the greatest row of some points.
-#[derive(Drop)]
+#[derive(Clone, Copy)]
 pub(crate) struct Reach {
     pub low: i32,
     pub high: i32,

@@ -7,14 +7,14 @@ pub use paint::{clip, paint_run};
 pub use stamp::{clamp, paint_stamp, stamp_run};
 
 // The places of one axis that are painted: count of them from start on.
-#[derive(Drop)]
+#[derive(Clone, Copy)]
 pub struct Run {
     pub start: usize,
     pub count: usize,
 }
 
 // The columns of a rectangle: all of them, the first, and the last where it is another.
-#[derive(Drop)]
+#[derive(Clone, Copy)]
 pub struct Columns {
     pub all: Run,
     pub left: Run,
