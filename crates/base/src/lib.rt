@@ -3,6 +3,8 @@
 //
 // specs/ says the same to the contracts: Limits and Numbers name the numbers, Checks takes the first check that applies,
 // Answer gives document 01's number and values for each case of each enum that is an answer.
+#![tactic(auto)]
+
 mod ints;
 mod lists;
 mod storage;

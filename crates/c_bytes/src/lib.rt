@@ -1,5 +1,7 @@
 // The flat form: a sheet, a handle and a list of changes in byte buffers, read and written (document 02, E12). The
 // crate c_form's specs/Flat.antt has the layout.
+#![tactic(auto)]
+
 mod fit;
 mod handle;
 mod number;

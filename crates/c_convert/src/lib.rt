@@ -1,5 +1,7 @@
 // Change request E9's call under a plain C name, for compare/ and bench/, in the manner of `c_exports`. What the call
 // answers stands in its own contract; of the wrapper it is proved that it is safe and ends.
+#![tactic(auto)]
+
 use c_flat::{form_of, handle_of, tell_handle};
 
 // The handle goes in and comes back in a list of six, as with `call_push`; the palette count before it is not looked at.

@@ -1,5 +1,7 @@
 // Change request E6's calls under plain C names, for compare/ and bench/, in the manner of `c_exports`. What the
 // calls answer stands in their own contracts; of the wrappers it is proved that they are safe and end.
+#![tactic(auto)]
+
 use base::Triple;
 use c_flat::{form_of, handle_of, rgb_of, tell_lab};
 

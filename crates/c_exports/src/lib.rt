@@ -5,6 +5,8 @@
 // they are safe and end.
 //
 // `bench` has what bench/driver.rs times of the colours: loops over slices, as many calls as there are inputs.
+#![tactic(auto)]
+
 mod bench;
 mod colours;
 mod histories;

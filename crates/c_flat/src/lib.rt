@@ -1,5 +1,7 @@
 // Structs and enums as numbers in small arrays, and back, for the other `c_` crates. Of these functions it is proved
 // that they are safe and end.
+#![tactic(auto)]
+
 use base::{Counted, Edit, Form, Got, Handle, Lab, Rgb};
 use selection::{Area, Chosen, Selection};
 

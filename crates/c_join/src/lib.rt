@@ -1,5 +1,7 @@
 // Change request E8's call under a plain C name, for compare/ and bench/, in the manner of `c_exports`. What the call
 // answers stands in its own contract; of the wrappers it is proved that they are safe and end.
+#![tactic(auto)]
+
 use base::Joined;
 use c_flat::tell_handle;
 

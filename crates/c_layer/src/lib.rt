@@ -1,5 +1,7 @@
 // The calls of `layer` under a plain C name, for compare/ and bench/, in the manner of `c_exports`: what a wrapper returns is
 // the number, 0 where there is an answer, and the count goes to r[0]. It is proved that they are safe and end.
+#![tactic(auto)]
+
 use base::Counted;
 
 fn tell_count(c: Counted, r: &mut [usize; 5]) -> u8 {

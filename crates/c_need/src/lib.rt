@@ -1,5 +1,7 @@
 // Change request E11's call under a plain C name, for compare/ and bench/, in the manner of `c_convert`. What the call
 // answers stands in its own contract; of the wrapper it is proved that it is safe and ends.
+#![tactic(auto)]
+
 use base::Need;
 use c_flat::form_of;
 

@@ -3,6 +3,8 @@
 // is 0 for done, 255 for still, else the refusal's number. Each call answers every input.
 //
 // The crate c_model's specs say what each call does (Step.antt), and what a list of them does (FlatHistory.antt).
+#![tactic(auto)]
+
 mod marks;
 mod pushes;
 mod redoing;

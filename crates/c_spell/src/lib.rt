@@ -1,6 +1,8 @@
 // Change request E10's calls under plain C names, for compare/ and bench/. A wrapper returns document 01's number, 0 where
 // there is an answer, whose numbers go to a small array. What the calls answer stands in their own contracts; of the
 // wrappers it is proved that they are safe and end.
+#![tactic(auto)]
+
 use base::{Counted, Opened};
 
 // The length of the line.

@@ -1,4 +1,6 @@
 // The calls of selection.rs, op.rs, tools.rs and tiles.rs under plain C names, as `c_exports` has the others.
+#![tactic(auto)]
+
 mod drawn;
 mod listed;
 mod selections;

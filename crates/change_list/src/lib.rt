@@ -1,6 +1,8 @@
 // Lists of changes: those between two pictures, which is what a drawing tool returns, and how a list leaves the
 // scratch. The functions ask their caller for what they need; the calls that answer every input stand in the
 // crates above.
+#![tactic(auto)]
+
 mod between;
 mod copy;
 

@@ -2,6 +2,8 @@
 //
 // A list of changes is lent as one number of 64 bits a change, and so is the scratch, whose contents are free
 // before and after the call.
+#![tactic(auto)]
+
 ghost use Rattle.std.specs.Prelude.{◌≡◌, length};
 ghost use Rattle.base.specs.Answer.{counted_told, filled, truth_told, made_op_told};
 ghost use Rattle.journal_record.specs.Found.{kind_of};

@@ -3,6 +3,8 @@
 //
 // A list of changes is lent as one number of 64 bits a change, and so is the scratch, whose contents are free
 // before and after the call.
+#![tactic(auto)]
+
 mod strokes;
 
 pub use strokes::{extend, extend_no};

@@ -1,6 +1,8 @@
 // The calls of color.rs: each answers every input.
 //
 // They check what they are handed, in document 01's order, and leave the work to cielab.
+#![tactic(auto)]
+
 ghost use Rattle.std.specs.Prelude.{◌≡◌, false};
 ghost use Rattle.base.specs.Lists.{some};
 ghost use Rattle.color_lab.specs.Curve.{Linear};

@@ -1,6 +1,8 @@
 // A maker's own curve, document 02's E6: whether 256 doubles are one, and the LAB of a colour by the curve of a session.
 //
 // A session's curve is lent as `loaded, curve`. Not loaded, the curve is sRGB's and the slice is not looked at.
+#![tactic(auto)]
+
 ghost use Rattle.std.specs.Prelude.{◌≡◌, true};
 ghost use Rattle.base.specs.Checks.{first_of};
 ghost use Rattle.color_lab.specs.Curve.{linear_table};

@@ -1,3 +1,4 @@
+mod LinearBits
 mod LinearTable
 mod Range
 pub mod Bytes

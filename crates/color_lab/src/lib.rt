@@ -1,5 +1,7 @@
 // The steps of color.rs: the sRGB curve and the conversion to CIELAB. A function
 // here may ask its caller for what it needs; the calls that answer every input stand in the crates above.
+#![tactic(auto)]
+
 mod convert;
 mod curve;
 

@@ -1,4 +1,6 @@
 // The nearest entry of a palette in LAB: the steps of color.rs's `nearest_index`.
+#![tactic(auto)]
+
 mod nearest;
 
 pub use nearest::{dist2, nearer, nearest_in, search_in};

@@ -1,5 +1,7 @@
 // What an edit checks, does and undoes: op.rs and palette.rs, as definitions, and the list of changes that an edit
 // goes by.
+#![tactic(auto)]
+
 ghost use Rattle.std.specs.Prelude.{◌≡◌};
 ghost use Rattle.edit.specs.List.{list_of, empty_pixels};
 

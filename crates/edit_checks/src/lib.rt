@@ -1,4 +1,6 @@
 // The checks of an edit that do not see its list: those before the list, and the one after it.
+#![tactic(auto)]
+
 mod head;
 mod marks;
 

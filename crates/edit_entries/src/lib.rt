@@ -1,5 +1,7 @@
 // The palette's entries as code: a colour looked up, permitted or not, and stored, and the gap that an entry leaves
 // closed and opened again. They ask their caller for what they need.
+#![tactic(auto)]
+
 mod colours;
 mod storage;
 

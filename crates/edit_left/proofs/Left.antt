@@ -26,7 +26,7 @@ use Rattle.edit_pixels.specs.Inside.{marked, Marks, left_at}
 -- as the code reads it
 pub left-read : (i : ℕ) (l : List ℤ) (marks : List ℕ) (q : ℕ) {r : Bool} → mag (get_or l q (pos 0)) < 2 ^ hbits w16
     → r ≡ eq_z (to_z w16 (of_z w16 (get_or l q (pos 0)))) (pos i) && eqb (get_or marks q 0) 0 → left_at i l marks q ≡ r
-left-read i l marks q h e = sym (by_value (λ z. eq_z z (pos i) && eqb (get_or marks q 0) 0) (record { sfits = h }) e)
+left-read i l marks q h e = sym (by_value {w = w16} (λ z. eq_z z (pos i) && eqb (get_or marks q 0) 0) (record { sfits = h }) e)
 
 -- ---- a part of the sheet, and of the marks
 part_length : {A : Type 0} (a n : ℕ) (l : List A) → a + n ≤ length l → length (take n (drop a l)) ≡ n

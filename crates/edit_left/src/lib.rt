@@ -1,5 +1,7 @@
 // Number 13 of a removal: the scan for a pixel that is left on its entry, where the places that the removal's list names are
 // marked in a scratch of a byte a pixel.
+#![tactic(auto)]
+
 ghost use Rattle.std.specs.Prelude.{◌≡◌, ◌&&◌, List, ◌*◌, ◌≤◌, eqb, pos, length, replicate};
 ghost use Rattle.base.specs.Lists.{some, range};
 ghost use Rattle.base.specs.Ints.{eq_z};

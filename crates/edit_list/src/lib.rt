@@ -1,4 +1,6 @@
 // An edit's list, one number of 64 bits a change, checked and painted.
+#![tactic(auto)]
+
 ghost use Rattle.std.specs.Prelude.{◌≡◌, ◌*◌, ◌≤◌, length};
 ghost use mathlib.Core.List.{map, flat_map};
 ghost use Rattle.base.specs.Checks.{first_of};

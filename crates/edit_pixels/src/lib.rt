@@ -2,6 +2,8 @@
 // ask their caller for what they need; the calls that answer every input stand in the crates above.
 //
 // A list of changes is lent as one number of 64 bits a change.
+#![tactic(auto)]
+
 mod change;
 mod checks;
 mod listing;

@@ -62,7 +62,7 @@ module _ {f : ℤ → ℤ} {l₀ l : List ℤ} {i : ℕ} (m : Mapping f l₀ i l
   pub mapping-next : (v : ℤ) → i < length l₀ → mag (get_or l i (pos 0)) < 2 ^ hbits w16 → mag v < 2 ^ hbits w16 → v ≡ f (to_z w16 (of_z w16 (get_or l i (pos 0))))
       → Mapping f l₀ (i + 1) (set l i (to_z w16 (of_z w16 v)))
   mapping-next v h r o q =
-      let stored : v ≡ f (get_or l₀ i (pos 0)) = by_value f (record { sfits = r }) q ∙ ap f at-is in
+      let stored : v ≡ f (get_or l₀ i (pos 0)) = by_value {w = w16} f (record { sfits = r }) q ∙ ap f at-is in
       record {
         long = length-set l i (to_z w16 (of_z w16 v)) ∙ m.long;
         is = rw (back w16 v o, stored, m.is, add-one) (mapped-more f i l₀ h);

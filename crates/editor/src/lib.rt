@@ -3,6 +3,8 @@
 //
 // There is no code here: each call, its contract and its proof stand in the crate that it is handed on from. The types
 // that calls take and give are declared in `base` and `selection`, a stroke in `change_stroke`.
+#![tactic(auto)]
+
 pub mod structs;
 
 // color.rs

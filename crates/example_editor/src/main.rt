@@ -2,12 +2,15 @@
 // as saved, and drawn on. After each step its number and the sheet are printed.
 //
 // The program owns every buffer and lends it to the calls. A list of changes is numbers here, one of 64 bits a change.
+#![tactic(auto)]
+
 ghost use Rattle.std.specs.Prelude.{◌≤◌};
 
 use base::{Counted, Edit, Form, Handle};
 use editor::{fresh, is_dirty, mark_saved, new, pencil, push, redo, undo};
 use example_print::{Step, show, show_dirty};
 use selection::Area;
+use std::io;
 
 // How the history holds its changes, throughout: by column and row, 8 bytes each.
 const FORM: Form = Form::Coordinates;
@@ -25,7 +28,7 @@ struct Drawing {
 }
 
 // A transparent sheet with two entries, of which the second is red, and none locked.
-fn open() -> Drawing {
+fn open(rt: &impl Print) -> io::Result<Drawing> {
     let mut palette: [u8; 765] = [0; 765];
     let mut lab: [f64; 765] = [0.0; 765];
     let indices: [i16; 24] = [-1; 24];
@@ -33,9 +36,9 @@ fn open() -> Drawing {
     let journal: [u8; 200] = [0; 200];
     palette[3] = 200;
     let opened = new(6, 4, 2, &palette, &mut lab, &indices, &mut locks);
-    show(Step::New, opened, &indices);
+    show(rt, Step::New, opened, &indices)?;
     let handle = fresh();
-    Drawing {
+    Ok(Drawing {
         k: 2,
         palette,
         lab,
@@ -43,7 +46,7 @@ fn open() -> Drawing {
         locks,
         journal,
         handle,
-    }
+    })
 }
 
 // How many changes a tool drew, none where it refused; at most as many as there are places.
@@ -87,7 +90,7 @@ fn draw(d: Drawing, points: &[i32], list: &mut [u64]) -> usize
 }
 
 // A drag made a step of the history.
-fn stroke(d: Drawing, points: &[i32]) -> Drawing {
+fn stroke(rt: &impl Print, d: Drawing, points: &[i32]) -> io::Result<Drawing> {
     let mut list: [u64; 24] = [0; 24];
     let n = draw(d, points, &mut list);
     let mut palette = d.palette;
@@ -117,9 +120,9 @@ fn stroke(d: Drawing, points: &[i32]) -> Drawing {
         &mut marks,
     );
     let answer = moved.answer;
-    show(Step::Push, answer, &indices);
+    show(rt, Step::Push, answer, &indices)?;
     let handle = moved.handle;
-    Drawing {
+    Ok(Drawing {
         k: moved.k,
         palette,
         lab,
@@ -127,11 +130,11 @@ fn stroke(d: Drawing, points: &[i32]) -> Drawing {
         locks,
         journal,
         handle,
-    }
+    })
 }
 
 // The last step taken back.
-fn back(d: Drawing) -> Drawing {
+fn back(rt: &impl Print, d: Drawing) -> io::Result<Drawing> {
     let mut palette = d.palette;
     let mut lab = d.lab;
     let mut indices = d.indices;
@@ -150,9 +153,9 @@ fn back(d: Drawing) -> Drawing {
         d.handle,
     );
     let answer = moved.answer;
-    show(Step::Undo, answer, &indices);
+    show(rt, Step::Undo, answer, &indices)?;
     let handle = moved.handle;
-    Drawing {
+    Ok(Drawing {
         k: moved.k,
         palette,
         lab,
@@ -160,11 +163,11 @@ fn back(d: Drawing) -> Drawing {
         locks,
         journal,
         handle,
-    }
+    })
 }
 
 // The step that was taken back, done again.
-fn forth(d: Drawing) -> Drawing {
+fn forth(rt: &impl Print, d: Drawing) -> io::Result<Drawing> {
     let mut palette = d.palette;
     let mut lab = d.lab;
     let mut indices = d.indices;
@@ -187,9 +190,9 @@ fn forth(d: Drawing) -> Drawing {
         &mut marks,
     );
     let answer = moved.answer;
-    show(Step::Redo, answer, &indices);
+    show(rt, Step::Redo, answer, &indices)?;
     let handle = moved.handle;
-    Drawing {
+    Ok(Drawing {
         k: moved.k,
         palette,
         lab,
@@ -197,7 +200,7 @@ fn forth(d: Drawing) -> Drawing {
         locks,
         journal,
         handle,
-    }
+    })
 }
 
 // The sheet as it is now is the one that was saved.
@@ -211,19 +214,19 @@ fn save(d: Drawing) -> Drawing {
 }
 
 // Whether the sheet is another than the one that was saved.
-fn dirty(d: Drawing) {
+fn dirty(rt: &impl Print, d: Drawing) -> io::Result<()> {
     let journal = d.journal;
-    show_dirty(is_dirty(FORM, &journal, d.handle))
+    show_dirty(rt, is_dirty(FORM, &journal, d.handle))
 }
 
-fn main() {
-    let opened = open();
+fn main(rt: HostRuntime) -> io::Result<()> {
+    let opened = open(&rt)?;
     let drag = [0, 0, 3, 3, 5, 1];
-    let drawn = stroke(opened, &drag);
-    let again = forth(back(drawn));
+    let drawn = stroke(&rt, opened, &drag)?;
+    let again = forth(&rt, back(&rt, drawn)?)?;
     let saved = save(again);
-    dirty(saved);
+    dirty(&rt, saved)?;
     let corner = [5, 3];
-    let later = stroke(saved, &corner);
-    dirty(later)
+    let later = stroke(&rt, saved, &corner)?;
+    dirty(&rt, later)
 }

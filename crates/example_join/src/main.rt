@@ -2,10 +2,13 @@
 // joined. Every symbol is printed in its one spelling, before and after.
 //
 // The program owns every buffer and lends it to the calls. Both symbols are 3 by 2.
+#![tactic(auto)]
+
 ghost use Rattle.std.specs.Prelude.{◌≤◌};
 
 use base::{Counted, Joined, Opened};
 use editor::{join, read_sheet, spell};
+use std::io;
 
 // The longest line of such a symbol: 13 bytes, 255 entries and 6 indices.
 const LONGEST: usize = 1555;
@@ -73,13 +76,13 @@ fn read(line: &[u8]) -> Symbol {
 }
 
 // A symbol's line.
-fn print(s: Symbol) {
+fn print(rt: &impl Print, s: Symbol) -> io::Result<()> {
     let palette = s.palette;
     let lab = s.lab;
     let indices = s.indices;
     let mut text: [u8; 1555] = [0; 1555];
     let n = bytes(spell(3, 2, s.k, &palette, &lab, &indices, &mut text));
-    io::write_all(1, &text[0..n]);
+    rt.write_all(&text[0..n])
 }
 
 // Both symbols on one palette.
@@ -146,14 +149,14 @@ fn put_together(a: Symbol, b: Symbol) -> Pair {
     Pair { first, second }
 }
 
-fn main() {
+fn main(rt: HostRuntime) -> io::Result<()> {
     // black, red and white
     let ours = read(b"000300020003000000FF0000FFFFFF00010201FF02\n");
     // red, green, and red once more
     let theirs = read(b"000300020003FF000000FF00FF00000001020102FF\n");
-    print(ours);
-    print(theirs);
+    print(&rt, ours)?;
+    print(&rt, theirs)?;
     let both = put_together(ours, theirs);
-    print(both.first);
-    print(both.second)
+    print(&rt, both.first)?;
+    print(&rt, both.second)
 }

@@ -4,6 +4,8 @@
 //
 // The layers lie one after the other in one buffer a kind, the bottom one first: 765 bytes, 765 numbers, 24 indices and
 // 255 lock marks a layer. A call of a history is lent its layer's parts, `flatten` and `repaint` are lent all but the marks.
+#![tactic(auto)]
+
 mod keep;
 mod print;
 
@@ -12,6 +14,7 @@ use history::{fresh, push, redo, undo};
 use keep::{keep_bytes, keep_indices, keep_numbers};
 use layer::{flatten, repaint};
 use print::{draw, show};
+use std::io;
 
 // How each layer's history holds its changes, throughout: by column and row.
 const FORM: Form = Form::Coordinates;
@@ -162,7 +165,8 @@ fn keep_layer(
 // A call on layer i, and the repaint after it, which is lent the layer as it was before the call. No entry is added
 // or removed here, so the sizes stay.
 fn change(
-    step: &[u8],
+    rt: &impl Print,
+    step: &str,
     i: usize,
     act: Act,
     palettes: &mut [u8],
@@ -172,7 +176,7 @@ fn change(
     journal: &mut [u8],
     handle: Handle,
     out: &mut [u8],
-) -> Handle {
+) -> io::Result<Handle> {
     let sizes = [6, 4, 1, 6, 4, 1, 6, 4, 1];
     let mut palette: [u8; 765] = [0; 765];
     let mut lab: [f64; 765] = [0.0; 765];
@@ -191,11 +195,11 @@ fn change(
         &sizes, palettes, labs, indices, i, 6, 4, 1, &palette, &lab, &earlier, out,
     );
     let answer = moved.answer;
-    show(step, answer.number(), out);
-    moved.handle
+    show(rt, step, answer.number(), out)?;
+    Ok(moved.handle)
 }
 
-fn main() {
+fn main(rt: HostRuntime) -> io::Result<()> {
     // A colour's red is the letter that it is printed as. LAB is left at 0: `new` would fill it in.
     let sizes = [6, 4, 1, 6, 4, 1, 6, 4, 1];
     let mut palettes: [u8; 2295] = [0; 2295];
@@ -213,10 +217,11 @@ fn main() {
         &mut indices,
     );
     let flat = flatten(&sizes, &palettes, &labs, &indices, &mut out);
-    show(b"flatten", flat.number(), &out);
+    show(&rt, "flatten", flat.number(), &out)?;
     let pixel = Edit::Pixels { tool: 1 };
     let grown = change(
-        b"push on the badge",
+        &rt,
+        "push on the badge",
         2,
         Act::Push(pixel),
         &mut palettes,
@@ -226,14 +231,15 @@ fn main() {
         &mut badge,
         fresh(),
         &mut out,
-    );
+    )?;
     let color = recolour(Rgb {
         r: b'+',
         g: 0,
         b: 0,
     });
     change(
-        b"push on the fill",
+        &rt,
+        "push on the fill",
         1,
         Act::Push(color),
         &mut palettes,
@@ -243,9 +249,10 @@ fn main() {
         &mut fill,
         fresh(),
         &mut out,
-    );
+    )?;
     let undone = change(
-        b"undo on the badge",
+        &rt,
+        "undo on the badge",
         2,
         Act::Undo,
         &mut palettes,
@@ -255,9 +262,10 @@ fn main() {
         &mut badge,
         grown,
         &mut out,
-    );
+    )?;
     change(
-        b"redo on the badge",
+        &rt,
+        "redo on the badge",
         2,
         Act::Redo,
         &mut palettes,
@@ -267,5 +275,6 @@ fn main() {
         &mut badge,
         undone,
         &mut out,
-    );
+    )?;
+    Ok(())
 }

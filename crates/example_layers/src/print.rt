@@ -1,4 +1,5 @@
 // Pictures in letters: a colour's red is its letter, and a dot is transparent.
+use std::io;
 
 // Entry 0 where there is a letter.
 fn index(letter: u8) -> i16 {
@@ -44,12 +45,9 @@ fn spell(out: &[u8], text: &mut [u8]) {
 }
 
 // A step, the number that it answered, and the picture after it.
-pub(crate) fn show(step: &[u8], no: u8, out: &[u8]) {
+pub(crate) fn show(rt: &impl Print, step: &str, no: u8, out: &[u8]) -> io::Result<()> {
     let mut text: [u8; 28] = [b'\n'; 28];
     spell(out, &mut text);
-    io::write_all(1, step);
-    io::write_all(1, b": ");
-    io::print_decimal(1, no as u64);
-    io::write_all(1, b"\n");
-    io::write_all(1, &text);
+    println!(rt; "{step}: {no}")?;
+    rt.write_all(&text)
 }

@@ -1,5 +1,8 @@
 // What the examples print: a step, the number that it answered, and the sheet after it.
+#![tactic(auto)]
+
 use base::{Answer, Truth};
+use std::io;
 
 // The steps of the program.
 #[derive(Clone, Copy)]
@@ -11,13 +14,13 @@ pub enum Step {
 }
 
 // The name of a step.
-fn print_step(step: Step) {
+fn print_step(rt: &impl Print, step: Step) -> io::Result<()> {
     match step {
-        Step::New => io::write_all(1, b"new: "),
-        Step::Push => io::write_all(1, b"push: "),
-        Step::Undo => io::write_all(1, b"undo: "),
-        Step::Redo => io::write_all(1, b"redo: "),
-    };
+        Step::New => print!(rt; "new: "),
+        Step::Push => print!(rt; "push: "),
+        Step::Undo => print!(rt; "undo: "),
+        Step::Redo => print!(rt; "redo: "),
+    }
 }
 
 // An index as a letter; a dot is transparent.
@@ -32,9 +35,9 @@ fn letter(index: i16) -> u8 {
 }
 
 // A row of 6, a letter a pixel.
-fn print_row(row: &[i16]) {
+fn print_row(rt: &impl Print, row: &[i16]) -> io::Result<()> {
     if row.len() != 6 {
-        return;
+        return Ok(());
     }
     let text = [
         letter(row[0]),
@@ -45,35 +48,32 @@ fn print_row(row: &[i16]) {
         letter(row[5]),
         b'\n',
     ];
-    io::write_all(1, &text);
+    rt.write_all(&text)
 }
 
 // A step with its number, and the sheet of 6 by 4 after it.
-pub fn show(step: Step, answer: Answer, indices: &[i16]) {
-    print_step(step);
-    io::print_decimal(1, answer.number() as u64);
-    io::write_all(1, b"\n");
+pub fn show(rt: &impl Print, step: Step, answer: Answer, indices: &[i16]) -> io::Result<()> {
+    print_step(rt, step)?;
+    let number = answer.number();
+    println!(rt; "{number}")?;
     if indices.len() != 24 {
-        return;
+        return Ok(());
     }
-    print_row(&indices[0..6]);
-    print_row(&indices[6..12]);
-    print_row(&indices[12..18]);
-    print_row(&indices[18..24]);
+    print_row(rt, &indices[0..6])?;
+    print_row(rt, &indices[6..12])?;
+    print_row(rt, &indices[12..18])?;
+    print_row(rt, &indices[18..24])
 }
 
 // What a question about the history answered.
-pub fn show_dirty(t: Truth) {
+pub fn show_dirty(rt: &impl Print, t: Truth) -> io::Result<()> {
     match t {
         Truth::Is(b) => {
             if b {
-                io::write_all(1, b"dirty: yes\n");
-                return;
+                return println!(rt; "dirty: yes");
             }
-            io::write_all(1, b"dirty: no\n");
+            println!(rt; "dirty: no")
         }
-        Truth::Refused(_) => {
-            io::write_all(1, b"dirty: refused\n");
-        }
+        Truth::Refused(_) => println!(rt; "dirty: refused"),
     }
 }

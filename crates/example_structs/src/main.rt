@@ -2,12 +2,15 @@
 // palette count and handle lent. After each step its number and the sheet are printed.
 //
 // What lends a struct stands in lent.rt, and is proved by hand; the rest is as in example_editor.
+#![tactic(auto)]
+
 mod lent;
 
 use base::{Edit, Form, Handle};
 use editor::{fresh, is_dirty, new};
 use example_print::{Step, show, show_dirty};
 use selection::Area;
+use std::io;
 
 // How the history holds its changes, throughout: by place, 7 bytes each.
 const FORM: Form = Form::Places;
@@ -25,7 +28,7 @@ struct Drawing {
 }
 
 // A transparent sheet with two entries, of which the second is red.
-fn open() -> Drawing {
+fn open(rt: &impl Print) -> io::Result<Drawing> {
     let mut palette: [u8; 765] = [0; 765];
     let mut lab: [f64; 765] = [0.0; 765];
     let indices: [i16; 24] = [-1; 24];
@@ -33,9 +36,9 @@ fn open() -> Drawing {
     let journal: [u8; 200] = [0; 200];
     palette[3] = 200;
     let opened = new(6, 4, 2, &palette, &mut lab, &indices, &mut locks);
-    show(Step::New, opened, &indices);
+    show(rt, Step::New, opened, &indices)?;
     let handle = fresh();
-    Drawing {
+    Ok(Drawing {
         k: 2,
         palette,
         lab,
@@ -43,11 +46,11 @@ fn open() -> Drawing {
         locks,
         journal,
         handle,
-    }
+    })
 }
 
 // A drag along points, made a step of the history.
-fn stroke(d: Drawing, points: &[i32]) -> Drawing {
+fn stroke(rt: &impl Print, d: Drawing, points: &[i32]) -> io::Result<Drawing> {
     let mut palette = d.palette;
     let mut lab = d.lab;
     let mut indices = d.indices;
@@ -73,9 +76,9 @@ fn stroke(d: Drawing, points: &[i32]) -> Drawing {
         &mut marks,
     );
     let answer = moved.answer;
-    show(Step::Push, answer, &indices);
+    show(rt, Step::Push, answer, &indices)?;
     let handle = moved.handle;
-    Drawing {
+    Ok(Drawing {
         k: moved.k,
         palette,
         lab,
@@ -83,11 +86,11 @@ fn stroke(d: Drawing, points: &[i32]) -> Drawing {
         locks,
         journal,
         handle,
-    }
+    })
 }
 
 // The last step taken back.
-fn back(d: Drawing) -> Drawing {
+fn back(rt: &impl Print, d: Drawing) -> io::Result<Drawing> {
     let mut palette = d.palette;
     let mut lab = d.lab;
     let mut indices = d.indices;
@@ -104,9 +107,9 @@ fn back(d: Drawing) -> Drawing {
         d.handle,
     );
     let answer = moved.answer;
-    show(Step::Undo, answer, &indices);
+    show(rt, Step::Undo, answer, &indices)?;
     let handle = moved.handle;
-    Drawing {
+    Ok(Drawing {
         k: moved.k,
         palette,
         lab,
@@ -114,11 +117,11 @@ fn back(d: Drawing) -> Drawing {
         locks,
         journal,
         handle,
-    }
+    })
 }
 
 // The step that was taken back, done again.
-fn forth(d: Drawing) -> Drawing {
+fn forth(rt: &impl Print, d: Drawing) -> io::Result<Drawing> {
     let mut palette = d.palette;
     let mut lab = d.lab;
     let mut indices = d.indices;
@@ -138,9 +141,9 @@ fn forth(d: Drawing) -> Drawing {
         &mut marks,
     );
     let answer = moved.answer;
-    show(Step::Redo, answer, &indices);
+    show(rt, Step::Redo, answer, &indices)?;
     let handle = moved.handle;
-    Drawing {
+    Ok(Drawing {
         k: moved.k,
         palette,
         lab,
@@ -148,7 +151,7 @@ fn forth(d: Drawing) -> Drawing {
         locks,
         journal,
         handle,
-    }
+    })
 }
 
 // The sheet as it is now is the one that was saved.
@@ -161,19 +164,19 @@ fn save(d: Drawing) -> Drawing {
 }
 
 // Whether the sheet is another than the one that was saved.
-fn dirty(d: Drawing) {
+fn dirty(rt: &impl Print, d: Drawing) -> io::Result<()> {
     let journal = d.journal;
-    show_dirty(is_dirty(FORM, &journal, d.handle))
+    show_dirty(rt, is_dirty(FORM, &journal, d.handle))
 }
 
-fn main() {
-    let opened = open();
+fn main(rt: HostRuntime) -> io::Result<()> {
+    let opened = open(&rt)?;
     let drag = [0, 0, 3, 3, 5, 1];
-    let drawn = stroke(opened, &drag);
-    let again = forth(back(drawn));
+    let drawn = stroke(&rt, opened, &drag)?;
+    let again = forth(&rt, back(&rt, drawn)?)?;
     let saved = save(again);
-    dirty(saved);
+    dirty(&rt, saved)?;
     let corner = [5, 3];
-    let later = stroke(saved, &corner);
-    dirty(later)
+    let later = stroke(&rt, saved, &corner)?;
+    dirty(&rt, later)
 }

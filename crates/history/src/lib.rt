@@ -5,6 +5,8 @@
 //
 // The crate history_model's specs/Demand3.antt states what the calls do together, for every list of them: document 01's
 // demand 3.
+#![tactic(auto)]
+
 mod mark;
 
 pub use history_handle::fresh;

@@ -2,6 +2,8 @@
 //
 // specs/Convert.antt says what a conversion does, specs/Conversion.antt what is proved of it: there and back restores
 // the used bytes and the handle, and both histories find the same pictures.
+#![tactic(auto)]
+
 mod call;
 mod measure;
 mod write;

@@ -1,5 +1,7 @@
 // A maker's own curve loaded, document 02's E6. The LAB of the sheet's k entries is worked out anew from it; from then
 // on the session lends it to each call that takes a curve. It may be loaded only while the history has no records.
+#![tactic(auto)]
+
 ghost use Rattle.std.specs.Prelude.{◌≡◌, length};
 ghost use Rattle.base.specs.Checks.{first_of};
 ghost use Rattle.sheet.specs.Sheet.{sheet_of};

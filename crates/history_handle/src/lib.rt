@@ -3,6 +3,8 @@
 //
 // What the calls over these steps do together, whatever the sheet, the edits and the records are, is
 // document 01's demand 3: specs/Demand.antt has the statement.
+#![tactic(auto)]
+
 ghost use Rattle.std.specs.Prelude.{◌≡◌, ◌+◌, ◌≤◌, ◌<◌};
 ghost use Rattle.base.specs.Limits.{max_journal};
 ghost use Rattle.history_ledger.specs.Handle.{fresh, sound, after_push, stepped_back, stepped_forth, marked, dirty};

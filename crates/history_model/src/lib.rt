@@ -2,6 +2,8 @@
 // ledger's theorem asks of it, and the steps that every call on a history begins with.
 //
 // specs/Demand3.antt states what the calls do together, for every list of them: document 01's demand 3.
+#![tactic(auto)]
+
 mod entering;
 mod measure;
 

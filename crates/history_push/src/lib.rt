@@ -1,4 +1,6 @@
 // push: an edit checked, recorded and done.
+#![tactic(auto)]
+
 mod pushing;
 
 pub use pushing::{finish, push};

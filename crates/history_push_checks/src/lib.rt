@@ -1,5 +1,7 @@
 // The checks of `push`: those before its list, those of its changes, and those after the list. `begin` and `settle` do
 // not see the list, so that each form of the call goes through its own between them.
+#![tactic(auto)]
+
 ghost use Rattle.std.specs.Prelude.{◌≡◌, List, ℕ, ◌*◌, ◌≤◌, length};
 ghost use Rattle.base.specs.Limits.{max_changes, max_journal};
 ghost use Rattle.base.specs.declared.Form.{Form};

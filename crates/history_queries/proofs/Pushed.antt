@@ -132,16 +132,25 @@ module _ (form : Form) (session : Curve) where
             ∙ same-shown form (length J) H (λ n. H.offset) (λ n. leb (H.offset + n) H.end) stepped_forth _ (some (told x)) (forth-tells form any_width w _ ∙ ap tells reading)
             ∙ step-some form (length J) H (λ n. H.offset) (λ n. leb (H.offset + n) H.end) stepped_forth (told x) inside sound-after
 
+      -- past the record that is shown
+      past-shown : (j : List ℕ) (n : ℕ) (h : Handle) (m : ℕ) (r : ℕ × Edit × List Change) → next_redo_of form j h ≡ shown form m r
+          → shown_after form j (suc n) h ≡ shown_after form j n (stepped_forth r.0 h)
+      unfolding shown_after past shown
+      past-shown j n h m r e = rw e
+
       shows-after : (f : Pushes) (x : Pushed A) (p more : Pushes) → length (journal p (f ++ (x ∷ more))) ≤ max_journal
           → shown_after form (journal p (f ++ (x ∷ more))) (length f) (handle p (f ++ (x ∷ more))) ≡ shown form (total (sizes A p) + total (sizes A f)) (told x)
-      unfolding shown_after past shown
+      unfolding shown_after
       shows-after [] x p more b =
           let there : total (sizes A p) ≡ total (sizes A p) + 0 = omega arith in
           shows-next x p more b ∙ ap (λ (n : ℕ). shown form n (told x)) there
       shows-after (y ∷ f) x p more b =
           let all : Pushes = f ++ (x ∷ more) in
           let there : total (sizes A (y ∷ p)) + total (sizes A f) ≡ total (sizes A p) + total (sizes A (y ∷ f)) = omega arith in
-          rw (shows-next y p all b, stepped y p all, ← same-journal y p all, ← there) (shows-after f x (y ∷ p) more (rw (same-journal y p all) b))
+          past-shown (journal p (y ∷ all)) (length f) (handle p (y ∷ all)) (total (sizes A p)) (told y) (shows-next y p all b)
+          ∙ ap₂ (λ (j : List ℕ) (c : Handle). shown_after form j (length f) c) (sym (same-journal y p all)) (stepped y p all)
+          ∙ shows-after f x (y ∷ p) more (subst (λ (j : List ℕ). length j ≤ max_journal) (sym (same-journal y p all)) b)
+          ∙ ap (λ (n : ℕ). shown form n (told x)) there
 
     -- ---- `applied` in a history that was pushed
     module _ (room n : ℕ) (permitted : n ≤ max_journal) (k : Trace A) (h : Holds A room n k) where

@@ -1,5 +1,7 @@
 // What a maker asks of a history without changing it: history.rs, `is_dirty`, `can_undo`, `can_redo`, `next_undo`,
 // `next_redo` and `applied`. Each call answers every input and looks at no sheet.
+#![tactic(auto)]
+
 mod questions;
 mod shown;
 

@@ -1,6 +1,8 @@
 // `replay` of op.rs: an edit done to a sheet apart from any history, where the sheet is as the edit says that it was.
 // The steps before the list, and after it, do not see the list, so that each form of the call goes through its own
 // between them.
+#![tactic(auto)]
+
 ghost use Rattle.std.specs.Prelude.{◌≡◌, List, map, ℕ, ◌*◌, length};
 ghost use Rattle.base.specs.Checks.{or_else, first_of};
 ghost use Rattle.color_curve.specs.Curve.{curve_of, lab_by, CurveFits};

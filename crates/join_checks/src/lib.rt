@@ -1,5 +1,7 @@
 // What `join` has to know before it writes: document 02, E8. Which entries of the second sheet bring a colour, and the
 // first check that applies, the length of the joined palette among them.
+#![tactic(auto)]
+
 mod judging;
 mod news;
 

@@ -2,6 +2,8 @@
 // goes.
 //
 // `join_model` has what the joined palette is, and what is proved of it.
+#![tactic(auto)]
+
 mod joining;
 mod places;
 mod storing;

@@ -1,4 +1,6 @@
 // A record found from either end, and the numbers of the two forms.
+#![tactic(auto)]
+
 mod find;
 mod form;
 

@@ -63,12 +63,12 @@ module _ (l : List ℤ) {p q : ℕ} (e : p ≡ q) (h : mag (get_or l p (pos 0)) 
   -- what is read there, changed by f, is stored there
   pub stored_at : (f : ℤ → ℤ) (v : ℤ) → mag v < 2 ^ hbits w16 → v ≡ f (to_z w16 (of_z w16 (get_or l p (pos 0)))) → set l p (to_z w16 (of_z w16 v)) ≡ set l q (f (get_or l q (pos 0)))
   stored_at f v k r =
-      let made : v ≡ f (get_or l p (pos 0)) = by_value f (record { sfits = h }) r in
+      let made : v ≡ f (get_or l p (pos 0)) = by_value {w = w16} f (record { sfits = h }) r in
       rw (back w16 v k, made, e)
 
   pub judged-at : {r taken hit : Bool} (k : ℕ) (old : ℤ) {v : ℤ} → taken ≡ claimed (to_z w16 (of_z w16 (get_or l p (pos 0)))) → mag old < 2 ^ hbits w16 → old ≡ v
       → hit ≡ stray k (to_z w16 (of_z w16 old)) → r ≡ not taken && hit → r ≡ not (claimed (get_or l q (pos 0))) && stray k v
   judged-at {r} {taken} {hit} k old {v} t o is s f =
-      let was : taken ≡ claimed (get_or l p (pos 0)) = by_value claimed (record { sfits = h }) t in
+      let was : taken ≡ claimed (get_or l p (pos 0)) = by_value {w = w16} claimed (record { sfits = h }) t in
       let bad : hit ≡ stray k v = by_result w16 (stray k) o is s in
       f ∙ rw (was, bad, e)

@@ -1,6 +1,8 @@
 // A record of a journal as a conversion takes it, document 02's E9: read and judged, and written in the other form.
 //
 // specs/Raw.antt says what both forms have alike; proofs/Readings that a record written in either form is read again.
+#![tactic(auto)]
+
 mod judge;
 mod kinds;
 mod rewrite;

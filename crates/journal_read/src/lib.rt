@@ -1,5 +1,7 @@
 // The parts of a record that lies in the journal, read and checked where they lie: nothing is copied out. The
 // caller knows the record's kind, where it starts and how many changes it has.
+#![tactic(auto)]
+
 mod change;
 mod contents;
 mod kind;

@@ -1,5 +1,6 @@
 // An edit's bytes in the journal: specs/Record.antt has the five kinds in their two forms, and their readings. No code: numbers
 // are read and written by `journal_bytes`, a record is found by `journal_find`.
+#![tactic(auto)]
 
 // A double that was read, or that the bits are no number's.
 #[derive(Clone, Copy)]

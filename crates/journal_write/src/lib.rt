@@ -3,6 +3,8 @@
 //
 // specs/Fit.antt says what a record can hold, specs/List.antt where its list stands; proofs/ReadAgain that what was
 // written is read, from both ends.
+#![tactic(auto)]
+
 mod write;
 
 pub use write::{

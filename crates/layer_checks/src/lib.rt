@@ -1,5 +1,7 @@
 // The checks that both calls on layers begin with: their count, then 1 to 3 of each layer, one layer after the other; and
 // whether a size differs.
+#![tactic(auto)]
+
 ghost use Rattle.std.specs.Prelude.{◌≡◌, ◌%◌, ◌≤◌, length};
 ghost use mathlib.Core.List.{[], flat_map};
 ghost use Rattle.base.specs.Checks.{first_of};

@@ -2,6 +2,8 @@
 //
 // Which entry of which layer is seen at a place is found first, as its slot in one table of all layers' words, 1,024 places
 // at a time: a pass over a layer's indices has no branch and is compiled to vector code. Then a place costs one word.
+#![tactic(auto)]
+
 ghost use Rattle.std.specs.Prelude.{◌≡◌, false, ℕ, ◌+◌, ◌*◌, ◌/◌, ◌<◌, ◌≤◌, length, get_or};
 ghost use mathlib.Core.List.{flat_map};
 ghost use Rattle.base.specs.Lists.{some, range, over};

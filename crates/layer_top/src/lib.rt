@@ -1,4 +1,6 @@
 // One pixel of all layers: the topmost layer that is not -1, written where it changed.
+#![tactic(auto)]
+
 ghost use Rattle.std.specs.Prelude.{◌≡◌, false, not, cond, ◌+◌, ◌*◌, ◌<◌, ◌≤◌, eqb, pos, length};
 ghost use Rattle.std.specs.Int.Signed.{lt_z};
 ghost use Rattle.sheet.specs.Sheet.{stray};

@@ -1,4 +1,6 @@
 // A colour as a word of four bytes, as a buffer of RGBA has it, and a buffer painted pixel by pixel (proofs/Painted).
+#![tactic(auto)]
+
 ghost use Rattle.std.specs.Prelude.{◌≡◌, [], ◌∷◌};
 ghost use Rattle.journal_record.specs.Bytes.{le};
 

@@ -1,4 +1,6 @@
 // How much journal a product needs: document 02, E11.
+#![tactic(auto)]
+
 mod checks;
 mod copying;
 mod needing;

@@ -1,4 +1,6 @@
 // The lines of a text that is held whole: document 02, E11. Where a line ends, and whether one of them is no call.
+#![tactic(auto)]
+
 ghost use Rattle.std.specs.Prelude.{◌≡◌, ◌+◌, ◌≤◌, min, length, drop};
 ghost use Rattle.base.specs.Lists.{some};
 ghost use Rattle.panel_lines.specs.Lines.{lines_of};

@@ -50,8 +50,7 @@ fn marked_no(
     permitted: &[u8],
 ) -> u8
     ensures { let sheet = sheet_of w h k palette.now lab.now indices.now in
-        let locks = locks.entry.now in
-        PaletteJudged (mark_checks locks) (Marked sheet locks) sheet (permitted_of limited permitted.now) result }
+        PaletteJudged (mark_checks locks.now) (Marked sheet locks.now) sheet (permitted_of limited permitted.now) result }
 {
     let no = permitted_no(limited, permitted);
     if no != 0 {

@@ -4,6 +4,7 @@
 //
 // Permitted colours are lent as `limited` and their bytes, three a colour; not limited, the bytes are not
 // looked at.
+#![tactic(auto)]
 
 mod colours;
 

@@ -1,5 +1,6 @@
 // Entries that leave the palette: palette.rs. An entry is removed with its pixels moved to the nearest other
 // entry, or merged into another. A call makes the edit and the list of its changes; it changes no sheet.
+#![tactic(auto)]
 
 mod nearest;
 mod remap;

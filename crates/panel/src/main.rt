@@ -1,6 +1,6 @@
 // Document 01's program: reads frames from standard input, one a line, and prints a line for each.
-use libc::STDIN_FILENO;
+#![tactic(auto)]
 
-fn main() {
-    panel_console::run(STDIN_FILENO);
+fn main(rt: HostRuntime) {
+    panel_console::run(&mut rt.stdin(), &mut rt.stdout());
 }

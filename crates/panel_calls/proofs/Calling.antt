@@ -1,31 +1,34 @@
--- What a frame asks with its changes laid out is what `call_of` says, and the list has room. Assumes nothing.
-use Prim.Native.Nat.{ℕ, ◌≤◌}
-use mathlib.Core.Path.{◌≡◌}
+-- What the calls leave, as the definitions have it. Assumes nothing.
+use Prim.Native.Nat.{ℕ}
+use mathlib.Core.Path.{◌≡◌, ◌∙◌}
+use mathlib.Core.Bool.{Bool}
 use mathlib.Core.List.{List, map}
-use native.Mathlib.Omega.{arith}
-use Rattle.base.specs.declared.Form.TheVariants.{Coordinates}
+use lib.IntN.{ℤ}
+use lib.Ieee.{Float}
+use lib.ListN.{length, take}
+use lib.Seq.{take_at}
+use Rattle.base.specs.Lists.{over}
+use Rattle.base.proofs.Mapped.{map-take}
 use Rattle.edit.specs.Change.{unpacked}
-use Rattle.history_ledger.specs.Journal.{State}
-use Rattle.history_model.specs.Document.{Document}
-use Rattle.panel_frames.specs.Reading.{size_of}
-use Rattle.panel_frames.specs.declared.Frame.{Frame}
-use Rattle.panel_frames.specs.declared.Frame.TheVariants.{Open, Pixels, Set, Add, Merge, Undo, Redo, Mark, Malformed}
-use Rattle.panel_model.specs.Acts.{Roomy, actBy, Brought}
-use Rattle.panel_calls.specs.Panel.{room, call_of}
+use Rattle.base.specs.declared.Handle.{Handle}
+use Rattle.history_ledger.specs.Calls.Call.{mark}
+use Rattle.history_ledger.specs.Journal.{mark_of, step}
+use Rattle.base.specs.declared.Moved.{Moved}
+use Rattle.history_model.specs.Document.{document_of}
+use Rattle.history_model.specs.Editing.{editing}
+use Rattle.history_model.specs.Calls.{state_of, leaves}
+use Rattle.history_model.specs.Calls.{outcome_of}
+use Rattle.panel_frames.specs.Reading.{changes_from}
+use Rattle.panel_frames.proofs.Changes.{length-changes}
+use Rattle.panel_calls.specs.Panel.{room}
 
-pub roomy : (f : Frame) (bytes m list : ℕ) → size_of f ≤ bytes → bytes ≡ 8192 → list ≡ 4096 → m ≤ 4096 → Roomy f m list
-unfolding Roomy size_of
-roomy (Open w h k) bytes m list s b l e = tt
-roomy (Pixels tool n) bytes m list s b l e = omega arith
-roomy (Set i c) bytes m list s b l e = tt
-roomy (Add c) bytes m list s b l e = tt
-roomy (Merge from into) bytes m list s b l e = omega arith
-roomy Undo bytes m list s b l e = tt
-roomy Redo bytes m list s b l e = tt
-roomy Mark bytes m list s b l e = tt
-roomy Malformed bytes m list s b l e = tt
+-- the changes that stand at the front of the list
+pub changes-front : (bs : List ℕ) (n : ℕ) (list₀ list : List ℕ) → map unpacked list ≡ over (changes_from bs 2 n) (map unpacked list₀) → map unpacked (take n list) ≡ changes_from bs 2 n
+unfolding over
+changes-front bs n list₀ list e = map-take unpacked n list ∙ rw e (take_at (changes_from bs 2 n) _ n (length-changes bs 2 n))
 
-pub called : (st : State Document) (f : Frame) (bs list : List ℕ) (places : ℕ) → places ≡ room → Brought f bs list
-    → actBy Coordinates places st f (map unpacked list) ≡ call_of st f bs
-unfolding call_of
-called st f bs list places e b = rw e (b.same Coordinates room st)
+pub leaves-marked : (m : Moved) (w h k : ℕ) (palette : List ℕ) (lab : List Float) (indices : List ℤ) (locks : List Bool) (journal : List ℕ) (handle : Handle)
+    → (outcome_of m.answer m.handle ≡ mark_of (length journal) handle) × (m.k ≡ k)
+    → leaves m w h palette lab indices locks journal ≡ step editing room (state_of (document_of w h k palette lab indices locks) journal handle) mark
+leaves-marked m w h k palette lab indices locks journal handle e i =
+    record { answer = (e.0 i).answer; leaves = state_of (document_of w h (e.1 i) palette lab indices locks) journal (e.0 i).leaves }

@@ -1,5 +1,8 @@
 // A chunk of input answered, and its text written.
+#![tactic(auto)]
+
 ghost use Rattle.std.specs.Prelude.{◌≡◌, true, ◌≤◌, length, take};
+ghost use Rattle.std.specs.Io.KnownBytes.{Appends};
 ghost use Rattle.panel_lines.specs.Lines.{chunkFed, Answered};
 ghost use Rattle.panel_calls.specs.Panel.{step_of};
 ghost use Rattle.panel_open.specs.Memory.{panel_in, Fits};
@@ -7,6 +10,7 @@ ghost use Rattle.panel_input.specs.Chunks.{Holds};
 
 use panel_input::{Turn, pour};
 use panel_streams::send;
+use std::io::Write;
 
 // After a chunk: the turn, how many bytes of text were taken, and whether these were all.
 #[derive(Clone, Copy)]
@@ -18,7 +22,7 @@ pub struct Told {
 
 // Answers a chunk: the text is written whenever it may lack room, and at the chunk's end. A text that cannot be written
 // ends it.
-pub fn answer_chunk(
+pub fn answer_chunk<W: Write>(
     t: Turn,
     palette: &mut [u8],
     lab: &mut [f64],
@@ -30,6 +34,7 @@ pub fn answer_chunk(
     bytes: &mut [u8],
     list: &mut [u64],
     out: &mut [u8],
+    to: &mut W,
 ) -> Told
     requires fits { Fits t.core (length palette.old) (length lab.old) (length indices.old) (length locks.old) (length journal.old)
         (length bytes.old) (length list.old) }
@@ -39,6 +44,9 @@ pub fn answer_chunk(
         (take result.turn.len line.new) result.said (chunkFed step_of
         (panel_in t.core palette.old lab.old indices.old locks.old journal.old)
         (take t.len line.old) chunk.now) }
+    ensures written { result.all ≡ true → Appends (W.contents to.old) (W.contents to.new) (chunkFed step_of
+        (panel_in t.core palette.old lab.old indices.old locks.old journal.old)
+        (take t.len line.old) chunk.now).text }
     ensures fits_2 { Fits result.turn.core (length palette.new) (length lab.new) (length indices.new)
         (length locks.new) (length journal.new) (length bytes.new) (length list.new) }
     ensures holds_2 { Holds result.turn (length line.new) }
@@ -54,7 +62,7 @@ pub fn answer_chunk(
         from = p.next;
         s = p.turn;
         let at = s.at;
-        let sent = send(&out[..at]);
+        let sent = send(to, &out[..at]);
         said += sent.n;
         if sent.n < at {
             return Told {

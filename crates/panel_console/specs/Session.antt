@@ -1,5 +1,6 @@
--- What the loop of reads and writes promises. No contract can say which bytes a call of C reads or writes: what a read brought is what stands in the buffer
--- after it, and of a write it is known how many bytes it took. Definitions only. Assumes nothing.
+-- What the loop of reads and writes promises. No contract can say which bytes a file or a terminal gives or takes: what a read brought is what stands in the
+-- buffer after it, and of a write it is known how many bytes it took. Of a reader and a writer that say which bytes they have, `run` says more (`printed`).
+-- Definitions only. Assumes nothing.
 use Rattle.std.specs.Prelude.{◌≡◌, ℕ, ◌≤◌, true, false, List, length}
 use Rattle.panel_lines.specs.Lines.{lines_of, joined, counted}
 use Rattle.panel_calls.specs.Panel.{panel_of}

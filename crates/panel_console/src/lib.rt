@@ -1,4 +1,6 @@
 // The loop of reads and writes of `panel`.
+#![tactic(auto)]
+
 mod reads;
 
 use panel_input::Turn;

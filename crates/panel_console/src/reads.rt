@@ -1,16 +1,19 @@
 // The loop of reads and writes: what is read is answered, and the text is written.
-ghost use Rattle.std.specs.Prelude.{◌≡◌, true, false, length, take};
-ghost use Rattle.panel_lines.specs.Lines.{chunkFed, Answered, Heard};
-ghost use Rattle.panel_calls.specs.Panel.{step_of};
+ghost use Rattle.std.specs.Prelude.{◌≡◌, true, false, length, take, IfSome};
+ghost use Rattle.std.specs.Io.KnownBytes.{Appends, Consumes, IsAtEnd};
+ghost use Rattle.panel_lines.specs.Lines.{chunkFed, Answered, Heard, lines_of, joined};
+ghost use Rattle.panel_calls.specs.Panel.{step_of, panel_of};
 ghost use Rattle.panel_open.specs.Memory.{panel_in, Fits};
 ghost use Rattle.panel_input.specs.Chunks.{Holds};
+ghost use Rattle.panel_streams.specs.Streams.{Streamed};
 ghost use Rattle.panel_console.specs.Session.{Reads, Closed, Whole};
 
 use crate::{Got, Session};
 use panel_chunk::answer_chunk;
 use panel_ends::{answer_held, begin};
 use panel_input::{GATHERED, HELD, Turn};
-use panel_streams::{goes_on, is_sound, send};
+use panel_streams::{count, goes_on, is_sound, send};
+use std::io::{Read, Write};
 use std::num::wrapping_add_u64;
 
 // Bytes that a read asks for.
@@ -18,7 +21,7 @@ const CHUNK: usize = 4_096;
 
 // Reads once, and answers what came, which stands at the front of `chunk` then. A read that failed for the moment only is
 // made again.
-fn answer_some(
+fn answer_some<R: Read, W: Write>(
     t: Turn,
     palette: &mut [u8],
     lab: &mut [f64],
@@ -30,7 +33,8 @@ fn answer_some(
     bytes: &mut [u8],
     list: &mut [u64],
     out: &mut [u8],
-    input: i32,
+    input: &mut R,
+    output: &mut W,
 ) -> Got
     requires fits { Fits t.core (length palette.old) (length lab.old) (length indices.old) (length locks.old) (length journal.old)
         (length bytes.old) (length list.old) }
@@ -40,16 +44,21 @@ fn answer_some(
         (take result.turn.len line.new) result.said (chunkFed step_of
         (panel_in t.core palette.old lab.old indices.old locks.old journal.old)
         (take t.len line.old) (take result.n chunk.new)) }
+    ensures read { Consumes (R.remaining input.old) (R.remaining input.new) (take result.n chunk.new) }
+    ensures written { result.sound ≡ true → Appends (W.contents output.old) (W.contents output.new) (chunkFed step_of
+        (panel_in t.core palette.old lab.old indices.old locks.old journal.old)
+        (take t.len line.old) (take result.n chunk.new)).text }
+    ensures ended { result.more ≡ false → result.sound ≡ true → IsAtEnd (R.remaining input.new) }
     ensures reads { Reads result }
     ensures fits_2 { Fits result.turn.core (length palette.new) (length lab.new) (length indices.new)
         (length locks.new) (length journal.new) (length bytes.new) (length list.new) }
     ensures holds_2 { Holds result.turn (length line.new) }
 {
-    let got = libc::read(input, chunk);
-    let n = io::count(got, chunk);
+    let got = input.read(chunk);
+    let n = count(&got);
     if n == 0 {
-        let more = goes_on(got);
-        let sound = is_sound(got, more);
+        let more = goes_on(&got);
+        let sound = is_sound(&got, more);
         return Got {
             turn: t,
             n: 0,
@@ -70,6 +79,7 @@ fn answer_some(
         bytes,
         list,
         out,
+        output,
     );
     let turn = told.turn;
     let sound = told.all;
@@ -84,7 +94,7 @@ fn answer_some(
 
 // Reads until a read brings nothing, or a stream fails. A proved loop has to end, and nothing says that an input
 // does: it counts its reads, up to a number that no run reaches.
-fn answer_reads(
+fn answer_reads<R: Read, W: Write>(
     t: Turn,
     palette: &mut [u8],
     lab: &mut [f64],
@@ -96,7 +106,8 @@ fn answer_reads(
     bytes: &mut [u8],
     list: &mut [u64],
     out: &mut [u8],
-    input: i32,
+    input: &mut R,
+    output: &mut W,
 ) -> Session
     requires fits { Fits t.core (length palette.old) (length lab.old) (length indices.old) (length locks.old) (length journal.old)
         (length bytes.old) (length list.old) }
@@ -106,6 +117,13 @@ fn answer_reads(
         (take t.len line.old)
         (panel_in result.turn.core palette.new lab.new indices.new locks.new journal.new)
         (take result.turn.len line.new) result.heard result.said }
+    ensures streamed { result.sound ≡ true → Streamed step_of
+        (panel_in t.core palette.old lab.old indices.old locks.old journal.old)
+        (take t.len line.old)
+        (panel_in result.turn.core palette.new lab.new indices.new locks.new journal.new)
+        (take result.turn.len line.new) result.heard result.said
+        (R.remaining input.old) (R.remaining input.new) (W.contents output.old) (W.contents output.new) }
+    ensures ended { result.more ≡ false → result.sound ≡ true → IsAtEnd (R.remaining input.new) }
     ensures closed { Closed result }
     ensures fits_2 { Fits result.turn.core (length palette.new) (length lab.new) (length indices.new)
         (length locks.new) (length journal.new) (length bytes.new) (length list.new) }
@@ -118,7 +136,7 @@ fn answer_reads(
     let mut last = 0;
     while reads < u64::MAX {
         let g = answer_some(
-            s, palette, lab, indices, locks, journal, line, chunk, bytes, list, out, input,
+            s, palette, lab, indices, locks, journal, line, chunk, bytes, list, out, input, output,
         );
         s = g.turn;
         reads += 1;
@@ -150,7 +168,7 @@ fn answer_reads(
 
 // A session from its beginning: the reads, and the last line, where it has no newline. Where a stream failed nothing more
 // is written, since the held line may be cut.
-fn answer_all(
+fn answer_all<R: Read, W: Write>(
     palette: &mut [u8],
     lab: &mut [f64],
     indices: &mut [i16],
@@ -161,17 +179,20 @@ fn answer_all(
     bytes: &mut [u8],
     list: &mut [u64],
     out: &mut [u8],
-    input: i32,
+    input: &mut R,
+    output: &mut W,
 ) -> Session
     requires palette_len { (length palette.old ≡ 765) × (length lab.old ≡ 765) × (length indices.old ≡ 4096)
         × (length locks.old ≡ 255) × (length journal.old ≡ 4096) × (length line.old ≡ 16385) }
     requires chunk_len { (length chunk.old ≡ 4096) × (length bytes.old ≡ 8192) × (length list.old ≡ 4096)
         × (length out.old ≡ 65536) }
-    ensures { Whole result }
+    ensures whole { Whole result }
+    ensures printed { result.sound ≡ true → result.more ≡ false → IfSome (R.remaining input.old)
+        (λ xs. Appends (W.contents output.old) (W.contents output.new) (joined (panel_of (lines_of xs)))) }
 {
     let t = begin();
     let s = answer_reads(
-        t, palette, lab, indices, locks, journal, line, chunk, bytes, list, out, input,
+        t, palette, lab, indices, locks, journal, line, chunk, bytes, list, out, input, output,
     );
     if !s.sound {
         return s;
@@ -180,7 +201,7 @@ fn answer_all(
     let at = answer_held(
         turn, palette, lab, indices, locks, journal, line, bytes, list, out,
     );
-    let sent = send(&out[..at]);
+    let sent = send(output, &out[..at]);
     let said = wrapping_add_u64(s.said, sent.n as u64);
     Session {
         turn,
@@ -193,9 +214,11 @@ fn answer_all(
     }
 }
 
-// Answers what descriptor `input` reads, to its end, on standard output.
-pub fn run(input: i32) -> Session
-    ensures { Whole result }
+// Answers what `input` reads, to its end, on `output`.
+pub fn run<R: Read, W: Write>(input: &mut R, output: &mut W) -> Session
+    ensures whole { Whole result }
+    ensures printed { result.sound ≡ true → result.more ≡ false → IfSome (R.remaining input.old)
+        (λ xs. Appends (W.contents output.old) (W.contents output.new) (joined (panel_of (lines_of xs)))) }
 {
     let mut palette = [0u8; 765];
     let mut lab = [0.0f64; 765];
@@ -219,5 +242,6 @@ pub fn run(input: i32) -> Session
         &mut list,
         &mut out,
         input,
+        output,
     )
 }

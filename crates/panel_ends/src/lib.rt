@@ -1,4 +1,6 @@
 // The two ends of a session of `panel`: at first nothing is open, and at last a line may be held that no newline ended.
+#![tactic(auto)]
+
 ghost use Rattle.std.specs.Prelude.{◌≡◌, length, take};
 ghost use Rattle.panel_lines.specs.Lines.{lastFed};
 ghost use Rattle.panel_calls.specs.Panel.{step_of};

@@ -2,6 +2,8 @@
 //
 // proofs/Trips.antt, here and in the crate panel_hex, has the laws between the two: what was written is read
 // again.
+#![tactic(auto)]
+
 mod carry;
 mod line;
 mod reading;

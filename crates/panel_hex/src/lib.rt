@@ -1,4 +1,6 @@
 // Hexadecimal digits, in ASCII: read in either case, written in upper case.
+#![tactic(auto)]
+
 ghost use Rattle.std.specs.Prelude.{◌≡◌, map, ◌+◌, ◌*◌, ◌≤◌, ◌<◌, length};
 ghost use Rattle.journal_record.specs.Bytes.{splice};
 ghost use Rattle.panel_hex.specs.Hex.{hex_val, pair_val, upper_digit, hex_byte, unhex_of, hex_of, byte_of};

@@ -1,6 +1,8 @@
 // Input of `panel` in chunks of any size, answered byte by byte.
 //
 // proofs/Printed.antt: input in chunks of any size gives what is printed for its lines.
+#![tactic(auto)]
+
 mod chunk;
 
 pub use chunk::pour;

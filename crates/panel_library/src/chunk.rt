@@ -1,11 +1,13 @@
 // A chunk of input, byte by byte: a line is held until its newline comes, and its text is written then.
 ghost use Rattle.std.specs.Prelude.{◌≡◌, ◌≤◌, true, length, take};
+ghost use Rattle.std.specs.Io.KnownBytes.{Appends};
 ghost use Rattle.panel_lines.specs.Lines.{fed, byteFed, chunkFed, Answered};
 ghost use Rattle.panel_library.specs.Texts.{step_of};
 
 use crate::line::respell;
 use crate::{HELD, Told, Turn};
 use panel_streams::send;
+use std::io::Write;
 
 // What one byte does. Of a line that is too long the later bytes are not kept.
 fn take_byte(len: usize, line: &mut [u8], b: u8, text: &mut [u8]) -> Turn
@@ -26,11 +28,19 @@ fn take_byte(len: usize, line: &mut [u8], b: u8, text: &mut [u8]) -> Turn
 }
 
 // Answers a chunk. A text that cannot be written ends it.
-pub(crate) fn answer_chunk(len: usize, line: &mut [u8], chunk: &[u8], text: &mut [u8]) -> Told
+pub(crate) fn answer_chunk<W: Write>(
+    len: usize,
+    line: &mut [u8],
+    chunk: &[u8],
+    text: &mut [u8],
+    to: &mut W,
+) -> Told
     requires len_bound { (len ≤ 16385) × (length line.old ≡ 16385) × (length text.old ≡ 9735) }
     requires chunk_len_bound { length chunk.now ≤ 4096 }
     ensures answered { result.all ≡ true → Answered tt (take result.len line.new) result.said
         (chunkFed step_of tt (take len line.old) chunk.now) }
+    ensures written { result.all ≡ true → Appends (W.contents to.old) (W.contents to.new)
+        (chunkFed step_of tt (take len line.old) chunk.now).text }
     ensures len_bound_2 { result.len ≤ 16385 }
 {
     let mut held = len;
@@ -41,7 +51,7 @@ pub(crate) fn answer_chunk(len: usize, line: &mut [u8], chunk: &[u8], text: &mut
         held = t.len;
         i += 1;
         let n = t.n;
-        let sent = send(&text[..n]);
+        let sent = send(to, &text[..n]);
         said += sent.n;
         if sent.n < n {
             return Told {

@@ -1,10 +1,10 @@
 // The keepers' program: opening lines on standard input, each in its one spelling on standard output, or its number where
 // it is refused, so that `sort` and `diff` compare libraries.
+#![tactic(auto)]
+
 mod chunk;
 mod line;
 mod reads;
-
-use libc::STDIN_FILENO;
 
 // Bytes of a line that are held: one more than are read, so that a longer line is known, however long.
 const HELD: usize = 16_385;
@@ -52,6 +52,6 @@ struct Run {
     more: bool,
 }
 
-fn main() {
-    reads::run(STDIN_FILENO);
+fn main(rt: HostRuntime) {
+    reads::run(&mut rt.stdin(), &mut rt.stdout());
 }

@@ -1,13 +1,17 @@
 // The loop of reads and writes.
-ghost use Rattle.std.specs.Prelude.{◌≡◌, ◌≤◌, true, false, [], length, take};
-ghost use Rattle.panel_lines.specs.Lines.{chunkFed, lastFed, Answered, Heard};
+ghost use Rattle.std.specs.Prelude.{◌≡◌, ◌≤◌, true, false, [], length, take, IfSome};
+ghost use Rattle.std.specs.Io.KnownBytes.{Appends, Consumes, IsAtEnd};
+ghost use Rattle.panel_lines.specs.Lines.{chunkFed, lastFed, Answered, Heard, lines_of, joined};
+ghost use Rattle.panel_spelling.specs.Library.{library_of};
+ghost use Rattle.panel_streams.specs.Streams.{Streamed};
 ghost use Rattle.panel_library.specs.Texts.{Front, step_of};
 ghost use Rattle.panel_library.specs.Runs.{Reads, Closed, Whole};
 
 use crate::chunk::answer_chunk;
 use crate::line::respell;
 use crate::{Got, HELD, LONGEST, Run};
-use panel_streams::{goes_on, is_sound, send};
+use panel_streams::{count, goes_on, is_sound, send};
+use std::io::{Read, Write};
 use std::num::wrapping_add_u64;
 
 // Bytes that a read asks for.
@@ -15,18 +19,29 @@ const CHUNK: usize = 4_096;
 
 // Reads once, and answers what came, which stands at the front of `chunk` then. A read that failed for the moment only is
 // made again.
-fn answer_some(len: usize, line: &mut [u8], chunk: &mut [u8], text: &mut [u8], input: i32) -> Got
+fn answer_some<R: Read, W: Write>(
+    len: usize,
+    line: &mut [u8],
+    chunk: &mut [u8],
+    text: &mut [u8],
+    input: &mut R,
+    output: &mut W,
+) -> Got
     requires len_bound { (len ≤ 16385) × (length line.old ≡ 16385) × (length text.old ≡ 9735) }
     requires chunk_len { length chunk.old ≡ 4096 }
     ensures answered { result.sound ≡ true → Answered tt (take result.len line.new) result.said
         (chunkFed step_of tt (take len line.old) (take result.n chunk.new)) }
+    ensures read { Consumes (R.remaining input.old) (R.remaining input.new) (take result.n chunk.new) }
+    ensures written { result.sound ≡ true → Appends (W.contents output.old) (W.contents output.new)
+        (chunkFed step_of tt (take len line.old) (take result.n chunk.new)).text }
+    ensures ended { result.more ≡ false → result.sound ≡ true → IsAtEnd (R.remaining input.new) }
     ensures reads { Reads result }
 {
-    let got = libc::read(input, chunk);
-    let n = io::count(got, chunk);
+    let got = input.read(chunk);
+    let n = count(&got);
     if n == 0 {
-        let more = goes_on(got);
-        let sound = is_sound(got, more);
+        let more = goes_on(&got);
+        let sound = is_sound(&got, more);
         return Got {
             len,
             n: 0,
@@ -35,7 +50,7 @@ fn answer_some(len: usize, line: &mut [u8], chunk: &mut [u8], text: &mut [u8], i
             more,
         };
     }
-    let told = answer_chunk(len, line, &chunk[..n], text);
+    let told = answer_chunk(len, line, &chunk[..n], text, output);
     let sound = told.all;
     Got {
         len: told.len,
@@ -48,9 +63,18 @@ fn answer_some(len: usize, line: &mut [u8], chunk: &mut [u8], text: &mut [u8], i
 
 // Reads until a read brings nothing, or a stream fails. A proved loop has to end, and nothing says that an input does: it
 // counts its reads, up to a number that no run reaches.
-fn answer_reads(line: &mut [u8], chunk: &mut [u8], text: &mut [u8], input: i32) -> Run
+fn answer_reads<R: Read, W: Write>(
+    line: &mut [u8],
+    chunk: &mut [u8],
+    text: &mut [u8],
+    input: &mut R,
+    output: &mut W,
+) -> Run
     requires { (length line.old ≡ 16385) × (length text.old ≡ 9735) × (length chunk.old ≡ 4096) }
     ensures heard { result.sound ≡ true → Heard step_of tt [] tt (take result.len line.new) result.heard result.said }
+    ensures streamed { result.sound ≡ true → Streamed step_of tt [] tt (take result.len line.new) result.heard result.said
+        (R.remaining input.old) (R.remaining input.new) (W.contents output.old) (W.contents output.new) }
+    ensures ended { result.more ≡ false → result.sound ≡ true → IsAtEnd (R.remaining input.new) }
     ensures closed { Closed result }
 {
     let mut len = 0;
@@ -59,7 +83,7 @@ fn answer_reads(line: &mut [u8], chunk: &mut [u8], text: &mut [u8], input: i32) 
     let mut said = 0;
     let mut last = 0;
     while reads < u64::MAX {
-        let g = answer_some(len, line, chunk, text, input);
+        let g = answer_some(len, line, chunk, text, input, output);
         len = g.len;
         reads += 1;
         heard = wrapping_add_u64(heard, g.n as u64);
@@ -101,16 +125,24 @@ fn answer_held(len: usize, line: &[u8], text: &mut [u8]) -> usize
 
 // The reads, and the last line, where it has no newline. Where a stream failed nothing more is written, since the held
 // line may be cut.
-fn answer_all(line: &mut [u8], chunk: &mut [u8], text: &mut [u8], input: i32) -> Run
+fn answer_all<R: Read, W: Write>(
+    line: &mut [u8],
+    chunk: &mut [u8],
+    text: &mut [u8],
+    input: &mut R,
+    output: &mut W,
+) -> Run
     requires { (length line.old ≡ 16385) × (length text.old ≡ 9735) × (length chunk.old ≡ 4096) }
-    ensures { Whole result }
+    ensures whole { Whole result }
+    ensures printed { result.sound ≡ true → result.more ≡ false → IfSome (R.remaining input.old)
+        (λ xs. Appends (W.contents output.old) (W.contents output.new) (joined (library_of (lines_of xs)))) }
 {
-    let s = answer_reads(line, chunk, text, input);
+    let s = answer_reads(line, chunk, text, input, output);
     if !s.sound {
         return s;
     }
     let n = answer_held(s.len, line, text);
-    let sent = send(&text[..n]);
+    let sent = send(output, &text[..n]);
     let said = wrapping_add_u64(s.said, sent.n as u64);
     Run {
         len: s.len,
@@ -123,12 +155,14 @@ fn answer_all(line: &mut [u8], chunk: &mut [u8], text: &mut [u8], input: i32) ->
     }
 }
 
-// Answers what descriptor `input` reads, to its end, on standard output.
-pub(crate) fn run(input: i32) -> Run
-    ensures { Whole result }
+// Answers what `input` reads, to its end, on `output`.
+pub(crate) fn run<R: Read, W: Write>(input: &mut R, output: &mut W) -> Run
+    ensures whole { Whole result }
+    ensures printed { result.sound ≡ true → result.more ≡ false → IfSome (R.remaining input.old)
+        (λ xs. Appends (W.contents output.old) (W.contents output.new) (joined (library_of (lines_of xs)))) }
 {
     let mut line = [0u8; HELD];
     let mut chunk = [0u8; CHUNK];
     let mut text = [0u8; LONGEST];
-    answer_all(&mut line, &mut chunk, &mut text, input)
+    answer_all(&mut line, &mut chunk, &mut text, input, output)
 }

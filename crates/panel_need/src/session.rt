@@ -2,10 +2,10 @@
 ghost use Rattle.std.specs.Prelude.{◌≤◌, length};
 
 use base::{BAD_SHEET, Form, Need, Opened};
-use libc::STDOUT_FILENO;
 use need::journal_need;
 use need_lines::{line_end, next_line};
 use panel_read::read_line;
+use std::io;
 
 // The journal that is lent, more than any product has.
 const JOURNAL: usize = 65_536;
@@ -86,24 +86,17 @@ fn need_in(
 }
 
 // Prints a name, and the bytes or the number.
-fn tell(name: &[u8], need: Need) {
-    io::write_all(STDOUT_FILENO, name);
+fn tell(rt: &impl Print, name: &str, need: Need) -> io::Result<()> {
     match need {
-        Need::Bytes { need, k: _ } => {
-            io::print_decimal(STDOUT_FILENO, need as u64);
-        }
-        Need::Refused(no) => {
-            io::write_all(STDOUT_FILENO, b"refused ");
-            io::print_decimal(STDOUT_FILENO, no as u64);
-        }
+        Need::Bytes { need, k: _ } => println!(rt; "{name} {need}"),
+        Need::Refused(no) => println!(rt; "{name} refused {no}"),
     }
-    io::write_all(STDOUT_FILENO, b"\n");
 }
 
 // Answers a session. An empty one has no answer.
-fn answer(session: &[u8]) {
+fn answer(rt: &impl Print, session: &[u8]) -> io::Result<()> {
     if session.len() == 0 {
-        return;
+        return Ok(());
     }
     let end = line_end(session, 0);
     let next = next_line(session, end);
@@ -125,20 +118,21 @@ fn answer(session: &[u8]) {
                 frames,
                 Form::Coordinates,
             );
-            tell(b"coordinates ", old);
+            tell(rt, "coordinates", old)?;
             let new = need_in(w, h, k, &palette, &lab, &indices[..n], frames, Form::Places);
-            tell(b"places ", new);
+            tell(rt, "places", new)
         }
-        Opened::Refused(no) => tell(b"opening ", Need::Refused(no)),
+        Opened::Refused(no) => tell(rt, "opening", Need::Refused(no)),
     }
 }
 
 // Answers the sessions of a text, one after the other.
-pub(crate) fn answer_all(text: &[u8]) {
+pub(crate) fn answer_all(rt: &impl Print, text: &[u8]) -> io::Result<()> {
     let mut at: usize = 0;
     while at < text.len() {
         let end = session_end(text, at);
-        answer(&text[at..end]);
+        answer(rt, &text[at..end])?;
         at = next_line(text, end);
     }
+    Ok(())
 }

@@ -1,4 +1,6 @@
 // Change request E10: a sheet read from its line, as `panel` reads an opening.
+#![tactic(auto)]
+
 mod line;
 mod opening;
 

@@ -4,9 +4,6 @@ use Prim.Native.Nat.{ℕ, zero, suc}
 use mathlib.Core.Path.{◌≡◌, refl, sym, ap, ◌∙◌}
 use mathlib.Core.List.{List, [], ◌∷◌, ◌++◌}
 use mathlib.Core.Option.{some}
-use native.Mathlib.Omega.{arith}
-use lib.Seq.{take_all}
-use Rattle.base.specs.declared.Form.TheVariants.{Coordinates}
 use Rattle.base.specs.Checks.{first_of, refused_or}
 use Rattle.palette_model.specs.Removal.{merge_checks}
 use Rattle.history_ledger.specs.Calls.{Outcome, Played, play, lend}
@@ -14,26 +11,24 @@ use Rattle.history_ledger.specs.Journal.{State, step, stepLent}
 use Rattle.history_ledger.proofs.Scratch.{one-room}
 use Rattle.history_model.specs.Document.{Document}
 use Rattle.history_model.specs.Editing.{editing}
-use Rattle.panel_frames.specs.Reading.{frame_of, changes_from}
-use Rattle.panel_frames.proofs.Changes.{length-changes}
+use Rattle.panel_frames.specs.Reading.{frame_of}
 use Rattle.panel_frames.specs.declared.Frame.{Frame}
 use Rattle.panel_frames.specs.declared.Frame.TheVariants.{Open, Pixels, Set, Add, Merge, Undo, Redo, Mark, Malformed}
-use Rattle.panel_model.specs.Acts.{mergedBy, changes_in, actBy}
-use Rattle.panel_calls.specs.Panel.{room, call_of, shown, act_of, step_of}
+use Rattle.panel_calls.specs.Panel.{room, merged_of, call_of, shown, act_of, step_of}
 use Rattle.panel_session.specs.Played.{asked, asked_by, calls_of, after}
 
-merge-played : (st : State Document) (from into : ℕ) (bs : List ℕ) → (mergedBy Coordinates room st from into).leaves ≡ (play (step editing room) st (asked st (Merge from into) bs)).ends
-unfolding mergedBy asked refused_or play
+merge-played : (st : State Document) (from into : ℕ) (bs : List ℕ) → (merged_of st from into).leaves ≡ (play (step editing room) st (asked st (Merge from into) bs)).ends
+unfolding merged_of asked refused_or play
 merge-played st from into bs = by (first_of (merge_checks st.sheet.sheet st.sheet.locks from into)) refl
   where
-    by : (v : ℕ) → first_of (merge_checks st.sheet.sheet st.sheet.locks from into) ≡ v → (mergedBy Coordinates room st from into).leaves ≡ (play (step editing room) st (asked st (Merge from into) bs)).ends
+    by : (v : ℕ) → first_of (merge_checks st.sheet.sheet st.sheet.locks from into) ≡ v → (merged_of st from into).leaves ≡ (play (step editing room) st (asked st (Merge from into) bs)).ends
     by zero e = rw e
     by (suc v) e = rw e
 
 call_played : (st : State Document) (f : Frame) (bs : List ℕ) → (call_of st f bs).leaves ≡ (play (step editing room) st (asked st f bs)).ends
-unfolding call_of actBy changes_in asked play
+unfolding call_of asked play
 call_played st (Open w h k) bs = refl
-call_played st (Pixels tool n) bs = rw (take_all n (changes_from bs 2 n) (omega (arith, length-changes bs 2 n)))
+call_played st (Pixels tool n) bs = refl
 call_played st (Set i c) bs = refl
 call_played st (Add c) bs = refl
 call_played st (Merge from into) bs = merge-played st from into bs

@@ -1,5 +1,5 @@
 -- From calls to what a line does. Assumes nothing.
-use Prim.Native.Nat.{ℕ, ◌*◌, ◌≤◌}
+use Prim.Native.Nat.{ℕ, zero, suc, ◌+◌, ◌*◌, ◌≤◌}
 use mathlib.Core.Path.{◌≡◌, refl, ap, ◌∙◌}
 use mathlib.Core.Bool.{Bool, true, false}
 use mathlib.Core.List.{List, [], ◌∷◌, ◌++◌}
@@ -9,25 +9,20 @@ use borrow.Author.Tests.{ne_eqb}
 use lib.IntN.{ℤ}
 use lib.Ieee.{Float}
 use lib.ListN.{length, take, drop, length-append, length-drop}
-use lib.Seq.{take_at, length-take-le}
-use types.Run.{OneOf}
-use denote.Enum.Declared.{tag_of}
+use lib.Seq.{take_at, length-take-le, get_or-take}
 use Rattle.base.specs.Answer.{number_of}
-use Rattle.base.specs.declared.Form.TheVariants.{Coordinates}
 use Rattle.base.specs.declared.Moved.{Moved}
-use Rattle.edit.specs.Change.{Change}
 use Rattle.history_model.specs.Document.{document_of}
 use Rattle.history_model.specs.Calls.{state_of, leaves}
 use Rattle.history_ledger.specs.Handle.{dirty}
-use Rattle.panel_frames.specs.Reading.{told, size_of, frame_of}
+use Rattle.panel_frames.specs.Reading.{told, size_of, frame_of, change_at, changes_from}
 use Rattle.panel_frames.specs.Writing.{line_of, number_line}
 use Rattle.panel_frames.specs.declared.Frame.{Frame}
-use Rattle.panel_frames.specs.contracts.Frame.{the_type}
-use Rattle.panel_frames.proofs.Opens.{sheet-take, sheet-other}
+use Rattle.panel_frames.specs.declared.Frame.TheVariants.{Open, Pixels, Set, Add, Merge, Undo, Redo, Mark, Malformed}
+use Rattle.panel_frames.specs.Opening.{sheet_in}
+use Rattle.panel_frames.proofs.Opens.{sheet-take}
 use Rattle.panel_lines.specs.Lines.{Said, said}
-use Rattle.panel_model.specs.Acts.{actBy}
-use Rattle.panel_model.proofs.Bringing.{brought-take}
-use Rattle.panel_calls.specs.Panel.{Panel, room, call_of, whole_line, shown, opens_as, unopened_of, act_of, step_of}
+use Rattle.panel_calls.specs.Panel.{Panel, call_of, whole_line, shown, opens_as, unopened_of, act_of, step_of}
 use Rattle.panel_open.specs.declared.Core.{Core}
 use Rattle.panel_open.specs.Memory.{panel_in, Fits}
 use Rattle.panel_open.proofs.Texts.{shut}
@@ -74,11 +69,36 @@ module _ (part indices : List ℤ) (n : ℕ) (room : n ≤ length indices) (same
 
 -- ---- a line, by its frame
 
+change-take : (l : List ℕ) (m i : ℕ) → i + 6 ≤ m → change_at (take m l) i ≡ change_at l i
+unfolding change_at
+change-take l m i h =
+    rw (
+      get_or-take m l i 0 (omega arith),
+      get_or-take m l (i + 1) 0 (omega arith),
+      get_or-take m l (i + 2) 0 (omega arith),
+      get_or-take m l (i + 2 + 1) 0 (omega arith),
+      get_or-take m l (i + 4) 0 (omega arith),
+      get_or-take m l (i + 4 + 1) 0 (omega arith),
+    )
+
+changes-take : (l : List ℕ) (m n i : ℕ) → i + 6 * n ≤ m → changes_from (take m l) i n ≡ changes_from l i n
+unfolding changes_from
+changes-take l m zero i h = refl
+changes-take l m (suc n) i h = rw (change-take l m i (omega arith), changes-take l m n (i + 6) (omega arith))
+
 -- only a frame's own bytes matter
 act-take : (p : Panel) (f : Frame) (l : List ℕ) → act_of p f (take (size_of f) l) ≡ act_of p f l
-unfolding act_of unopened_of call_of
+unfolding act_of unopened_of call_of size_of
 act-take none f l = ap opens_as (sheet-take [] f l)
-act-take (some st) f l = ap (λ (cs : List Change). shown (actBy Coordinates room st f cs)) (brought-take f l)
+act-take (some st) (Open w h k) l = refl
+act-take (some st) (Pixels tool n) l = rw (changes-take l (2 + 6 * n) n 2 (omega arith))
+act-take (some st) (Set i c) l = refl
+act-take (some st) (Add c) l = refl
+act-take (some st) (Merge from into) l = refl
+act-take (some st) Undo l = refl
+act-take (some st) Redo l = refl
+act-take (some st) Mark l = refl
+act-take (some st) Malformed l = refl
 
 pub step_by : (p : Panel) (line : List ℕ) (f : Frame) (l : List ℕ) → told f l ≡ frame_of line → step_of p line ≡ act_of p f l
 unfolding step_of
@@ -90,9 +110,17 @@ pub act-shut : (core : Core) (palette : List ℕ) (lab : List Float) (indices : 
 unfolding act_of
 act-shut core palette lab indices locks journal f bs e = rw (shut core palette lab indices locks journal e)
 
-pub unopened-call : (f : Frame) (bs : List ℕ) → OneOf (1 ∷ 2 ∷ 3 ∷ 4 ∷ 5 ∷ 6 ∷ 7 ∷ 8 ∷ []) (tag_of the_type f) → unopened_of f bs ≡ said none (number_line 22)
-unfolding unopened_of opens_as
-unopened-call f bs o = rw (sheet-other [] f bs o)
+pub unopened-call : (f : Frame) (bs : List ℕ) → ((w h k : ℕ) → f ≡ Open w h k → ⊥) → unopened_of f bs ≡ said none (number_line 22)
+unfolding unopened_of opens_as sheet_in
+unopened-call (Open w h k) bs o = absurd (o w h k refl)
+unopened-call (Pixels tool n) bs o = refl
+unopened-call (Set i c) bs o = refl
+unopened-call (Add c) bs o = refl
+unopened-call (Merge from into) bs o = refl
+unopened-call Undo bs o = refl
+unopened-call Redo bs o = refl
+unopened-call Mark bs o = refl
+unopened-call Malformed bs o = refl
 
 -- buffers keep their lengths
 pub refits : {core core' : Core} {p l i m j b s p' l' i' m' j' b' s' : ℕ} → Fits core p l i m j b s → core'.w * core'.h ≤ 4096

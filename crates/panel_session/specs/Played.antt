@@ -15,8 +15,7 @@ use Rattle.history_model.specs.Editing.{Given, given_of, editing}
 use Rattle.panel_frames.specs.Reading.{frame_of, changes_from}
 use Rattle.panel_frames.specs.declared.Frame.{Frame}
 use Rattle.panel_frames.specs.declared.Frame.TheVariants.{Open, Pixels, Set, Add, Merge, Undo, Redo, Mark, Malformed}
-use Rattle.panel_model.specs.Acts.{given}
-use Rattle.panel_calls.specs.Panel.{Panel, room, step_of}
+use Rattle.panel_calls.specs.Panel.{Panel, room, given, step_of}
 
 -- what a frame asks of the history over the state that it meets: one call, or none where 22 or 18 refuses it
 unfoldable pub asked : State Document → Frame → List ℕ → List (Call Given)

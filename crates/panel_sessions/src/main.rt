@@ -6,22 +6,22 @@
 // largest    the largest sheet, 64 by 64, with 255 entries.
 // merge      merges whose record fits a fresh journal, 507 pixels, and does not, 508; 18 before 14.
 // smallest   the smallest sheet: a side of 0, and no entry.
+#![tactic(auto)]
+
+use std::rt::Files;
+use std::{fs, io};
 
 // Answers the file of that name.
-fn answer(name: &[u8]) {
-    let input = os::open_read(name);
-    if input < 0 {
-        os::fail(name);
-        return;
-    }
-    panel_console::run(input);
-    libc::close(input);
+fn answer<R: Files + Print>(rt: &R, name: &str) -> io::Result<()> {
+    let mut input = fs::open(rt, name)?;
+    panel_console::run(&mut input, &mut io::writer(rt));
+    Ok(())
 }
 
-fn main() {
-    answer(b"lines");
-    answer(b"full");
-    answer(b"largest");
-    answer(b"merge");
-    answer(b"smallest");
+fn main(rt: HostRuntime) -> io::Result<()> {
+    answer(&rt, "lines")?;
+    answer(&rt, "full")?;
+    answer(&rt, "largest")?;
+    answer(&rt, "merge")?;
+    answer(&rt, "smallest")
 }

@@ -2,6 +2,8 @@
 //
 // Crate panel_spelling has the theorems: two sheets have equal lines exactly when their parts are equal, and reading the
 // line gives them back.
+#![tactic(auto)]
+
 ghost use Rattle.std.specs.Prelude.{◌≡◌, ◌∷◌, [], ◌++◌, ◌+◌, ◌*◌, ◌≤◌, length, take};
 ghost use Rattle.base.specs.Lists.{over};
 ghost use Rattle.base.specs.Answer.{filled};

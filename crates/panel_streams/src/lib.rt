@@ -1,8 +1,14 @@
 // Standard input and output of `panel`: what the answer of a read or a write means, and a text written to its end.
-ghost use Rattle.std.specs.Prelude.{◌≡◌, true, false, ◌+◌, ◌≤◌, pos, length};
-ghost use Rattle.panel_streams.specs.Sends.{Sends};
+#![tactic(auto)]
 
-use libc::{EAGAIN, EINTR, STDOUT_FILENO};
+ghost use Rattle.std.specs.Prelude.{◌≡◌, true, false, ◌+◌, ◌≤◌, length, take, drop, Ok, IfOk, IfErr, ◌<◌, ◌↔◌, ◌⊎◌};
+ghost use Rattle.std.specs.IoError.{error_kind};
+ghost use Rattle.std.specs.Io.KnownBytes.{Appends};
+ghost use Rattle.panel_streams.specs.Sends.{Sends, moved};
+
+use std::io;
+use std::io::{ErrorKind, Write};
+use std::thread::yield_now;
 
 // What was written: how many bytes were taken, by how many calls of write, and whether to go on.
 #[derive(Clone, Copy)]
@@ -14,49 +20,63 @@ pub struct Sent {
 
 // Whether to call again after a read or a write that answered `got`: it moved something, or failed for the moment only,
 // since a signal came first or a stream that does not block was not ready. Then others get their turn first.
-pub fn goes_on(got: isize) -> bool
-    ensures { got ≡ pos 0 → result ≡ false }
+pub fn goes_on(got: &io::Result<usize>) -> bool
+    ensures nothing { got.now ≡ Ok 0 → result ≡ false }
+    ensures moved { IfOk got.now (λ n. 0 < n → result ≡ true) }
+    ensures failed { IfErr got.now (λ e. (result ≡ true) ↔ ((error_kind e ≡ ErrorKind.Interrupted) ⊎ (error_kind e ≡ ErrorKind.WouldBlock))) }
 {
-    if got == 0 {
-        return false;
-    }
-    if got > 0 {
+    let error = match got {
+        Ok(n) => return 0 < *n,
+        Err(e) => e.kind(),
+    };
+    if error == ErrorKind::WouldBlock {
+        yield_now();
         return true;
     }
-    let error = os::errno();
-    if error == EAGAIN {
-        libc::sched_yield();
-        return true;
-    }
-    error == EINTR
+    error == ErrorKind::Interrupted
 }
 
 // Whether a read that brought nothing did not fail: it is to be made again, or the input has ended.
-pub fn is_sound(got: isize, more: bool) -> bool
+pub fn is_sound(got: &io::Result<usize>, more: bool) -> bool
     ensures value { more ≡ true → result ≡ true }
-    ensures got_value { more ≡ false → result ≡ true → got ≡ pos 0 }
+    ensures got_value { more ≡ false → result ≡ true → got.now ≡ Ok 0 }
+    ensures ended { got.now ≡ Ok 0 → result ≡ true }
 {
     if more {
         return true;
     }
-    got == 0
+    matches!(got, Ok(0))
+}
+
+// How many bytes a read or a write moved: none where it failed.
+pub fn count(got: &io::Result<usize>) -> usize
+    ensures { result ≡ moved got.now }
+{
+    match got {
+        Ok(n) => *n,
+        Err(_) => 0,
+    }
 }
 
 // One write of the text's bytes from `from` on.
-fn send_some(text: &[u8], from: usize) -> Sent
+fn send_some<W: Write>(to: &mut W, text: &[u8], from: usize) -> Sent
     requires { from ≤ length text.now }
-    ensures { from + result.n ≤ length text.now }
+    ensures bound { from + result.n ≤ length text.now }
+    ensures bytes { Appends (W.contents to.old) (W.contents to.new) (take result.n (drop from text.now)) }
 {
     let rest = &text[from..];
-    let got = libc::write(STDOUT_FILENO, rest);
-    let n = io::count(got, rest);
-    let more = goes_on(got);
+    let got = to.write(rest);
+    let n = count(&got);
+    let more = goes_on(&got);
     Sent { n, calls: 1, more }
 }
 
 // Writes the text, to its end or until a write fails for good.
-pub fn send(text: &[u8]) -> Sent
-    ensures { Sends result (length text.now) }
+#[tactic(auto, using(crate::proofs::Written::none_written, crate::proofs::Written::more_written))]
+pub fn send<W: Write>(to: &mut W, text: &[u8]) -> Sent
+    ensures sends { Sends result (length text.now) }
+    ensures tried { result.more ≡ false → 0 < result.calls }
+    ensures bytes { Appends (W.contents to.old) (W.contents to.new) (take result.n text.now) }
 {
     let mut n = 0;
     let mut calls = 0;
@@ -64,7 +84,7 @@ pub fn send(text: &[u8]) -> Sent
         if n == text.len() {
             break;
         }
-        let s = send_some(text, n);
+        let s = send_some(to, text, n);
         n += s.n;
         calls += 1;
         if !s.more {

@@ -2,13 +2,15 @@
 // may lie anywhere; a call that is given an image's size asks that it lies inside.
 //
 // Each axis is worked out by itself, as a span of places (crate selection_spans), and two spans make a rectangle.
+#![tactic(auto)]
+
 ghost use Rattle.std.specs.Prelude.{◌≡◌, cond, ◌||◌, ◌<◌, eqb};
 ghost use Rattle.selection.specs.Selection.{inside, rectangle, contains};
 ghost use Rattle.selection.specs.Calls.{chosen_told, chosen_number, held_told, held_number, shifted_number, too_large};
 ghost use Rattle.selection.specs.Calls.{far_away, all_of, from_corners_of, contains_iof, translated_of, grown_of, positions_of, region_of};
 ghost use Rattle.std.proofs.Math.Option.{none, some};
 ghost use Rattle.base.specs.Answer.{filled};
-ghost use Rattle.base.specs.Answer.Told.{result};
+ghost use Rattle.base.specs.Answer.Told.{result as told};
 ghost use Rattle.selection.specs.Asked.{Narrow};
 
 use base::{
@@ -54,7 +56,7 @@ pub enum Held {
 impl Chosen {
     // The number as document 01 has it: a refusal's own, else 0.
     pub fn number(self) -> u8
-        ensures* { λ r. ⌜ r ≡ chosen_number self ⌝ }
+        ensures { result ≡ chosen_number self }
     {
         match self {
             Chosen::Part(_) => 0,
@@ -66,7 +68,7 @@ impl Chosen {
 
 impl Held {
     pub fn number(self) -> u8
-        ensures* { λ r. ⌜ r ≡ held_number self ⌝ }
+        ensures { result ≡ held_number self }
     {
         match self {
             Held::Inside => 0,
@@ -79,7 +81,7 @@ impl Held {
 impl Selection {
     // The whole image. A side over the limit is 1, here and in each call that is given an image's size.
     pub fn all(width: usize, height: usize) -> Chosen
-        ensures* { λ r. ⌜ chosen_told r ≡ all_of width height ⌝ }
+        ensures { chosen_told result ≡ all_of width height }
     {
         if too_large(width, height) {
             return Chosen::Refused(BAD_SHEET);
@@ -95,7 +97,7 @@ impl Selection {
     // The rectangle between two positions (both included, in any order), clipped to the image; nothing
     // where none of it is inside. A coordinate past the limit is 15.
     pub fn from_corners(ax: i32, ay: i32, bx: i32, by: i32, width: usize, height: usize) -> Chosen
-        ensures* { λ r. ⌜ chosen_told r ≡ from_corners_of ax ay bx by width height ⌝ }
+        ensures { chosen_told result ≡ from_corners_of ax ay bx by width height }
     {
         if too_large(width, height) {
             return Chosen::Refused(BAD_SHEET);
@@ -111,14 +113,14 @@ impl Selection {
 
     // Whether (x, y) is inside. This call refuses nothing.
     pub fn contains(self, x: usize, y: usize) -> bool
-        ensures* { λ r. ⌜ r ≡ contains self x y ⌝ }
+        ensures { result ≡ contains self x y }
     {
         in_span(self.x, self.w, x) && in_span(self.y, self.h, y)
     }
 
     // Whether a pointer position (possibly negative) is inside. A coordinate past the limit is 15.
     pub fn contains_i(self, x: i32, y: i32) -> Held
-        ensures* { λ r. ⌜ held_told r ≡ contains_iof self x y ⌝ }
+        ensures { held_told result ≡ contains_iof self x y }
     {
         if far_away(x, y) {
             return Held::Refused(TOO_FAR);
@@ -139,7 +141,7 @@ impl Selection {
     // no width or no height comes back two places wide or high, as from the Rust. A shift past the
     // limit is 15, a selection that is not inside 5.
     pub fn translated(self, dx: i32, dy: i32, width: usize, height: usize) -> Chosen
-        ensures* { λ r. ⌜ chosen_told r ≡ translated_of self dx dy width height ⌝ }
+        ensures { chosen_told result ≡ translated_of self dx dy width height }
     {
         if too_large(width, height) {
             return Chosen::Refused(BAD_SHEET);
@@ -159,7 +161,7 @@ impl Selection {
     // The rectangle grown by margin on every side, clipped to the image. A margin past the limit is 15, a
     // selection that is not inside 5.
     pub fn grown(self, margin: usize, width: usize, height: usize) -> Chosen
-        ensures* { λ r. ⌜ chosen_told r ≡ grown_of self margin width height ⌝ }
+        ensures { chosen_told result ≡ grown_of self margin width height }
     {
         if too_large(width, height) {
             return Chosen::Refused(BAD_SHEET);
@@ -179,7 +181,7 @@ impl Selection {
     // Every position inside, row by row, as x then y. What lies past them keeps its bits, and so does all
     // of out where it has no room for them: 16.
     pub fn positions(self, out: &mut [i32]) -> Counted
-        ensures* { λ r. ⌜ filled r out.new ≡ positions_of self out.old ⌝ }
+        ensures { filled result out.new ≡ positions_of self out.old }
     {
         let count = self.w as usize * self.h as usize;
         if out.len() / 2 < count {
@@ -191,7 +193,7 @@ impl Selection {
 
     // Number 5 asks this: the image has all of the selection. One of no width or height may lie on the edge.
     fn inside(self, width: usize, height: usize) -> bool
-        ensures* { λ r. ⌜ r ≡ inside self width height ⌝ }
+        ensures { result ≡ inside self width height }
     {
         let right = self.x as usize + self.w as usize;
         let bottom = self.y as usize + self.h as usize;
@@ -201,7 +203,7 @@ impl Selection {
 
 // The region a tool works in: the selection, or the whole image. A selection that is not inside is 5.
 pub fn region(selection: Area, width: usize, height: usize) -> Chosen
-    ensures* { λ r. ⌜ chosen_told r ≡ region_of selection width height ⌝ }
+    ensures { chosen_told result ≡ region_of selection width height }
 {
     match selection {
         Area::Whole => Selection::all(width, height),
@@ -219,14 +221,14 @@ pub fn region(selection: Area, width: usize, height: usize) -> Chosen
 
 // Number 1: a side over the limit.
 fn too_large(width: usize, height: usize) -> bool
-    ensures* { λ r. ⌜ r ≡ too_large width height ⌝ }
+    ensures { result ≡ too_large width height }
 {
     MAX_SIDE < width || MAX_SIDE < height
 }
 
 // Number 15 of a position or a shift.
 fn far_away(x: i32, y: i32) -> bool
-    ensures* { λ r. ⌜ r ≡ far_away x y ⌝ }
+    ensures { result ≡ far_away x y }
 {
     is_far(x) || is_far(y)
 }
@@ -234,7 +236,7 @@ fn far_away(x: i32, y: i32) -> bool
 // The rectangle that takes these places of its two axes.
 fn rectangle(x: Span, y: Span) -> Selection
     requires { Narrow x × Narrow y }
-    ensures* { λ r. ⌜ r ≡ rectangle x y ⌝ }
+    ensures { result ≡ rectangle x y }
 {
     Selection {
         x: x.start as u16,
@@ -247,7 +249,7 @@ fn rectangle(x: Span, y: Span) -> Selection
 // The same, or nothing where an axis has no place of it.
 fn clip(x: Span, y: Span) -> Chosen
     requires { (0 < x.count → Narrow x) × (0 < y.count → Narrow y) }
-    ensures* { λ r. ⌜ chosen_told r ≡ result (cond (eqb x.count 0 || eqb y.count 0) none (some (rectangle x y))) ⌝ }
+    ensures { chosen_told result ≡ told (cond (eqb x.count 0 || eqb y.count 0) none (some (rectangle x y))) }
 {
     if x.count == 0 {
         return Chosen::Nothing;
@@ -269,7 +271,7 @@ pub enum Shifted {
 impl Shifted {
     // The number as document 01 has it: a refusal's own, else 0.
     pub fn number(self) -> u8
-        ensures* { λ r. ⌜ r ≡ shifted_number self ⌝ }
+        ensures { result ≡ shifted_number self }
     {
         match self {
             Shifted::Changes {

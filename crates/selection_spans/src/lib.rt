@@ -1,4 +1,6 @@
 // One axis of a rectangle in pixel coordinates, as a span of places; and the positions of a rectangle, row by row.
+#![tactic(auto)]
+
 ghost use Rattle.std.specs.Prelude.{◌≡◌, false, ◌*◌, ◌≤◌, length};
 ghost use Rattle.base.specs.Lists.{over};
 ghost use Rattle.base.specs.Ints.{far};

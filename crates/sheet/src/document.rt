@@ -1,7 +1,7 @@
 // `with_lab`, `new` and `get_at` of document.rs.
 ghost use Rattle.std.specs.Prelude.{◌≡◌, ◌*◌, ◌≤◌, length};
 ghost use Rattle.base.specs.Answer.{got_told};
-ghost use Rattle.base.specs.Answer.Told.{result};
+ghost use Rattle.base.specs.Answer.Told.{result as told};
 ghost use Rattle.sheet.specs.Sheet.{sheet_of};
 ghost use Rattle.sheet.specs.Document.{opened, with_lab_of, new_made, new_of, index_at, get_at_of};
 
@@ -21,10 +21,10 @@ pub fn with_lab(
     indices: &[i16],
     locks: &mut [bool],
 ) -> Answer
-    ensures* { λ r. ⌜ (
+    ensures { (
         let sheet = sheet_of w h k palette.now lab.now indices.now in
-        opened r locks.new ≡ with_lab_of sheet locks.old
-        ) ⌝ }
+        opened result locks.new ≡ with_lab_of sheet locks.old
+        ) }
 {
     let no = check_marked(w, h, k, palette, lab, indices, locks);
     if no != 0 {
@@ -45,10 +45,10 @@ pub fn new(
     indices: &[i16],
     locks: &mut [bool],
 ) -> Answer
-    ensures* { λ r. ⌜ (
+    ensures { (
         let sheet = sheet_of w h k palette.now lab.old indices.now in
-        new_made r lab.new locks.new ≡ new_of sheet locks.old
-        ) ⌝ }
+        new_made result lab.new locks.new ≡ new_of sheet locks.old
+        ) }
 {
     let no = limits_no(w, h, k, palette, lab, indices);
     if no != 0 {
@@ -68,7 +68,7 @@ pub fn new(
 // The index at a position, or that it is outside the image.
 fn index_at(w: usize, h: usize, indices: &[i16], x: i32, y: i32) -> Got
     requires { (length indices.now ≡ w * h) × (w * h ≤ 1048576) }
-    ensures* { λ r. ⌜ got_told r ≡ result (index_at w h indices.now x y) ⌝ }
+    ensures { got_told result ≡ told (index_at w h indices.now x y) }
 {
     let column = on_axis(x, w);
     let row = on_axis(y, h);
@@ -91,10 +91,10 @@ pub fn get_at(
     x: i32,
     y: i32,
 ) -> Got
-    ensures* { λ r. ⌜ (
+    ensures { (
         let sheet = sheet_of w h k palette.now lab.now indices.now in
-        got_told r ≡ get_at_of sheet x y
-        ) ⌝ }
+        got_told result ≡ get_at_of sheet x y
+        ) }
 {
     let no = check(w, h, k, palette, lab, indices);
     if no != 0 {

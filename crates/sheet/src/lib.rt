@@ -3,6 +3,8 @@
 //
 // A sheet is lent as its size, its palette count and three slices: palette storage, LAB storage and the
 // indices in rows. A call that looks at the entries' lock marks or writes them is lent these, too: 255 of them.
+#![tactic(auto)]
+
 mod checks;
 mod document;
 mod labs;

@@ -1,4 +1,6 @@
 // Pixels per palette entry: `counts` of document.rs.
+#![tactic(auto)]
+
 mod counting;
 
 pub use counting::counts;

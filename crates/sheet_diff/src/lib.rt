@@ -1,4 +1,6 @@
 // Which pixels show another colour than a baseline: `diff_mask` of document.rs.
+#![tactic(auto)]
+
 mod diff;
 mod masking;
 

@@ -1,4 +1,2 @@
 pub mod Loops
-pub mod While
-pub mod Lending
 pub mod Packing

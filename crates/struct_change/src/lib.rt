@@ -1,5 +1,7 @@
 // A change as makers hold it: a struct of four fields. The calls over lent slices of them stand in the crates
 // above; here is what they do with one, and with a slice.
+#![tactic(auto)]
+
 mod slices;
 
 ghost use Rattle.std.specs.Prelude.{◌≡◌};

@@ -4,6 +4,8 @@
 // there.
 //
 // The scratch is lent as numbers, a place a pixel; what it holds after a call is free.
+#![tactic(auto)]
+
 ghost use Rattle.std.specs.Prelude.{◌≡◌, map, length};
 ghost use Rattle.sheet.specs.Sheet.{sheet_of};
 ghost use Rattle.tool_line.specs.Line.{point};

@@ -1,5 +1,7 @@
 // The loops over a lent slice of change structs: an edit's list checked, written and painted in place. Each hands its
 // changes one by one to a function over one change. The list of an edit that a check refused is not gone through.
+#![tactic(auto)]
+
 ghost use Rattle.std.specs.Prelude.{◌≡◌, [], ◌∷◌, ◌+◌, ◌-◌, ◌<◌, ◌≤◌, length};
 ghost use Rattle.base.specs.Checks.{first_of};
 ghost use Rattle.edit.specs.Change.{unpacked};

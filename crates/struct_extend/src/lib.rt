@@ -3,6 +3,8 @@
 // stand for.
 //
 // Three buffers of numbers are lent as scratch; what they hold after the call is free.
+#![tactic(auto)]
+
 mod strokes;
 
 pub use strokes::extend;

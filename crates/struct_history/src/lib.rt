@@ -2,6 +2,8 @@
 // slice of structs, read where it lies. The contract of each is the equation of the call of the same name that takes
 // them by value: `undo`, `redo` and `mark_saved` are thin over that call; `push` and `replay` go through their list
 // by themselves, with the steps before and after it beside.
+#![tactic(auto)]
+
 mod moving;
 
 pub use moving::{mark_saved, redo, undo};

@@ -3,6 +3,8 @@
 // is a buffer for those numbers.
 //
 // Two buffers of numbers are lent as scratch; what they hold after the call is free.
+#![tactic(auto)]
+
 mod packed;
 
 ghost use Rattle.std.specs.Prelude.{◌≡◌, map, length};

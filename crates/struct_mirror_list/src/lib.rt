@@ -1,5 +1,7 @@
 // What `mirror_tiles` leaves of a list that is packed into a buffer of numbers where it is touched: the list with its
 // copies, in the scratch, or the list as it is. `struct_mirror` has the call.
+#![tactic(auto)]
+
 ghost use Rattle.std.specs.Prelude.{◌≡◌, true, List, ℕ, ◌*◌, ◌≤◌, length, take};
 ghost use Rattle.base.specs.Answer.{filled};
 ghost use Rattle.change_list.specs.Listed.{handed};

@@ -1,4 +1,6 @@
 // `move_selection` of tools.rs as makers hold it, as `struct_draw` has the drawing tools.
+#![tactic(auto)]
+
 ghost use Rattle.std.specs.Prelude.{◌≡◌, map, length};
 ghost use Rattle.sheet.specs.Sheet.{sheet_of};
 ghost use Rattle.struct_change.specs.Struct.{packed_of};

@@ -1,5 +1,7 @@
 // The checks of `push` over a list of change structs, which is read where it lies: the number of the first that
 // applies.
+#![tactic(auto)]
+
 ghost use Rattle.std.specs.Prelude.{length};
 ghost use Rattle.struct_edit.specs.Walk.{packed_all};
 ghost use Rattle.color_curve.specs.Curve.{curve_of};

@@ -3,6 +3,8 @@
 // definition at the numbers that the structs stand for.
 //
 // Two buffers of numbers are lent as scratch, three to `extend`; what they hold after a call is free.
+#![tactic(auto)]
+
 mod op;
 
 pub use op::{normalize, pixels};

@@ -1,5 +1,7 @@
 // What a call answered, told by a number and a fingerprint: 0 and the answer's own numbers, 255 for "still", nothing or
 // outside, else the refusal's own. A place that an answer leaves free is 7777, of bytes 0x5a, of doubles 1.5.
+#![tactic(auto)]
+
 use base::{
     Choices, Copied, Counted, Edit, Extraction, Found, Got, MadeEdit, MadeOp, Next, Removal,
     Removed, Truth,

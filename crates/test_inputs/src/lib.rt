@@ -1,6 +1,8 @@
 // Inputs dealt from a seed, and fingerprints of answers, for the program `test_sample`; compare/sample.rs has the same
 // in Rust. Of these functions it is proved that they are safe and end, and what their callers need of a length or a
 // bound.
+#![tactic(auto)]
+
 mod curves;
 mod dealt;
 mod hands;

@@ -1,5 +1,7 @@
 // The calls that take or give a list of changes, over lists of numbers. compare/structs puts compare/lent.txt in the place of
 // this file: the same functions over change structs.
+#![tactic(auto)]
+
 use base::{Counted, Removal, Removed};
 pub use editor::{extend, mark_saved, normalize, pixels, push, redo, replay, undo};
 use selection::Shifted;

@@ -4,9 +4,12 @@
 //
 // The inputs are dealt from seeds (crate `test_inputs`). The file stdout was not written by this program: compare/sample.rs deals the same
 // inputs, takes the answers from the Rust and document 01's checks, and prints the lines (`compare/run FOLDER sample`).
+#![tactic(auto)]
+
 mod names;
 
 use base::{Form, Moved};
+use std::io;
 use test_calls::{bare_answer, change, damage, fresh, look, told_change, told_state};
 use test_inputs::{Hand, Outcome, deal, deck, fill_bytes, fill_indices, fill_locks, form, pick};
 use test_sheets::{open, over_sheet};
@@ -19,13 +22,9 @@ const HISTORIES: u64 = 24;
 const STEPS: u64 = 60;
 
 // Writes a line.
-fn print_line(c: usize, t: Outcome) {
-    names::print_name(c);
-    io::write_all(1, b" ");
-    io::print_decimal(1, t.number as u64);
-    io::write_all(1, b" ");
-    io::print_hex(1, t.print, 16);
-    io::write_all(1, b"\n");
+fn print_line(rt: &impl Print, c: usize, t: Outcome) -> io::Result<()> {
+    names::print_name(rt, c)?;
+    println!(rt; " {} {:016x}", t.number, t.print)
 }
 
 // A call that is no history's, by its number, on what is dealt.
@@ -37,18 +36,19 @@ fn answer(c: usize, d: &[u64; 32]) -> Outcome {
 }
 
 // The line of a call on what is dealt from a seed.
-fn print_answer(c: usize, seed: u64) {
+fn print_answer(rt: &impl Print, c: usize, seed: u64) -> io::Result<()> {
     let d = deck(seed);
-    print_line(c, answer(c, &d));
+    print_line(rt, c, answer(c, &d))
 }
 
 // The lines of a call, on as many inputs as each has.
-fn print_call(c: usize, seed: u64) {
+fn print_call(rt: &impl Print, c: usize, seed: u64) -> io::Result<()> {
     let mut i: u64 = 0;
     while i < EACH {
-        print_answer(c, std::num::wrapping_add_u64(seed, i));
+        print_answer(rt, c, std::num::wrapping_add_u64(seed, i))?;
         i += 1;
     }
+    Ok(())
 }
 
 // The calls from 44 to 55, and 65, are a history's.
@@ -60,14 +60,15 @@ fn number(i: usize) -> usize {
 }
 
 // The 53 calls that are no history's.
-fn print_calls() {
+fn print_calls(rt: &impl Print) -> io::Result<()> {
     let mut c: usize = 0;
     let mut seed: u64 = 0;
     while c < 53 {
-        print_call(number(c), seed);
+        print_call(rt, number(c), seed)?;
         seed = std::num::wrapping_add_u64(seed, 1000);
         c += 1;
     }
+    Ok(())
 }
 
 // Which call of a history is made: mostly a push, an undo or a redo.
@@ -98,6 +99,7 @@ fn looks(c: usize) -> bool {
 
 // A call of a history.
 fn print_step(
+    rt: &impl Print,
     c: usize,
     a: Hand,
     w: usize,
@@ -109,19 +111,24 @@ fn print_step(
     locks: &mut [bool],
     form: Form,
     journal: &mut [u8],
-) -> Moved {
+) -> io::Result<Moved> {
     damage(a, journal);
     if looks(c) {
-        print_line(c, look(c, a, w, h, form, journal, m.handle));
-        return m;
+        print_line(rt, c, look(c, a, w, h, form, journal, m.handle))?;
+        return Ok(m);
     }
     let n = change(c, a, w, h, m, palette, lab, indices, locks, form, journal);
-    print_line(c, told_change(c, n, palette, lab, indices, locks, journal));
-    n
+    print_line(
+        rt,
+        c,
+        told_change(c, n, palette, lab, indices, locks, journal),
+    )?;
+    Ok(n)
 }
 
 // The call of a history that is dealt from a seed.
 fn print_next(
+    rt: &impl Print,
     seed: u64,
     w: usize,
     h: usize,
@@ -132,10 +139,11 @@ fn print_next(
     locks: &mut [bool],
     form: Form,
     journal: &mut [u8],
-) -> Moved {
+) -> io::Result<Moved> {
     let d = deck(seed);
     let c = call_of(d[8]);
     print_step(
+        rt,
         c,
         deal(&d),
         w,
@@ -152,6 +160,7 @@ fn print_next(
 
 // The calls of a history after its first.
 fn print_steps(
+    rt: &impl Print,
     seed: u64,
     w: usize,
     h: usize,
@@ -162,18 +171,21 @@ fn print_steps(
     locks: &mut [bool],
     form: Form,
     journal: &mut [u8],
-) {
+) -> io::Result<()> {
     let mut m = first;
     let mut i: u64 = 1;
     while i < STEPS {
         let next = std::num::wrapping_add_u64(seed, i);
-        m = print_next(next, w, h, m, palette, lab, indices, locks, form, journal);
+        m = print_next(
+            rt, next, w, h, m, palette, lab, indices, locks, form, journal,
+        )?;
         i += 1;
     }
+    Ok(())
 }
 
 // A history over a sheet, in one form, call by call. Of the first, `fresh`, the count is told as 1.
-fn print_history(seed: u64) {
+fn print_history(rt: &impl Print, seed: u64) -> io::Result<()> {
     let d = deck(seed);
     let w = 3;
     let h = 2;
@@ -189,8 +201,9 @@ fn print_history(seed: u64) {
     fill_locks(d[9], &mut locks);
     let answer = open(w, h, k, &palette, &mut lab, &indices, &mut locks);
     let handle = fresh();
-    print_line(44, told_state(0, 1, handle));
+    print_line(rt, 44, told_state(0, 1, handle))?;
     print_steps(
+        rt,
         seed,
         w,
         h,
@@ -201,16 +214,17 @@ fn print_history(seed: u64) {
         &mut locks,
         form(d[15]),
         &mut journal,
-    );
+    )
 }
 
-fn main() {
-    print_calls();
+fn main(rt: HostRuntime) -> io::Result<()> {
+    print_calls(&rt)?;
     let mut i: u64 = 0;
     let mut seed: u64 = 1_000_000;
     while i < HISTORIES {
-        print_history(seed);
+        print_history(&rt, seed)?;
         seed = std::num::wrapping_add_u64(seed, 1000);
         i += 1;
     }
+    Ok(())
 }

@@ -1,6 +1,8 @@
 // The calls by their numbers here.
 ghost use Rattle.std.specs.Prelude.{◌≤◌, length};
 
+use std::io;
+
 // Where word n begins in a text of words with a space after each; the text's end where it has fewer.
 fn begin(text: &[u8], n: usize) -> usize
     ensures { result ≤ length text.now }
@@ -35,14 +37,15 @@ fn end(text: &[u8], from: usize) -> usize
 }
 
 // Writes word n.
-fn print_word(text: &[u8], n: usize) {
+fn print_word(rt: &impl Print, text: &[u8], n: usize) -> io::Result<()> {
     let from = begin(text, n);
     let to = end(text, from);
-    io::write_all(1, &text[from..to]);
+    rt.write_all(&text[from..to])
 }
 
-pub(crate) fn print_name(c: usize) {
+pub(crate) fn print_name(rt: &impl Print, c: usize) -> io::Result<()> {
     print_word(
+        rt,
         b"check with_lab new get_at counts diff_mask nearest_index eyedropper pencil eraser line \
           rectangle flood_fill replace_color fill_global move_selection paste copy clip_rgba \
           snap_rgba fixed_choices set_color add_color nearest_other remove_entry merge_entries \

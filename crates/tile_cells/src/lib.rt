@@ -1,5 +1,7 @@
 // Tiles: the flips of a tile, read where it lies, compared with another and numbered. The functions ask their caller for
 // what they need.
+#![tactic(auto)]
+
 mod alike;
 mod keys;
 mod reading;

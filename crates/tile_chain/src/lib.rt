@@ -1,5 +1,7 @@
 // A cell looked for along its chain. First cells are kept in chains by their key, in the scratch, a place a cell, beside
 // what is found: three numbers share a place. The functions ask their caller for what they need.
+#![tactic(auto)]
+
 ghost use Rattle.std.specs.Prelude.{◌≡◌, ◌≤◌, ◌<◌, ◌^◌};
 ghost use Rattle.tile_cells.specs.Cells.{Tiled, cell_count, code_of};
 ghost use Rattle.tile_chain.specs.Table.{found_in, head_in, next_in, Holds, Chained, lastOn, bucketOf};

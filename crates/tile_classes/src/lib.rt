@@ -1,6 +1,8 @@
 // For each cell of a sheet the first cell that it is a flip of, found by classes: a pixel a round, the cells are sorted
 // by class and pixel, and their ranks are the new classes. That is a sort of the cells a pixel, whatever the sheet. The
 // functions ask their caller for what they need.
+#![tactic(auto)]
+
 mod firsts;
 mod ranking;
 mod rounds;

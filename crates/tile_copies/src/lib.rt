@@ -5,6 +5,8 @@
 // the tile. One pass marks each class with its last change; one takes that change's new to every place of the class;
 // then the caller's changes go over that, and one scan of the rows writes what is pending. All share the scratch.
 // The functions ask their caller for what they need.
+#![tactic(auto)]
+
 mod mirror;
 mod waiting;
 

@@ -1,4 +1,6 @@
 // Tiles: `flip` and `extract` of tiles.rs, the latter at tolerance 0.
+#![tactic(auto)]
+
 mod cutting;
 
 pub use cutting::extract;

@@ -1,5 +1,7 @@
 // The first steps of a mirror, up to its copies: classes, marks, and what lands where. They ask their caller for what they
 // need.
+#![tactic(auto)]
+
 mod classes;
 mod marks;
 

@@ -1,6 +1,8 @@
 // For each cell of a sheet the first cell that it is a flip of: along chains by key, a place a cell; and by classes where
 // a chain gets long, so that no sheet takes a comparison of each cell with each. The functions ask their caller for what
 // they need.
+#![tactic(auto)]
+
 mod table;
 
 ghost use Rattle.std.specs.Prelude.{◌≡◌, ◌+◌, ◌≤◌, ◌<◌, length, take};

@@ -1,5 +1,7 @@
 // The checks of `mirror_tiles` of tools.rs: when it touches a list, and the number of the first that applies. A list
 // of changes is lent as one number of 64 bits a change.
+#![tactic(auto)]
+
 ghost use Rattle.std.specs.Prelude.{◌≡◌, map};
 ghost use Rattle.base.specs.Lists.{some};
 ghost use Rattle.sheet.specs.Sheet.{sheet_of};

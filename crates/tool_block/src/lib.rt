@@ -1,4 +1,6 @@
 // Blocks of indices written on a picture that is laid out in the scratch.
+#![tactic(auto)]
+
 ghost use Rattle.std.specs.Prelude.{◌≡◌, false, List, ℕ, ◌+◌, ◌*◌, ◌≤◌, ◌<◌, ◌^◌, ℤ, negsuc, pos, ◌+ℤ◌, length, get_or};
 ghost use Rattle.base.specs.Ints.{far, from_zero};
 ghost use Rattle.selection.specs.Selection.{positions};

@@ -1,4 +1,6 @@
 // What the drawing tools paint into a picture laid out in scratch: stamps along lines, and the rectangle.
+#![tactic(auto)]
+
 mod brush;
 mod frame;
 

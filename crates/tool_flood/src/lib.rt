@@ -3,6 +3,8 @@
 //
 // Marks and queue share the scratch: cell p has the mark of place p in its lowest bit and the p-th place of the
 // queue above it. The scan writes over cells that were read.
+#![tactic(auto)]
+
 mod flood;
 mod reach;
 mod scan;

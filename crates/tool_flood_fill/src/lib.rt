@@ -1,4 +1,6 @@
 // The flood fill as a call: `flood_fill` of tools.rs.
+#![tactic(auto)]
+
 ghost use Rattle.std.specs.Prelude.{◌≡◌, false, map, ◌≤◌, length};
 ghost use Rattle.base.specs.Answer.{filled};
 ghost use Rattle.base.specs.Ints.{far};

@@ -2,6 +2,8 @@
 //
 // A line goes as many steps as its longer side is long. Each axis is walked by itself: at every step its
 // side is added to what the closed form's division left, and where that makes a whole place, it moves.
+#![tactic(auto)]
+
 mod along;
 mod line;
 mod reach;

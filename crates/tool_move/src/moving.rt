@@ -2,7 +2,7 @@
 ghost use Rattle.std.specs.Prelude.{◌≡◌, false, map, ◌+◌, ◌≤◌, pos, ◌+ℤ◌, length};
 ghost use Rattle.base.specs.Ints.{far, from_zero};
 ghost use Rattle.base.specs.Checks.{first_of};
-ghost use Rattle.base.specs.Answer.Told.{result};
+ghost use Rattle.base.specs.Answer.Told.{result as told};
 ghost use Rattle.sheet.specs.Sheet.{sheet_of};
 ghost use Rattle.selection.specs.Calls.{chosen_told, shift_checks};
 ghost use Rattle.edit.specs.Change.{packed};
@@ -23,14 +23,14 @@ use tool_paste::{shifted_count, shifted_of};
 
 // Shift 0.
 fn is_unmoved(dx: i32, dy: i32) -> bool
-    ensures* { λ r. ⌜ r ≡ unmoved dx dy ⌝ }
+    ensures { result ≡ unmoved dx dy }
 {
     dx == 0 && dy == 0
 }
 
 // The number of the first check of a shift and a selection that applies, or 0: 15, 5.
 fn shift_no(s: Selection, dx: i32, dy: i32, w: usize, h: usize) -> u8
-    ensures* { λ r. ⌜ r ≡ first_of (shift_checks s dx dy w h) ⌝ }
+    ensures { result ≡ first_of (shift_checks s dx dy w h) }
 {
     match s.translated(dx, dy, w, h) {
         Chosen::Part(_) => 0,
@@ -52,10 +52,10 @@ fn move_no(
     dy: i32,
     room: usize,
 ) -> u8
-    ensures* { λ r. ⌜ (
+    ensures { (
         let sheet = sheet_of w h k palette.now lab.now indices.now in
-        r ≡ first_of (move_checks sheet s dx dy room)
-        ) ⌝ }
+        result ≡ first_of (move_checks sheet s dx dy room)
+        ) }
 {
     let no = check(w, h, k, palette, lab, indices);
     if no != 0 {
@@ -74,7 +74,7 @@ fn move_no(
 // The rows that a move can change: from the first to the last of the selection's and of those that it lands on.
 fn move_rows(s: Selection, dy: i32, h: usize) -> Span
     requires { (far dy ≡ false) × (s.y + s.h ≤ h) }
-    ensures* { λ r. ⌜ MoveRows h s (landing s.y s.h (from_zero (dy +ℤ pos 65536)) h) r ⌝ }
+    ensures { MoveRows h s (landing s.y s.h (from_zero (dy +ℤ pos 65536)) h) result }
 {
     let top = s.y as usize;
     let rows = s.h as usize;
@@ -99,9 +99,7 @@ fn list_move(
     scratch: &mut [u64],
 ) -> usize
     requires { Movable w h indices.now s dx dy (length scratch.old) }
-    ensures* { λ r. ⌜
-        Front (map packed (normalize_of (move_changes w h indices.now s dx dy))) scratch.new r
-        ⌝ }
+    ensures { Front (map packed (normalize_of (move_changes w h indices.now s dx dy))) scratch.new result }
 {
     let rows = move_rows(s, dy, h);
     lay_rows(indices, w, rows.start, rows.count, scratch);
@@ -128,7 +126,7 @@ fn list_moved(
     scratch: &mut [u64],
 ) -> usize
     requires { Movable w h indices.now s dx dy (length scratch.old) }
-    ensures* { λ r. ⌜ Front (map packed (moved_list w h indices.now s dx dy)) scratch.new r ⌝ }
+    ensures { Front (map packed (moved_list w h indices.now s dx dy)) scratch.new result }
 {
     if is_unmoved(dx, dy) {
         return 0;
@@ -139,7 +137,7 @@ fn list_moved(
 // The selection after a move: the old one where the shift is 0.
 fn moved_selection(s: Selection, dx: i32, dy: i32, w: usize, h: usize) -> Chosen
     requires { first_of (shift_checks s dx dy w h) ≡ 0 }
-    ensures* { λ r. ⌜ chosen_told r ≡ result (moved_selection s dx dy w h) ⌝ }
+    ensures { chosen_told result ≡ told (moved_selection s dx dy w h) }
 {
     if is_unmoved(dx, dy) {
         return Chosen::Part(s);
@@ -163,12 +161,12 @@ pub fn move_selection_in(
     scratch: &mut [u64],
     room: usize,
 ) -> Shifted
-    ensures* fact { λ r. ⌜ (
+    ensures fact { (
         let sheet = sheet_of w h k palette.now lab.now indices.now in
-        InScratch (shifted_count r) room scratch.new (left r)
+        InScratch (shifted_count result) room scratch.new (left result)
         (move_call sheet s dx dy (length scratch.old))
-        ) ⌝ }
-    ensures* scratch_after { λ _. ⌜ length scratch.new ≡ length scratch.old ⌝ }
+        ) }
+    ensures scratch_after { length scratch.new ≡ length scratch.old }
 {
     let no = move_no(w, h, k, palette, lab, indices, s, dx, dy, scratch.len());
     if no != 0 {
@@ -192,11 +190,11 @@ pub fn move_selection(
     scratch: &mut [u64],
     out: &mut [u64],
 ) -> Shifted
-    ensures* fact { λ r. ⌜ (
+    ensures fact { (
         let sheet = sheet_of w h k palette.now lab.now indices.now in
-        left r out.new ≡ move_call sheet s dx dy (length scratch.old) out.old
-        ) ⌝ }
-    ensures* scratch_after { λ _. ⌜ length scratch.new ≡ length scratch.old ⌝ }
+        left result out.new ≡ move_call sheet s dx dy (length scratch.old) out.old
+        ) }
+    ensures scratch_after { length scratch.new ≡ length scratch.old }
 {
     let r = move_selection_in(
         w,

@@ -1,9 +1,11 @@
 // `paste` of tools.rs: a clip put on the sheet. The rows that it lands on are laid out in the scratch and painted there, and
 // the changes are what lies between the two pictures in these rows. What `paste` and `tool_move` answer stands here, too.
+#![tactic(auto)]
+
 ghost use Rattle.std.specs.Prelude.{◌≡◌, false, map, ◌+◌, ◌≤◌, ◌<◌, length};
 ghost use Rattle.base.specs.Checks.{first_of};
 ghost use Rattle.base.specs.Answer.{counted_told};
-ghost use Rattle.base.specs.Answer.Told.{result};
+ghost use Rattle.base.specs.Answer.Told.{result as told};
 ghost use Rattle.base.specs.Ints.{far};
 ghost use Rattle.sheet.specs.Sheet.{sheet_of};
 ghost use Rattle.selection.specs.Calls.{chosen_told, shifted_told};
@@ -32,7 +34,7 @@ fn clip_no(
     room: usize,
     pixels: usize,
 ) -> u8
-    ensures* { λ r. ⌜ r ≡ first_of (clip_checks clip_w clip_h clip.now x y room pixels) ⌝ }
+    ensures { result ≡ first_of (clip_checks clip_w clip_h clip.now x y room pixels) }
 {
     if is_far(x) {
         return TOO_FAR;
@@ -70,10 +72,10 @@ fn paste_no(
     y: i32,
     room: usize,
 ) -> u8
-    ensures* { λ r. ⌜ (
+    ensures { (
         let sheet = sheet_of w h k palette.now lab.now indices.now in
-        r ≡ first_of (paste_checks sheet clip_w clip_h clip.now x y room)
-        ) ⌝ }
+        result ≡ first_of (paste_checks sheet clip_w clip_h clip.now x y room)
+        ) }
 {
     let no = check(w, h, k, palette, lab, indices);
     if no != 0 {
@@ -96,11 +98,9 @@ fn list_paste(
     scratch: &mut [u64],
 ) -> usize
     requires { Pastable w h indices.now clip_w clip_h x y (length clip.now) (length scratch.old) }
-    ensures* { λ r. ⌜
-        Front
+    ensures { Front
         (map packed (normalize_of (paste_changes w h indices.now clip_w clip_h clip.now x y)))
-        scratch.new r
-        ⌝ }
+        scratch.new result }
 {
     let rows = landed_rows(landing_on(0, clip_h, y, h), 0);
     lay_rows(indices, w, rows.start, rows.count, scratch);
@@ -117,7 +117,7 @@ fn list_paste(
 // The rectangle that lands, or nothing.
 fn placed(x: Landing, y: Landing) -> Chosen
     requires { (0 < x.count → x.to + x.count ≤ 1024) × (0 < y.count → y.to + y.count ≤ 1024) }
-    ensures* { λ r. ⌜ chosen_told r ≡ result (placed_of x y) ⌝ }
+    ensures { chosen_told result ≡ told (placed_of x y) }
 {
     if x.count == 0 {
         return Chosen::Nothing;
@@ -136,14 +136,14 @@ fn placed(x: Landing, y: Landing) -> Chosen
 // The selection after a paste: the part of the clip's rectangle that is on the sheet.
 fn pasted_selection(clip_w: usize, clip_h: usize, x: i32, y: i32, w: usize, h: usize) -> Chosen
     requires { (far x ≡ false) × (far y ≡ false) × (clip_w ≤ 1024) × (clip_h ≤ 1024) × (w ≤ 1024) × (h ≤ 1024) }
-    ensures* { λ r. ⌜ chosen_told r ≡ result (pasted_selection clip_w clip_h x y w h) ⌝ }
+    ensures { chosen_told result ≡ told (pasted_selection clip_w clip_h x y w h) }
 {
     placed(landing_on(0, clip_w, x, w), landing_on(0, clip_h, y, h))
 }
 
 // What a call answers with a list that was counted and a selection.
 pub fn shifted_of(counted: Counted, selection: Chosen) -> Shifted
-    ensures* { λ r. ⌜ shifted_told r ≡ shifted_of (chosen_told selection) (counted_told counted) ⌝ }
+    ensures { shifted_told result ≡ shifted_of (chosen_told selection) (counted_told counted) }
 {
     match counted {
         Counted::Count(count) => Shifted::Changes { count, selection },
@@ -153,7 +153,7 @@ pub fn shifted_of(counted: Counted, selection: Chosen) -> Shifted
 
 // How many changes such a call left, none where it was refused.
 pub fn shifted_count(answer: Shifted) -> usize
-    ensures* { λ r. ⌜ r ≡ shifted_count answer ⌝ }
+    ensures { result ≡ shifted_count answer }
 {
     match answer {
         Shifted::Changes {
@@ -182,12 +182,12 @@ pub fn paste_in(
     scratch: &mut [u64],
     room: usize,
 ) -> Shifted
-    ensures* fact { λ r. ⌜ (
+    ensures fact { (
         let sheet = sheet_of w h k palette.now lab.now indices.now in
-        InScratch (shifted_count r) room scratch.new (left r)
+        InScratch (shifted_count result) room scratch.new (left result)
         (paste_call sheet clip_w clip_h clip.now x y (length scratch.old))
-        ) ⌝ }
-    ensures* scratch_after { λ _. ⌜ length scratch.new ≡ length scratch.old ⌝ }
+        ) }
+    ensures scratch_after { length scratch.new ≡ length scratch.old }
 {
     let no = paste_no(
         w,
@@ -229,12 +229,12 @@ pub fn paste(
     scratch: &mut [u64],
     out: &mut [u64],
 ) -> Shifted
-    ensures* fact { λ r. ⌜ (
+    ensures fact { (
         let sheet = sheet_of w h k palette.now lab.now indices.now in
-        left r out.new
+        left result out.new
         ≡ paste_call sheet clip_w clip_h clip.now x y (length scratch.old) out.old
-        ) ⌝ }
-    ensures* scratch_after { λ _. ⌜ length scratch.new ≡ length scratch.old ⌝ }
+        ) }
+    ensures scratch_after { length scratch.new ≡ length scratch.old }
 {
     let r = paste_in(
         w,

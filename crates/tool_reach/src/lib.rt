@@ -1,4 +1,6 @@
 // How far a tool reaches inside a region: the rows that it can paint, and the steps of a line at which a brush touches.
+#![tactic(auto)]
+
 mod rows;
 mod touch;
 

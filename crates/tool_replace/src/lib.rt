@@ -2,6 +2,8 @@
 // makes the list of its changes, in rows, and changes no sheet.
 //
 // The changes are counted before the first is written, so that a buffer that is too short keeps its bits.
+#![tactic(auto)]
+
 ghost use Rattle.std.specs.Prelude.{◌≡◌, [], map, ◌≤◌, length};
 ghost use Rattle.base.specs.Answer.{filled};
 ghost use Rattle.base.specs.Lists.{over, kept};

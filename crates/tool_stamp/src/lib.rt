@@ -1,5 +1,7 @@
 // Places of a picture laid out in scratch, and a brush's stamp among them: clipped to a selection, and painted. specs/ has
 // the points of the drawing tools and where they stand.
+#![tactic(auto)]
+
 mod paint;
 mod stamp;
 

@@ -1,0 +1,23 @@
+-- `take_indices`: the first i are read. Assumes nothing.
+use native.Mathlib.Omega.{arith}
+use mathlib.Core.Path.{◌≡◌, refl, sym, ap, ◌∙◌}
+use Prim.Native.Nat.{◌-◌, ◌*◌, ◌+◌}
+use lib.ListN.{length}
+use Rattle.c_form.proofs.Fields.{Reads, reads_none, reads-next, reads_all}
+use Rattle.c_form.specs.Flat.{index_in}
+use mir.Syntax.{w16}
+use Rattle.base.proofs.Back.{back}
+use borrow.Author.Rules.{rules}
+use Rattle.c_bytes.proofs.read.take_indices.Goals as goal
+
+pub loop-i-init : goal.loop-i-init
+loop-i-init c = reads_none _ _ _ _ _
+
+pub loop-i-preserved : goal.loop-i-preserved
+loop-i-preserved c = reads-next _ _ _ _ _ _ c.loop-i.i c.loop-i.invariant _ (omega arith) (back w16 c.index_at-z.result c.index_at-z.type_inv ∙ c.index_at-z.ensures)
+
+pub shape_of-out : goal.shape_of-out
+shape_of-out c = c.loop-i.invariant.long
+
+pub returns : goal.returns
+returns c = reads_all _ _ _ _ _ _ c.loop-i.i c.loop-i.invariant (omega arith)

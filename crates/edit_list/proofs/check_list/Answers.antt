@@ -1,0 +1,25 @@
+-- `check_list`: by kinds of list. Assumes nothing.
+use mathlib.Core.Path.{◌≡◌, sym, ◌∙◌}
+use mathlib.Core.List.{List, flat_map}
+use Rattle.base.specs.Checks.{first_of}
+use Rattle.edit.specs.Checks.{change_checks}
+use Rattle.edit_checks.specs.Marks.{Markable, ClearFor, MarksFor}
+use Rattle.edit_list.proofs.NoChecks.{no-checks}
+use borrow.Author.Rules.{rules}
+use Rattle.edit_list.proofs.check_list.Goals as goal
+
+pub mark_remap-requires : goal.mark_remap-requires
+unfolding Markable
+mark_remap-requires c = let p = c.requires in let m = rw c.in-RemapList.is at p.markable in (m.0, p.pixels, m.1)
+
+pub returns-in-NoList : goal.returns-in-NoList
+unfolding change_checks MarksFor
+returns-in-NoList c = (rw c.in-NoList.is (sym (no-checks _)), λ _ _. rw c.in-NoList.is tt)
+
+pub returns-in-PixelList : goal.returns-in-PixelList
+unfolding change_checks MarksFor
+returns-in-PixelList c = let e = c.in-PixelList.is in (rw e c.pixels_no.ensures, λ _ _. rw e tt)
+
+pub returns-in-RemapList : goal.returns-in-RemapList
+unfolding change_checks ClearFor MarksFor
+returns-in-RemapList c = let e = c.in-RemapList.is in (rw e c.mark_remap.ensures.0, λ z clear. rw e (c.mark_remap.ensures.1 z (rw e at clear)))

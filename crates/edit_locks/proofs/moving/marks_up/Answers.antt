@@ -1,0 +1,16 @@
+-- `marks_up`: all but j are moved. Assumes nothing.
+use mathlib.Core.Bool.{false}
+use Prim.Native.Nat.{◌≤◌}
+use native.Mathlib.Omega.{arith}
+use borrow.Author.Rules.{rules}
+use Rattle.edit_entries.proofs.Gaps.{Opening, opening-none, opening-next, opening-all}
+use Rattle.edit_locks.proofs.moving.marks_up.Goals as goal
+
+pub loop-j-init : goal.loop-j-init
+loop-j-init c = (search rules, opening-none 1 _ _)
+
+pub loop-j-preserved : goal.loop-j-preserved
+loop-j-preserved c = (search rules, opening-next c.loop-j.invariant.1 false (omega arith) (omega arith) (omega arith) (omega arith))
+
+pub returns : goal.returns
+returns c = opening-all c.loop-j.invariant.1 (omega arith)

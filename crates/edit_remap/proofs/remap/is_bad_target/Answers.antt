@@ -1,0 +1,7 @@
+-- `is_bad_target`: the three tests. Assumes nothing.
+use borrow.Author.Rules.{rules}
+use mir.Facts.{to_z-of_z}
+use Rattle.edit_remap.proofs.remap.is_bad_target.Goals as goal
+
+pub returns : goal.returns
+returns c = cc (to_z-of_z c.ranges.z)

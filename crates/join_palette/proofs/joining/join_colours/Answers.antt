@@ -1,0 +1,34 @@
+-- `join_colours`: the first's, then those of the second behind them. Assumes nothing.
+use Prim.Native.Nat.{ℕ}
+use mathlib.Core.List.{List}
+use lib.ListN.{length-take, length-drop}
+use Rattle.base.specs.Lists.{over, range}
+use Rattle.base.proofs.Collect.{length-range}
+use Rattle.base.proofs.Over.{over-lent}
+use Rattle.join_model.specs.Stored.{colours_at}
+use Rattle.join_palette.proofs.Written.{own-front, own-below, colours-at-length}
+use mathlib.Core.Path.{ap, ◌∙◌}
+use Prim.Native.Nat.{◌*◌}
+use native.Mathlib.Omega.{arith}
+use lib.ListN.{length}
+use borrow.Author.Rules.{rules}
+use Rattle.join_palette.proofs.joining.join_colours.Goals as goal
+
+pub put_colours-requires : goal.put_colours-requires
+put_colours-requires c =
+    let own = c.count_up.ensures in
+    (omega arith, ap length own ∙ length-range 0 255, own-below _ c.args.k own (omega arith), search rules, omega arith)
+
+pub put_colours-requires-2 : goal.put_colours-requires-2
+put_colours-requires-2 c =
+    let pre = c.requires in
+    (omega arith, pre.1, pre.2, pre.4, simp (length-take, length-drop) (omega arith))
+
+pub returns : goal.returns
+returns c =
+    let a = c.args in
+    let own = own-front _ a.k c.count_up.ensures (omega arith) in
+    over-lent (colours_at a.palette.now (range 0 a.k)) _ a.out.now _ _ (3 * a.k)
+    (colours-at-length a.palette.now (range 0 a.k) ∙ ap (λ (n : ℕ). 3 * n) (length-range 0 a.k))
+    (c.put_colours.ensures ∙ ap (λ (l : List ℕ). over (colours_at a.palette.now l) a.out.now) own)
+    c.put_colours-2.ensures

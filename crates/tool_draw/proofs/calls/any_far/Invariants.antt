@@ -1,0 +1,17 @@
+-- `any_far`: the flag and what is left say what the whole list says. Assumes nothing.
+use mathlib.Core.Path.{◌≡◌}
+use Prim.Native.Nat.{◌≤◌, ◌-◌}
+use borrow.Author.Rules.{rules}
+use lib.IntN.{pos}
+use lib.ListN.{length, get_or}
+use mir.Syntax.{w32}
+use Rattle.base.proofs.Scan.{Flagged, flag-step, flag-end}
+use Rattle.base.proofs.Back.{back}
+use Rattle.base.specs.Ints.{far}
+use Rattle.tool_draw.proofs.calls.any_far.Given as goal
+
+abbrev pub invariant-loop-i : goal.invariant-loop-i
+invariant-loop-i l = (l.i ≤ length l.points) × Flagged far l.points l.i l.bad
+
+abbrev pub decreases-loop-i : goal.decreases-loop-i
+decreases-loop-i l = length l.points - l.i

@@ -1,0 +1,78 @@
+-- `line_in`: the checks; then its rows laid out, painted and compared. Assumes nothing.
+use mathlib.Core.Path.{◌≡◌, sym, ◌∙◌}
+use mathlib.Core.List.{[], ◌∷◌}
+use native.Mathlib.Omega.{arith}
+use lib.ListN.{length}
+use mir.Syntax.{w16}
+use mir.Val.{of_z}
+use mir.Facts.{to_z-of_z}
+use Rattle.base.proofs.Back.{by_value}
+use Rattle.sheet.specs.Sheet.{Sheet, sheet_of}
+use Rattle.tool_line.specs.Line.{point}
+use Rattle.tool_line.specs.Brush.{stamped}
+use Rattle.tool_stamp.specs.Points.{pencil_of}
+use Rattle.tool_stamp.specs.Given.{corner_checks}
+use Rattle.tool_reach.specs.Reached.{Holds}
+use Rattle.tool_draw.specs.Calls.{stage_of, line_call}
+use Rattle.tool_stamp.proofs.Stamps.{brush-clamped, near-close}
+use Rattle.tool_reach.proofs.Paths.{corners-near, stamped-places}
+use Rattle.tool_reach.proofs.Reached.{stamped-again}
+use Rattle.tool_draw.proofs.Staging.{Ready, ready, ready-fits, ready-rows, refused, answered}
+use Rattle.change_list.proofs.InScratch.{scratch-none, scratch-then}
+use borrow.Author.Rules.{rules}
+use Rattle.tool_draw.proofs.calls.line_in.Goals as goal
+use Rattle.tool_draw.proofs.calls.line_in.Goals.{After-line_rows-rows, After-stage, In-Canvas, Start}
+
+abbrev sheet : (c : Start) → Sheet
+sheet c = let a = c.args in sheet_of a.w a.h a.k a.palette.now a.lab.now a.indices.now
+
+-- what the checks answered
+answer : (c : After-stage) → let a = c.args in c.stage.result ≡ stage_of (sheet (goal.at.After-stage c).Start) (corner_checks (point a.ax a.ay) (point a.bx a.by)) a.area (length a.scratch.now)
+answer c = let f = c.ranges in c.stage.ensures _ (rw (to_z-of_z f.ax, to_z-of_z f.ay, to_z-of_z f.bx, to_z-of_z f.by) at c.corners_no-no.ensures)
+
+readied : (c : In-Canvas) → let a = c.args in Ready (sheet (goal.at.In-Canvas c).Start) (corner_checks (point a.ax a.ay) (point a.bx a.by)) a.area (length a.scratch.now) c.in-Canvas.s
+readied c = ready _ _ _ _ _ (sym c.in-Canvas.is ∙ answer (goal.at.In-Canvas c).After-stage)
+
+-- the rows that hold its points
+held : (c : After-line_rows-rows) → let a = c.args in
+    Holds c.in-Canvas.s (stamped a.size (point a.ax a.ay ∷ point a.bx a.by ∷ [])) c.line_rows-rows.result
+held c =
+    let a = c.args in
+    let again = stamped-again a.size (point a.ax a.ay ∷ point a.bx a.by ∷ []) in
+    rw (to_z-of_z c.ranges.ay, to_z-of_z c.ranges.by, c.clamp-brush.ensures, again) at (c.line_rows-rows.ensures a.ax a.bx)
+
+pub line_rows-rows-requires : goal.line_rows-rows-requires
+line_rows-rows-requires c =
+    let n = corners-near _ _ (readied (goal.at.line_rows-rows-requires c).In-Canvas).given-none in
+    rw (to_z-of_z c.ranges.ay, to_z-of_z c.ranges.by, c.clamp-brush.ensures) (brush-clamped _, near-close _ n.0.down, near-close _ n.1.down)
+
+pub lay_rows-requires : goal.lay_rows-requires
+lay_rows-requires c = ready-rows _ _ _ _ _ (readied (goal.at.lay_rows-requires c).In-Canvas) (held (goal.at.lay_rows-requires c).After-line_rows-rows) _ (omega arith)
+
+pub paint_two-requires : goal.paint_two-requires
+paint_two-requires c =
+    let r = readied (goal.at.paint_two-requires c).In-Canvas in
+    let n = corners-near _ _ r.given-none in
+    rw (to_z-of_z c.ranges.ax, to_z-of_z c.ranges.ay, to_z-of_z c.ranges.bx, to_z-of_z c.ranges.by)
+    (ready-fits _ _ _ _ _ r _ (omega (arith, r.space, c.lay_rows.auto.scratch)), rw c.clamp-brush.ensures (brush-clamped _), n.0, n.1)
+
+pub finish-requires : goal.finish-requires
+finish-requires c =
+    ready-rows _ _ _ _ _ (readied (goal.at.finish-requires c).In-Canvas) (held (goal.at.finish-requires c).After-line_rows-rows) _ (omega (arith, c.lay_rows.auto.scratch, c.paint_two.auto.scratch))
+
+pub returns-in-Canvas : goal.returns-in-Canvas
+unfolding line_call pencil_of
+returns-in-Canvas c =
+    let a = c.args in
+    let f = c.ranges in
+    let bits = by_value (of_z w16) f.index c.bits_of-v.ensures in
+    let is = rw (to_z-of_z f.ax, to_z-of_z f.ay, to_z-of_z f.bx, to_z-of_z f.by, bits, c.clamp-brush.ensures) at c.paint_two.ensures in
+    let places = stamped-places c.in-Canvas.s a.w a.size (point a.ax a.ay ∷ point a.bx a.by ∷ []) in record {
+      fact = scratch-then c.finish.ensures
+          (λ out after e d. answered _ _ _ _ _ (readied (goal.at.returns-in-Canvas c).In-Canvas) (held (goal.at.returns-in-Canvas c).After-line_rows-rows) a.index _ _ _ out after f.index c.lay_rows.ensures (rw places at is) d);
+      scratch_len_unchanged = c.finish.auto.scratch ∙ c.paint_two.auto.scratch ∙ c.lay_rows.auto.scratch;
+    }
+
+pub returns-in-Refused : goal.returns-in-Refused
+unfolding line_call
+returns-in-Refused c = record { fact = scratch-none (λ out e. refused _ _ _ _ _ out _ (sym c.in-Refused.is ∙ answer (goal.at.returns-in-Refused c).After-stage)); scratch_len_unchanged = search rules }
