@@ -1,6 +1,6 @@
 //! Times the proved calls beside the Rust original and prints seven tables; `bench/run` builds and runs it.
 //!
-//! Ours is the crates of compare/archives.txt, as `rt staticlib` compiles them. `color_platform`
+//! Ours is the crates of compare/archives.txt, as `rt lib` compiles them. `color_platform`
 //! and `color_exact` are one and the same color.rs of pixelforge, built over the two stand-ins for its `libm`;
 //! `pixelforge` has its editor. All get the same inputs, and the results are compared bit for bit: a difference from
 //! the exact build ends the run.

@@ -1,6 +1,6 @@
 //! Times the drawing tools beside tools.rs and op.rs of pixelforge, and prints a table; `bench/run` builds and runs it.
 //!
-//! Ours is the crates of compare/archives.txt, as `rt staticlib` compiles them, buffers lent and warm. The Rust as it stands;
+//! Ours is the crates of compare/archives.txt, as `rt lib` compiles them, buffers lent and warm. The Rust as it stands;
 //! it answers in a new Vec. Ours makes checks 1 to 3 in every call: the Rust has two figures, the call with `with_lab`'s
 //! scan before it, and the call alone. The changes are compared, too; along lines with those of E4's rule.
 

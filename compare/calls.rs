@@ -1,4 +1,4 @@
-//! Ours: the crates of compare/archives.txt, as `rt staticlib` compiles them; compare/run and bench/run link them. A slice is
+//! Ours: the crates of compare/archives.txt, as `rt lib` compiles them; compare/run and bench/run link them. A slice is
 //! handed over as its pointer and its length.
 
 /// Declares a C function and a safe function over slices. A pointer goes with its own slice's length, no two slices

@@ -1,7 +1,7 @@
 //! Compares `rgb8_to_lab`, and `rgb8_to_lab_by` under two curves, with the Rust original on every colour there is;
 //! `compare/run FOLDER colours` builds and runs it.
 //!
-//! Ours is crates/c_exports, which calls `color::rgb8_to_lab` colour by colour, and crates/c_curve, as `rt staticlib`
+//! Ours is crates/c_exports, which calls `color::rgb8_to_lab` colour by colour, and crates/c_curve, as `rt lib`
 //! compiles them.
 
 #[allow(dead_code)]

@@ -1,6 +1,6 @@
 //! Compares every exported call with the Rust original; `compare/run` builds and runs it.
 //!
-//! Ours is the crates of compare/archives.txt, as `rt staticlib` compiles them. `pixelforge` has the Rust, with E7's two
+//! Ours is the crates of compare/archives.txt, as `rt lib` compiles them. `pixelforge` has the Rust, with E7's two
 //! constants, over the stand-ins of bench/. What is expected of a call is document 01's checks, written here in its order,
 //! and where no number marked + applies the Rust's own answer: values, counts, refusals, and every buffer as it is after
 //! the call.

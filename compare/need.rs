@@ -12,7 +12,7 @@ use crate::sheets::Permitted;
 use crate::table::Table;
 use pixelforge::editor::PixelChange;
 
-const PROGRAM: &str = "target/bin/panel_need";
+const PROGRAM: &str = "crates/panel_need/out/panel_need";
 const UNREAD: u8 = 22;
 const FULL: u8 = 14;
 

@@ -13,7 +13,7 @@ use pixelforge::editor::{Document, History};
 use std::io::{Read, Write};
 use std::process::{Command, Stdio};
 
-const PROGRAM: &str = "target/bin/panel";
+const PROGRAM: &str = "crates/panel/out/panel";
 const DIGITS: usize = 16_384;
 const JOURNAL: usize = 4_096;
 const SIDE: usize = 64;
@@ -301,7 +301,7 @@ pub fn printed_by(program: &str, input: Vec<u8>) -> Vec<u8> {
         .stdin(Stdio::piped())
         .stdout(Stdio::piped())
         .spawn()
-        .expect("the program of target/bin");
+        .expect("the program that rt built");
     let mut to = program.stdin.take().unwrap();
     let writer = std::thread::spawn(move || to.write_all(&input));
     let mut out = Vec::new();

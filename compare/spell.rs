@@ -253,7 +253,7 @@ fn back(t: &mut Table, s: &Sheet, line: &[u8], draw: &mut Draw) {
         read(t, &line[..line.len() - 1], &all);
         let mut state = vec![0, 0, 0, 0, s.k as u8];
         state.extend(s.indices.iter().map(|&i| i as u8));
-        let out = panel::printed_by("target/bin/panel", line.to_vec());
+        let out = panel::printed_by("crates/panel/out/panel", line.to_vec());
         let shown = out.strip_suffix(b"\n").unwrap_or(b"");
         t.tell(
             "spell, panel",
@@ -349,7 +349,7 @@ fn library(t: &mut Table, draw: &mut Draw) {
     if draw.once_in(2) && !lines.last().unwrap().is_empty() {
         input.pop();
     }
-    let out = panel::printed_by("target/bin/panel_library", input);
+    let out = panel::printed_by("crates/panel_library/out/panel_library", input);
     let mut got: Vec<&[u8]> = out.split(|&c| c == b'\n').collect();
     assert_eq!(got.pop(), Some(&[][..]), "panel_library's last newline");
     assert_eq!(got.len(), lines.len(), "a line for a line");
