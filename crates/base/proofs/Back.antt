@@ -1,17 +1,16 @@
 -- A signed number is its bits in the code, and reads back as itself. Assumes nothing.
 use mathlib.Core.Path.{◌≡◌, refl, sym, ap, ◌∙◌}
-use mathlib.Core.Bool.{Bool, true, false, cond}
-use Prim.Native.Nat.{ℕ, suc, ◌^◌, ◌<◌, ◌-◌, ◌+◌, ◌≤◌}
-use native.Mathlib.Numerals.{add-one}
+use mathlib.Core.Bool.{Bool, true, false}
+use Prim.Native.Nat.{ℕ, suc, ◌^◌, ◌<◌, ◌-◌, ◌≤◌}
 use native.Mathlib.Omega.{arith}
-use borrow.Author.Tests.{ltb-true, ltb-false, lt-ltb, le-ltb, eq-eqb, ne_eqb, eqb-true, eqb-false}
+use borrow.Author.Tests.{ltb-false, eq-eqb, ne_eqb, eqb-true, eqb-false}
 use lib.Dec.{T, ltb, eqb}
 use lib.IntN.{ℤ, pos, negsuc, nat_abs}
 use lib.Signed.{mag, lt_z, le_z, non_neg}
 use mir.Syntax.{Width, w16, w64}
 use mir.Val.{to_z, of_z, hbits, SFits, Fits}
 use mir.Facts.{to_z-of_z, Fits-nat_abs}
-use Rattle.base.specs.Ints.{eq_z, far, from_zero, on_axis, up_to}
+use Rattle.base.specs.Ints.{eq_z, far}
 
 -- what a copy of an element of a slice, or a call's result, gives
 pub back : (w : Width) (z : ℤ) → mag z < 2 ^ hbits w → to_z w (of_z w z) ≡ z
@@ -48,37 +47,7 @@ pub as-usize : {w : Width} {z : ℤ} → T (ltb (hbits w) 64) → SFits w z → 
     → T (non_neg (to_z w (of_z w z))) × Fits w64 (nat_abs (to_z w (of_z w z)))
 as-usize {w} {z} n h e = rw (to_z-of_z h) (non_negative z (rw (to_z-of_z h) at e), Fits-nat_abs n h)
 
-pub from-zero-neg : (z : ℤ) → lt_z z (pos 0) ≡ true → 0 ≡ from_zero z
-unfolding from_zero
-from-zero-neg (pos n) e = absurd (omega (arith, ltb-true n 0 e))
-from-zero-neg (negsuc n) e = refl
-
-pub from-zero-nat : (z : ℤ) → lt_z z (pos 0) ≡ false → nat_abs z ≡ from_zero z
-unfolding from_zero
-from-zero-nat (pos n) e = refl
-from-zero-nat (negsuc n) e = never (sym e)
-
-pub up-to-neg : (z : ℤ) → lt_z z (pos 0) ≡ true → 0 ≡ up_to z
-unfolding up_to
-up-to-neg (pos n) e = absurd (omega (arith, ltb-true n 0 e))
-up-to-neg (negsuc n) e = refl
-
-pub up-to-nat : (z : ℤ) → lt_z z (pos 0) ≡ false → nat_abs z + 1 ≡ up_to z
-unfolding up_to
-up-to-nat (pos n) e = add-one n
-up-to-nat (negsuc n) e = never (sym e)
-
 -- ---- the tests
-pub far-below : (z : ℤ) → lt_z z (negsuc 65535) ≡ true → true ≡ far z
-unfolding far
-far-below (pos n) e = never e
-far-below (negsuc n) e = sym (lt-ltb 65536 (suc n) (omega (arith, ltb-true 65535 n e)))
-
-pub far-above : (z : ℤ) → lt_z z (negsuc 65535) ≡ false → lt_z (pos 65536) z ≡ far z
-unfolding far
-far-above (pos n) e = refl
-far-above (negsuc n) e = sym (le-ltb 65536 (suc n) (omega (arith, ltb-false 65535 n e)))
-
 pub near-abs : (z : ℤ) → far z ≡ false → nat_abs z ≤ 65536
 unfolding far
 near-abs z e = ltb-false 65536 (nat_abs z) e
@@ -97,16 +66,6 @@ eq-bits (negsuc a) (negsuc b) h k = eq-by a b (eqb a b) h k refl
 
 pub eq-back : {a b : ℤ} → SFits w16 a → SFits w16 b → eqb (of_z w16 a) (of_z w16 b) ≡ eq_z a b
 eq-back {a} {b} h k = eq-bits a b h.sfits k.sfits
-
-pub axis-neg : (z : ℤ) (size : ℕ) → lt_z z (pos 0) ≡ true → size ≡ on_axis z size
-unfolding on_axis
-axis-neg (pos n) size e = absurd (omega (arith, ltb-true n 0 e))
-axis-neg (negsuc n) size e = refl
-
-pub axis-nat : (z : ℤ) (size : ℕ) → lt_z z (pos 0) ≡ false → cond (ltb (from_zero z) size) (from_zero z) size ≡ on_axis z size
-unfolding on_axis from_zero
-axis-nat (pos n) size e = refl
-axis-nat (negsuc n) size e = never (sym e)
 
 -- an index equals itself, and equal indices are the same
 pub eq_z-same : (a : ℤ) → eq_z a a ≡ true

@@ -1,10 +1,12 @@
 // Signed numbers: the tests and the readings that loops and checks make of them, each with an equation on
-// whole numbers, so that callers meet no bit pattern; and of what Rust gives every number, `min`, `max` and
-// `saturating_sub`.
-ghost use Rattle.std.specs.Prelude.{◌≡◌, ◌-◌, min, max};
+// whole numbers, so that callers meet no bit pattern; and of what Rust gives every number, `min` and `max`.
+ghost use Rattle.std.specs.Prelude.{◌≡◌, min, max};
 ghost use Rattle.base.specs.Ints.{eq_z, far, from_zero, on_axis, up_to, min_z, max_z};
 
+use crate::MAX_DISTANCE;
+
 // Whether a and b are the same index.
+#[tactic(auto, unfolding(crate::specs::Ints::eq_z))]
 pub fn same(a: i16, b: i16) -> bool
     ensures { result ≡ eq_z a b }
 {
@@ -12,23 +14,23 @@ pub fn same(a: i16, b: i16) -> bool
 }
 
 // Number 15 of a point's coordinate or a shift: beyond -65,536..65,536.
+#[tactic(auto, unfolding(crate::specs::Ints::far))]
 pub fn is_far(z: i32) -> bool
     ensures { result ≡ far z }
 {
-    if z < -65_536 {
-        return true;
-    }
-    z > 65_536
+    z.unsigned_abs() > MAX_DISTANCE as u32
 }
 
 // A coordinate, or 0 where it is negative.
+#[tactic(auto, unfolding(crate::specs::Ints::from_zero))]
 pub fn from_zero(z: i32) -> usize
     ensures { result ≡ from_zero z }
 {
-    if z < 0 { 0 } else { z as usize }
+    z.max(0) as usize
 }
 
 // A coordinate on an axis of `size` positions, or `size` where it is off the axis.
+#[tactic(auto, unfolding(crate::specs::Ints::on_axis, crate::specs::Ints::from_zero))]
 pub fn on_axis(z: i32, size: usize) -> usize
     ensures { result ≡ on_axis z size }
 {
@@ -40,6 +42,7 @@ pub fn on_axis(z: i32, size: usize) -> usize
 }
 
 // How many coordinates there are from 0 to z, both included.
+#[tactic(auto, unfolding(crate::specs::Ints::up_to))]
 pub fn up_to(z: i32) -> usize
     ensures { result ≡ up_to z }
 {
@@ -63,13 +66,6 @@ pub fn min_usize(a: usize, b: usize) -> usize
     ensures { result ≡ min a b }
 {
     if b < a { b } else { a }
-}
-
-// Rust's `saturating_sub`: a without b, or 0 where b is more.
-pub fn saturating_sub(a: usize, b: usize) -> usize
-    ensures { result ≡ a - b }
-{
-    if a < b { 0 } else { a - b }
 }
 
 // Rust's `max`.

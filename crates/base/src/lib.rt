@@ -12,10 +12,8 @@ mod storage;
 ghost use Rattle.std.specs.Prelude.{◌≡◌};
 ghost use Rattle.base.specs.Answer.{number_of, counted_number};
 
-pub use ints::{
-    from_zero, is_far, max_i32, max_usize, min_i32, min_usize, on_axis, same, saturating_sub, up_to,
-};
-pub use lists::{both, clear, either};
+pub use ints::{from_zero, is_far, max_i32, max_usize, min_i32, min_usize, on_axis, same, up_to};
+pub use lists::{both, either};
 pub use storage::{lab_at, put_lab, rgb_at};
 
 // The limits of document 01's "The sheet".

@@ -1,6 +1,5 @@
-// What loops over lists share: a definition, the laws of scans, the test that keeps a scan free of branches, and a slice
-// cleared.
-ghost use Rattle.std.specs.Prelude.{◌≡◌, ◌||◌, ◌&&◌, length, replicate};
+// What loops over lists share: a definition, the laws of scans, and the tests that keep a scan free of branches.
+ghost use Rattle.std.specs.Prelude.{◌≡◌, ◌||◌, ◌&&◌};
 
 // Whether one of the two holds. Both are computed: a scan that joins its tests by this has no early
 // exit, and is compiled to vector code.
@@ -15,15 +14,4 @@ pub fn both(a: bool, b: bool) -> bool
     ensures { result ≡ a && b }
 {
     a && b
-}
-
-// Sets every number of a slice to 0.
-pub fn clear(s: &mut [u64])
-    ensures { s.new ≡ replicate (length s.old) 0 }
-{
-    let mut i: usize = 0;
-    while i < s.len() {
-        s[i] = 0;
-        i += 1;
-    }
 }

@@ -1,29 +1,19 @@
 // 28: whether buffers are no flat sheet, and no handle.
-ghost use Rattle.std.specs.Prelude.{◌≡◌, true, ◌+◌, ◌*◌, ◌≤◌, ◌<◌, ltb, length};
+ghost use Rattle.std.specs.Prelude.{◌≡◌, ◌+◌, ◌≤◌, ◌<◌, ltb, length};
 ghost use Rattle.base.specs.Lists.{some};
 ghost use Rattle.journal_record.specs.Bytes.{le_at};
-ghost use Rattle.c_form.specs.Fields.{read_from};
-ghost use Rattle.c_form.specs.Flat.{byte_in, sheet_misfits, handle_misfits};
+ghost use Rattle.c_form.specs.Flat.{sheet_misfits, handle_misfits};
 
 use base::either;
 use journal_bytes::get_u16;
 
-fn wide(x: u32) -> usize
-    ensures { result ≡ x }
-{
-    x as usize
-}
-
-// Whether one of n bytes from `at` on is neither 0 nor 1.
-fn any_over_one(src: &[u8], at: usize, n: usize) -> bool
-    requires { at + n ≤ length src.now }
-    ensures { result ≡ some (ltb 1) (read_from 1 byte_in at n src.now) }
+// Whether a byte is neither 0 nor 1.
+fn any_over_one(bytes: &[u8]) -> bool
+    ensures { result ≡ some (ltb 1) bytes.now }
 {
     let mut bad = false;
-    let mut i: usize = 0;
-    while i < n {
-        bad = either(bad, 1 < src[at + i]);
-        i += 1;
+    for byte in bytes {
+        bad = either(bad, 1 < *byte);
     }
     bad
 }
@@ -33,7 +23,7 @@ pub fn pair_at(src: &[u8], at: usize) -> usize
     requires { at + 2 ≤ length src.now }
     ensures { (result ≡ le_at 2 src.now at) × (result < 65536) }
 {
-    wide(get_u16(src, at))
+    get_u16(src, at) as usize
 }
 
 // Whether the length does not suit w and h, or a lock byte is no mark.
@@ -47,9 +37,10 @@ pub fn sheet_misfits(src: &[u8]) -> bool
     if src.len() != 7146 + 2 * places {
         return true;
     }
-    any_over_one(src, 6891 + 2 * places, 255)
+    any_over_one(&src[6891 + 2 * places..])
 }
 
+#[tactic(auto, unfolding(c_form::specs::Flat::handle_misfits))]
 pub fn handle_misfits(src: &[u8]) -> bool
     ensures { result ≡ handle_misfits src.now }
 {

@@ -2,9 +2,11 @@
 ghost use Rattle.std.specs.Prelude.{◌≡◌, ◌≤◌, length};
 ghost use Rattle.c_form.specs.Flat.{handle_in, handle_over};
 
+use crate::write::put_all;
 use base::Handle;
-use journal_bytes::{get_u64, put_u64};
+use journal_bytes::get_u64;
 
+#[tactic(auto, unfolding(c_form::specs::Flat::handle_in))]
 pub fn take_handle(src: &[u8]) -> Handle
     requires { 40 ≤ length src.now }
     ensures { result ≡ handle_in src.now }
@@ -23,13 +25,17 @@ pub fn take_handle(src: &[u8]) -> Handle
     }
 }
 
+#[tactic(auto, unfolding(c_form::specs::Flat::handle_over))]
 pub fn put_handle(dst: &mut [u8], handle: Handle)
     requires { 40 ≤ length dst.old }
     ensures { dst.new ≡ handle_over handle dst.old }
 {
-    put_u64(dst, 0, handle.offset as u64);
-    put_u64(dst, 8, handle.end as u64);
-    put_u64(dst, 16, handle.position as u64);
-    put_u64(dst, 24, handle.count as u64);
-    put_u64(dst, 32, handle.saved as u64);
+    let numbers = [
+        handle.offset as u64,
+        handle.end as u64,
+        handle.position as u64,
+        handle.count as u64,
+        handle.saved as u64,
+    ];
+    put_all(dst, 0, &numbers);
 }

@@ -4,57 +4,15 @@ ghost use Rattle.journal_record.specs.Bytes.{unle};
 ghost use Rattle.c_form.specs.Fields.{read_from};
 ghost use Rattle.c_form.specs.Flat.{byte_in, double_from, index_in, mark_in, palette_from, lab_from, indices_from, locks_from, flat_length};
 
-use crate::number::index_at;
-use journal_bytes::get_u64;
-use journal_read::double_in;
+use crate::number::Field;
 
-// The bytes from `at` on.
-fn take_palette(src: &[u8], at: usize, out: &mut [u8])
-    requires { at + 1 * length out.old ≤ length src.now }
-    ensures { out.new ≡ read_from 1 byte_in at (length out.old) src.now }
+// As many numbers as there are places, from `at` on.
+fn take_all<T: Field>(src: &[u8], at: usize, out: &mut [T])
+    requires { at + T.SIZE * length out.old ≤ length src.now }
+    ensures { out.new ≡ read_from T.SIZE T.read at (length out.old) src.now }
 {
-    let mut i: usize = 0;
-    while i < out.len() {
-        out[i] = src[at + i];
-        i += 1;
-    }
-}
-
-// The doubles from `at` on.
-fn take_lab(src: &[u8], at: usize, out: &mut [f64])
-    requires { at + 8 * length out.old ≤ length src.now }
-    ensures { out.new ≡ read_from 8 double_from at (length out.old) src.now }
-{
-    let mut i: usize = 0;
-    while i < out.len() {
-        let v = double_in(src, at + 8 * i);
-        out[i] = v;
-        i += 1;
-    }
-}
-
-// The indices from `at` on.
-fn take_indices(src: &[u8], at: usize, out: &mut [i16])
-    requires { at + 2 * length out.old ≤ length src.now }
-    ensures { out.new ≡ read_from 2 index_in at (length out.old) src.now }
-{
-    let mut i: usize = 0;
-    while i < out.len() {
-        let z = index_at(src, at + 2 * i);
-        out[i] = z;
-        i += 1;
-    }
-}
-
-// The marks from `at` on.
-fn take_locks(src: &[u8], at: usize, out: &mut [bool])
-    requires { at + 1 * length out.old ≤ length src.now }
-    ensures { out.new ≡ read_from 1 mark_in at (length out.old) src.now }
-{
-    let mut i: usize = 0;
-    while i < out.len() {
-        out[i] = src[at + i] == 1;
-        i += 1;
+    for (i, place) in out.iter_mut().enumerate() {
+        *place = T::get(src, at + T::SIZE * i);
     }
 }
 
@@ -63,12 +21,7 @@ pub fn take_list(src: &[u8], out: &mut [u64])
     requires { 8 * length out.old ≤ length src.now }
     ensures { out.new ≡ read_from 8 unle 0 (length out.old) src.now }
 {
-    let mut i: usize = 0;
-    while i < out.len() {
-        let c = get_u64(src, 8 * i);
-        out[i] = c;
-        i += 1;
-    }
+    take_all(src, 0, out);
 }
 
 // A sheet's parts, with as many indices as the buffer for them has.
@@ -86,8 +39,8 @@ pub fn take_sheet(
     ensures indices_after { indices.new ≡ read_from 2 index_in indices_from (length indices.old) src.now }
     ensures locks_after { locks.new ≡ read_from 1 mark_in (locks_from (length indices.old)) 255 src.now }
 {
-    take_palette(src, 6, palette);
-    take_lab(src, 771, lab);
-    take_indices(src, 6891, indices);
-    take_locks(src, 6891 + 2 * indices.len(), locks);
+    palette.copy_from_slice(&src[6..771]);
+    take_all(src, 771, lab);
+    take_all(src, 6891, indices);
+    take_all(src, 6891 + 2 * indices.len(), locks);
 }

@@ -15,8 +15,6 @@ pub extern "C" fn call_convert(
     state: &mut [usize; 6],
 ) -> u8 {
     let c = history_convert::convert(w, h, form_of(from), journal, handle_of(state), out);
-    let handle = c.handle;
-    let answer = c.answer;
-    tell_handle(handle, state);
-    answer.number()
+    tell_handle(c.handle, state);
+    c.answer.number()
 }

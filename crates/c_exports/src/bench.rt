@@ -10,10 +10,8 @@ pub extern "C" fn bench_lab(rgb: &[u8], lab: &mut [f64]) {
     if lab.len() / 3 < n {
         return;
     }
-    let mut i = 0;
-    while i < n {
+    for i in 0..n {
         put_lab(lab, i, color::rgb8_to_lab(rgb_at(rgb, i)));
-        i += 1;
     }
 }
 
@@ -25,10 +23,8 @@ pub extern "C" fn bench_lab_lent(rgb: &[u8], lab: &mut [f64]) {
         return;
     }
     let t = color_lab::table();
-    let mut i = 0;
-    while i < n {
+    for i in 0..n {
         put_lab(lab, i, color_lab::lab_in(&t, rgb_at(rgb, i)));
-        i += 1;
     }
 }
 
@@ -43,14 +39,11 @@ fn value_of(r: Root) -> f64 {
 // The cube root of each number, or 0.0.
 #[unsafe(no_mangle)]
 pub extern "C" fn bench_cbrt(t: &[f64], roots: &mut [f64]) {
-    let n = t.len();
-    if roots.len() < n {
+    if roots.len() < t.len() {
         return;
     }
-    let mut i = 0;
-    while i < n {
-        roots[i] = value_of(color::cbrt(t[i]));
-        i += 1;
+    for (root, x) in roots.iter_mut().zip(t) {
+        *root = value_of(color::cbrt(*x));
     }
 }
 
@@ -69,10 +62,8 @@ pub extern "C" fn bench_nearest(targets: &[f64], lab: &[f64], k: usize, found: &
     if found.len() < n {
         return;
     }
-    let mut i = 0;
-    while i < n {
-        found[i] = entry_of(color::nearest_index(lab_at(targets, i), lab, k));
-        i += 1;
+    for (i, entry) in found[..n].iter_mut().enumerate() {
+        *entry = entry_of(color::nearest_index(lab_at(targets, i), lab, k));
     }
 }
 
@@ -86,10 +77,7 @@ pub extern "C" fn bench_nearest_in(targets: &[f64], lab: &[f64], k: usize, found
     if lab.len() / 3 < k {
         return;
     }
-    let mut i = 0;
-    while i < n {
-        let near = color_nearest::nearest_in(lab_at(targets, i), lab, k);
-        found[i] = near.entry;
-        i += 1;
+    for (i, entry) in found[..n].iter_mut().enumerate() {
+        *entry = color_nearest::nearest_in(lab_at(targets, i), lab, k).entry;
     }
 }

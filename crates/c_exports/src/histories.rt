@@ -1,14 +1,14 @@
 // The calls of `history`. The palette count and the handle's five numbers go in and come back in a list of six. A journal's
 // form is a number: 0 coordinates, else places.
-use base::{Moved, Next, Truth};
-use c_flat::{NO_EDIT, NONE, edit_of, form_of, handle_of, is_edit, tell_edit, tell_handle};
+use base::{Moved, Next};
+use c_flat::{
+    NO_EDIT, NONE, edit_of, form_of, handle_of, is_edit, tell_edit, tell_handle, tell_truth,
+};
 
 fn tell_moved(m: Moved, state: &mut [usize; 6]) -> u8 {
-    let handle = m.handle;
-    let answer = m.answer;
     state[0] = m.k;
-    tell_handle(handle, state);
-    answer.number()
+    tell_handle(m.handle, state);
+    m.answer.number()
 }
 
 #[unsafe(no_mangle)]
@@ -138,21 +138,8 @@ pub extern "C" fn call_redo(
 #[unsafe(no_mangle)]
 pub extern "C" fn call_mark_saved(form: u8, journal: &[u8], state: &mut [usize; 6]) -> u8 {
     let m = history::mark_saved(form_of(form), journal, handle_of(state));
-    let handle = m.handle;
-    let answer = m.answer;
-    tell_handle(handle, state);
-    answer.number()
-}
-
-// r[0] is 1 for true.
-fn tell_truth(t: Truth, r: &mut [usize; 5]) -> u8 {
-    match t {
-        Truth::Is(b) => {
-            r[0] = if b { 1 } else { 0 };
-            0
-        }
-        Truth::Refused(n) => n,
-    }
+    tell_handle(m.handle, state);
+    m.answer.number()
 }
 
 // 0 `is_dirty`, 1 `can_undo`, else `can_redo`.
@@ -245,7 +232,6 @@ pub extern "C" fn call_replay(
         w, h, k, palette, lab, indices, locks, limited, permitted, loaded, curve, edit, list,
         scratch,
     );
-    let answer = m.answer;
     state[0] = m.k;
-    answer.number()
+    m.answer.number()
 }

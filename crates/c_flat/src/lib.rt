@@ -2,36 +2,34 @@
 // that they are safe and end.
 #![tactic(auto)]
 
-use base::{Counted, Edit, Form, Got, Handle, Lab, Rgb};
+ghost use Rattle.std.specs.Prelude.{◌≡◌};
+ghost use Rattle.base.specs.Answer.{number, truth_told};
+
+use base::{Counted, Edit, Form, Got, Handle, Lab, Rgb, Truth};
 use selection::{Area, Chosen, Selection};
 
 // No value: "still", nothing, outside, free.
 pub const NONE: u8 = 255;
 
 pub fn rgb_of(c: &[u8; 3]) -> Rgb {
-    Rgb {
-        r: c[0],
-        g: c[1],
-        b: c[2],
-    }
+    let [r, g, b] = *c;
+    Rgb { r, g, b }
 }
 
 pub fn lab_of(c: &[f64; 3]) -> Lab {
-    Lab {
-        l: c[0],
-        a: c[1],
-        b: c[2],
-    }
+    let [l, a, b] = *c;
+    Lab { l, a, b }
 }
 
 // The handle's five numbers stand behind the palette count.
 pub fn handle_of(state: &[usize; 6]) -> Handle {
+    let [_, offset, end, position, count, saved] = *state;
     Handle {
-        offset: state[1],
-        end: state[2],
-        position: state[3],
-        count: state[4],
-        saved: state[5],
+        offset,
+        end,
+        position,
+        count,
+        saved,
     }
 }
 
@@ -53,12 +51,8 @@ pub fn form_of(n: u8) -> Form {
 }
 
 pub fn part_of(s: &[u16; 4]) -> Selection {
-    Selection {
-        x: s[0],
-        y: s[1],
-        w: s[2],
-        h: s[3],
-    }
+    let [x, y, w, h] = *s;
+    Selection { x, y, w, h }
 }
 
 // All where the flag says so, else the part.
@@ -75,55 +69,46 @@ pub const NO_EDIT: u8 = 254;
 
 // Whether the bytes are an edit's: of a kind from 1 to 5. Each wrapper asks it before `edit_of`.
 pub fn is_edit(bytes: &[u8; 8]) -> bool {
-    let kind = bytes[0];
-    1 <= kind && kind <= 5
+    matches!(bytes[0], 1..=5)
 }
 
 // An edit: kind, tool, old colour and new colour in bytes; its index; its LAB. A lock's marks stand where the colours' reds do.
 pub fn edit_of(bytes: &[u8; 8], index: usize, doubles: &[f64; 3]) -> Edit {
-    let kind = bytes[0];
+    let [kind, tool, old_r, old_g, old_b, new_r, new_g, new_b] = *bytes;
     let old = Rgb {
-        r: bytes[2],
-        g: bytes[3],
-        b: bytes[4],
+        r: old_r,
+        g: old_g,
+        b: old_b,
     };
     let new = Rgb {
-        r: bytes[5],
-        g: bytes[6],
-        b: bytes[7],
+        r: new_r,
+        g: new_g,
+        b: new_b,
     };
-    if kind == 1 {
-        return Edit::Pixels { tool: bytes[1] };
-    }
-    if kind == 2 {
-        return Edit::PaletteSet {
+    match kind {
+        1 => Edit::Pixels { tool },
+        2 => Edit::PaletteSet {
             index,
             old,
             new,
             old_lab: lab_of(doubles),
-        };
-    }
-    if kind == 3 {
-        return Edit::PaletteAdd { rgb: new };
-    }
-    if kind == 4 {
-        return Edit::PaletteRemove {
+        },
+        3 => Edit::PaletteAdd { rgb: new },
+        4 => Edit::PaletteRemove {
             index,
             rgb: old,
             lab: lab_of(doubles),
-        };
-    }
-    Edit::PaletteLock {
-        index,
-        old: bytes[2] != 0,
-        new: bytes[5] != 0,
+        },
+        _ => Edit::PaletteLock {
+            index,
+            old: old_r != 0,
+            new: new_r != 0,
+        },
     }
 }
 
 pub fn tell_lab(c: Lab, doubles: &mut [f64; 3]) {
-    doubles[0] = c.l;
-    doubles[1] = c.a;
-    doubles[2] = c.b;
+    *doubles = [c.l, c.a, c.b];
 }
 
 fn tell_old(c: Rgb, bytes: &mut [u8; 8]) {
@@ -136,10 +121,6 @@ fn tell_new(c: Rgb, bytes: &mut [u8; 8]) {
     bytes[5] = c.r;
     bytes[6] = c.g;
     bytes[7] = c.b;
-}
-
-fn byte_of(mark: bool) -> u8 {
-    if mark { 1 } else { 0 }
 }
 
 // The edit as `edit_of` reads it, its index in r[0].
@@ -173,18 +154,15 @@ pub fn tell_edit(e: Edit, bytes: &mut [u8; 8], doubles: &mut [f64; 3], r: &mut [
         }
         Edit::PaletteLock { index, old, new } => {
             bytes[0] = 5;
-            bytes[2] = byte_of(old);
-            bytes[5] = byte_of(new);
+            bytes[2] = old.into();
+            bytes[5] = new.into();
             r[0] = index;
         }
     }
 }
 
 pub fn tell_part(p: Selection, s: &mut [u16; 4]) {
-    s[0] = p.x;
-    s[1] = p.y;
-    s[2] = p.w;
-    s[3] = p.h;
+    *s = [p.x, p.y, p.w, p.h];
 }
 
 pub fn tell_chosen(c: Chosen, s: &mut [u16; 4]) -> u8 {
@@ -205,6 +183,19 @@ pub fn tell_count(c: Counted, r: &mut [usize; 5]) -> u8 {
             0
         }
         Counted::Refused(n) => n,
+    }
+}
+
+// r[0] is 1 for true.
+pub fn tell_truth(t: Truth, r: &mut [usize; 5]) -> u8
+    ensures { result ≡ number (truth_told t) }
+{
+    match t {
+        Truth::Is(b) => {
+            r[0] = b.into();
+            0
+        }
+        Truth::Refused(n) => n,
     }
 }
 

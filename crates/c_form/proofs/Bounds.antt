@@ -1,20 +1,20 @@
 -- A sound handle's numbers have 64 bits, and so come back from their bytes. Assumes nothing.
-use mathlib.Core.Path.{◌≡◌, refl, sym, ap, ◌∙◌}
-use mathlib.Core.List.{List, [], ◌∷◌, map}
+use mathlib.Core.Path.{◌≡◌, sym, ap, ◌∙◌}
+use mathlib.Core.List.{List, [], ◌∷◌}
 use mathlib.Core.Logic.{◌⊎◌, inl, inr}
-use Prim.Native.Nat.{ℕ, ◌+◌, ◌*◌, ◌^◌, ◌≤◌, ◌<◌, ◌%◌}
+use Prim.Native.Nat.{ℕ, ◌≤◌, ◌<◌}
 use native.Mathlib.Nat.{mod-eq_of_lt}
 use native.Mathlib.Omega.{arith}
-use lib.ListN.{length, take, get_or}
+use lib.ListN.{length, get_or}
 use lib.Seq.{take_all}
 use Rattle.base.specs.Limits.{max_journal}
 use Rattle.base.specs.Lists.{All}
 use Rattle.base.specs.declared.Handle.{Handle}
-use Rattle.journal_record.specs.Bytes.{le, unle, le_at}
+use Rattle.journal_record.specs.Bytes.{unle, le_at}
 use Rattle.journal_record.proofs.LittleEndian.{length-le, unle-le}
-use Rattle.history_ledger.specs.Handle.{nowhere, sound}
-use Rattle.history_ledger.proofs.Soundness.{Sound, sound-facts, same-handle}
-use Rattle.c_form.specs.Fields.{read_from, write_from}
+use Rattle.history_ledger.specs.Handle.{nowhere}
+use Rattle.history_ledger.proofs.Soundness.{Sound, same-handle}
+use Rattle.c_form.specs.Fields.{read_from}
 use Rattle.c_form.specs.Flat.{word_over, handle_in, handle_over}
 use Rattle.c_form.proofs.Fields.{length-write, length-read}
 use Rattle.c_form.proofs.Spans.{read-written}

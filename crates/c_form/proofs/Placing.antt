@@ -6,7 +6,7 @@ use Prim.Native.Nat.{ℕ, ◌+◌, ◌*◌}
 use native.Mathlib.Omega.{arith}
 use lib.IntN.{pos, negsuc}
 use lib.Ieee.{nan}
-use lib.ListN.{length, replicate, take, drop, get_or}
+use lib.ListN.{replicate}
 use Rattle.base.specs.Lists.{over}
 use Rattle.base.specs.declared.Handle.{Handle}
 use Rattle.color_doubles.specs.Finite.{unfit}

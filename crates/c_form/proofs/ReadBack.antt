@@ -1,18 +1,17 @@
 -- A sheet written over a flat buffer of its size reads back: all of it, but for LAB past the entries that are finite. Assumes
 -- nothing.
 use mathlib.Core.Path.{◌≡◌, refl, sym, ap, subst, ◌∙◌}
-use mathlib.Core.Bool.{Bool, true, false, not, cond, ◌||◌}
+use mathlib.Core.Bool.{Bool, true, false, not}
 use mathlib.Core.List.{List, [], ◌∷◌, map}
-use Prim.Native.Nat.{ℕ, zero, suc, ◌+◌, ◌*◌, ◌^◌, ◌%◌, ◌≤◌, ◌<◌}
+use Prim.Native.Nat.{ℕ, zero, suc, ◌+◌, ◌*◌, ◌<◌}
 use native.Mathlib.Nat.{mod-eq_of_lt}
 use native.Mathlib.Omega.{arith}
 use borrow.Author.Tests.{eq-eqb}
 use lib.Dec.{T, ltb, eqb}
 use lib.IntN.{ℤ}
 use lib.Ieee.{Float, binary64, to_bits, of_bits, fits}
-use lib.Ieee.Bits.{of_bits-to_bits, of_bits-fits, to_bits-lt, is_true}
-use lib.ListN.{length, take, drop, get_or, length-map}
-use lib.Seq.{take_all, take-take}
+use lib.Ieee.Bits.{of_bits-to_bits, of_bits-fits, to_bits-lt}
+use lib.ListN.{length, take, drop, get_or}
 use mir.Syntax.{w16}
 use mir.Val.{to_z, of_z, SFits}
 use mir.Facts as facts
@@ -24,10 +23,10 @@ use Rattle.journal_record.specs.Bytes.{le, unle, le_at}
 use Rattle.journal_record.specs.Record.{mark_byte}
 use Rattle.journal_record.proofs.LittleEndian.{length-le, unle-le}
 use Rattle.c_form.specs.Fields.{read_from, write_from}
-use Rattle.c_form.specs.Flat.{byte_in, byte_over, double_from, double_over, index_in, index_over, mark_in, mark_over, pair_over, width_in, height_in, count_in, places_in, palette_in, lab_in, indices_in, locks_in, sheet_over, sheet_misfits}
-use Rattle.c_form.proofs.Fields.{length-read, length-write, take-write, drop-write}
+use Rattle.c_form.specs.Flat.{byte_in, byte_over, double_from, double_over, index_in, index_over, mark_in, mark_over, pair_over, width_in, height_in, count_in, places_in, palette_in, lab_in, indices_in, locks_in, sheet_misfits}
+use Rattle.c_form.proofs.Fields.{length-write, take-write, drop-write}
 use Rattle.c_form.proofs.Numbers.{double-sized}
-use Rattle.c_form.proofs.Spans.{window, shorter, read-front, read_none, read-written, read_whole, AllOver, over-same, over-read, Again, read-over, map_same, all_any}
+use Rattle.c_form.proofs.Spans.{window, shorter, read-front, read-written, read_whole, AllOver, over-same, over-read, Again, read-over, map_same, all_any}
 
 -- ---- one number, written and read
 pair-back : (v : ℕ) → v < 65536 → unle (le 2 v) ≡ v

@@ -1,9 +1,9 @@
 -- Numbers read from bytes: what they depend on, and that what was written is read. One law for every width. Assumes nothing.
 use mathlib.Core.Path.{◌≡◌, refl, sym, ap, subst, ◌∙◌}
-use mathlib.Core.Bool.{Bool, false, ◌||◌}
+use mathlib.Core.Bool.{Bool, false}
 use mathlib.Core.List.{List, [], ◌∷◌, map}
-use Prim.Native.Nat.{ℕ, zero, suc, ◌+◌, ◌-◌, ◌*◌, ◌≤◌, ◌<◌}
-use native.Mathlib.Nat.{mul-suc, add-zero}
+use Prim.Native.Nat.{ℕ, zero, suc, ◌+◌, ◌-◌, ◌*◌, ◌≤◌}
+use native.Mathlib.Nat.{mul-suc}
 use native.Mathlib.Omega.{arith}
 use lib.ListN.{length, take, drop, length-drop, length-map}
 use lib.Seq.{take-take, take_all, take-length, length-take-le, drop-drop}
@@ -11,7 +11,7 @@ use Rattle.base.specs.Lists.{some, All}
 use Rattle.journal_record.specs.Bytes.{splice}
 use Rattle.journal_record.proofs.LittleEndian.{drop-take}
 use Rattle.c_form.specs.Fields.{read_from, write_from}
-use Rattle.c_form.proofs.Fields.{length-read, take-splice, drop-splice, at-splice, take-write, length-write}
+use Rattle.c_form.proofs.Fields.{length-read, drop-splice, at-splice, take-write, length-write}
 
 -- a span of bytes is that of any bytes with the same front
 pub window : (s at : ℕ) (b b' : List ℕ) → take (at + s) b ≡ take (at + s) b' → take s (drop at b) ≡ take s (drop at b')

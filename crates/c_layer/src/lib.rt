@@ -2,17 +2,7 @@
 // the number, 0 where there is an answer, and the count goes to r[0]. It is proved that they are safe and end.
 #![tactic(auto)]
 
-use base::Counted;
-
-fn tell_count(c: Counted, r: &mut [usize; 5]) -> u8 {
-    match c {
-        Counted::Count(n) => {
-            r[0] = n;
-            0
-        }
-        Counted::Refused(n) => n,
-    }
-}
+use c_flat::tell_count;
 
 #[unsafe(no_mangle)]
 pub extern "C" fn call_flatten(

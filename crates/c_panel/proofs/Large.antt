@@ -1,29 +1,26 @@
 -- 28, and a side over 64. Assumes nothing.
-use mathlib.Core.Path.{◌≡◌, refl, sym, ap, ◌∙◌}
-use mathlib.Core.Bool.{Bool, true, false, not, cond, ◌||◌, or-true}
-use mathlib.Core.List.{List, [], ◌∷◌}
+use mathlib.Core.Path.{◌≡◌, refl, ap, ◌∙◌}
+use mathlib.Core.Bool.{Bool, true, false, cond, ◌||◌, or-true}
+use mathlib.Core.List.{List}
 use Prim.Native.Nat.{ℕ, ◌+◌, ◌*◌, ◌≤◌, ◌<◌}
 use native.Mathlib.Nat.{mul-le-mul}
-use native.Mathlib.Omega.{arith}
 use borrow.Author.Tests.{lt-ltb, le-ltb, eqb-true, not-false}
-use lib.Dec.{ltb, eqb}
+use lib.Dec.{ltb}
 use lib.ListN.{length}
 use Rattle.base.specs.Limits.{max_journal}
-use Rattle.base.specs.Checks.{◌when◌, first_of, refused_or, or_else}
+use Rattle.base.specs.Checks.{first_of, refused_or, or_else}
 use Rattle.base.specs.Answer.{number, number_of, answer_told}
-use Rattle.base.specs.Answer.Told.{result, alone}
 use Rattle.base.specs.declared.Answer as base
 use Rattle.base.specs.declared.Answer.TheVariants.{Refused}
 use Rattle.base.proofs.Scan.{or_left, or_right}
-use Rattle.base.proofs.Back.{never}
 use Rattle.sheet.specs.Sheet.{view}
-use Rattle.history_ledger.specs.Calls.{Outcome, refused}
+use Rattle.history_ledger.specs.Calls.{Outcome}
 use Rattle.history_ledger.specs.Calls.Call.{mark}
 use Rattle.history_ledger.specs.Journal.{State, move_checks, redoChecks, undoOf, redoOf, stepOver, mark_of}
 use Rattle.history_model.specs.Document.{Document}
 use Rattle.history_model.specs.Calls.{outcome_of}
 use Rattle.history_model.specs.Editing.{editing}
-use Rattle.c_form.specs.Flat.{width_in, height_in, count_in, places_in, flat_length, sheet_misfits, handle_misfits, handle_in, handle_over}
+use Rattle.c_form.specs.Flat.{width_in, height_in, count_in, places_in, sheet_misfits, handle_misfits, handle_in}
 use Rattle.c_model.specs.Asked.{sides_over, flat_editing}
 use Rattle.c_model.specs.Step.{Flat, flat_of, sheet_in, state_in, flat_left, flattened, misfits, moved, handle_left, flat_mark, flat_step, FlatLeaves}
 use Rattle.c_model.proofs.Faithful.{suited}

@@ -10,8 +10,8 @@ use lib.ListN.{length}
 use Rattle.base.specs.Numbers.{flat_misfit}
 use Rattle.base.specs.Limits.{max_journal}
 use Rattle.base.specs.Checks.{Check, ◌when◌, first_of, refused_or, or_else}
-use Rattle.base.specs.Answer.Told.{result, alone}
-use Rattle.base.specs.Answer.{number, number_of, answer_told}
+use Rattle.base.specs.Answer.Told.{alone}
+use Rattle.base.specs.Answer.{number, number_of}
 use Rattle.base.specs.declared.Answer as base
 use Rattle.base.specs.declared.Answer.TheVariants.{Refused}
 use Rattle.base.specs.declared.Edit.TheVariants.{Pixels}
@@ -21,11 +21,10 @@ use Rattle.sheet.specs.Sheet.{view}
 use Rattle.sheet.specs.Checks.{permitted_checks, sheet_checks, limit_checks, mark_checks, index_checks, lab_checks}
 use Rattle.edit.specs.Checks.{permitted_of}
 use Rattle.history_ledger.specs.Algebra.{Algebra}
-use Rattle.history_ledger.specs.Calls.{Answer, Outcome, refused, still, done, guarded}
+use Rattle.history_ledger.specs.Calls.{Outcome, refused, still, done}
 use Rattle.history_ledger.specs.Journal.{State, entry_checks, pushChecks, pushOf, pushed}
 use Rattle.history_model.specs.Editing.{Given, editing}
-use Rattle.edit.specs.List.{list_of, empty_pixels}
-use Rattle.color_curve.specs.Curve.{curve_checks}
+use Rattle.edit.specs.List.{empty_pixels}
 use Rattle.journal_record.specs.Bytes.{unle}
 use Rattle.c_form.specs.Fields.{read_from}
 use Rattle.c_form.specs.Flat.{width_in, height_in, numbers_in, list_misfits}
@@ -36,7 +35,7 @@ use Rattle.base.specs.declared.Edit.{Edit}
 use Rattle.history_ledger.specs.Calls.Call.{push}
 use Rattle.history_model.specs.Document.{Document, document_checks}
 use Rattle.history_model.specs.Editing.{given_of}
-use Rattle.c_model.specs.Step.{flat_of, misfits, moved, flat_step, FlatLeaves}
+use Rattle.c_model.specs.Step.{misfits, moved, flat_step, FlatLeaves}
 use Rattle.c_model.proofs.Limits.{bounded}
 use Rattle.c_panel.specs.Lent.{flat_moved, push_fit, list_fit, long_number, Listed}
 

@@ -1,50 +1,26 @@
 -- A sheet taken apart, a call of the core on it, and what the call leaves put back. Assumes nothing.
 use mathlib.Core.Path.{◌≡◌, refl, sym, ap, subst, ◌∙◌}
-use mathlib.Core.Bool.{Bool, true, false, cond}
+use mathlib.Core.Bool.{Bool}
 use mathlib.Core.List.{List}
 use Prim.Native.Nat.{ℕ, ◌+◌, ◌*◌}
 use lib.IntN.{ℤ}
 use lib.Ieee.{Float}
-use lib.ListN.{length}
-use Rattle.base.specs.Answer.{Told, number, number_of, answer_told}
+use Rattle.base.specs.Answer.{answer_told}
 use Rattle.base.specs.Answer.Told.{result, alone}
-use Rattle.base.specs.declared.Answer as base
 use Rattle.base.specs.declared.Handle.{Handle}
 use Rattle.base.specs.declared.Moved.{Moved}
-use Rattle.base.proofs.Back.{never}
 use Rattle.history_ledger.specs.Calls.{Answer, Outcome}
 use Rattle.history_ledger.specs.Journal.{State, pushOf, undoOf, redoOf}
 use Rattle.history_model.specs.Editing.{Given, editing}
-use Rattle.history_ledger.specs.Tally.{is_done}
 use Rattle.history_model.specs.Document.{Document, document_of}
 use Rattle.history_model.specs.Calls.{state_of, leaves}
 use Rattle.c_form.specs.Fields.{read_from}
-use Rattle.c_form.specs.Flat.{byte_in, double_from, index_in, mark_in, width_in, height_in, count_in, handle_in, handle_over}
-use Rattle.c_model.specs.Step.{Flat, flat_of, flat_over, sheet_in, state_in, flat_left, flattened, handle_left, flat_room}
+use Rattle.c_form.specs.Flat.{byte_in, double_from, index_in, mark_in, width_in, height_in, count_in, handle_in}
+use Rattle.c_model.specs.Step.{Flat, flat_of, sheet_in, state_in, flat_left, flattened, handle_left, flat_room}
 use Rattle.c_panel.specs.Lent.{flat_moved, sheet_left, Settles}
 use Rattle.c_panel.proofs.Limits.{push_kept}
 
 -- ---- by the answer
-pub handle-done : (x : Answer) (h : Handle) (b b' : List ℕ) → is_done x ≡ true → b' ≡ handle_over h b → b' ≡ handle_left b x h
-unfolding handle_left
-handle-done (result d) h b b' e p = p
-handle-done (alone n) h b b' e p = never e
-
-pub handle-kept : (x : Answer) (h : Handle) (b : List ℕ) → is_done x ≡ false → b ≡ handle_left b x h
-unfolding handle_left
-handle-kept (result d) h b e = never (sym e)
-handle-kept (alone n) h b e = refl
-
-pub sheet-done : (x : Answer) (d : Document) (b b' : List ℕ) → is_done x ≡ true → b' ≡ flat_over d b → b' ≡ sheet_left b x d
-unfolding sheet_left
-sheet-done (result t) d b b' e p = p
-sheet-done (alone n) d b b' e p = never e
-
-pub sheet-kept : (x : Answer) (d : Document) (b : List ℕ) → is_done x ≡ false → b ≡ sheet_left b x d
-unfolding sheet_left
-sheet-kept (result t) d b e = never (sym e)
-sheet-kept (alone n) d b e = refl
-
 left-same : (x : Answer) (s : Flat) (st : State Document) (sheet' handle' : List ℕ) → sheet' ≡ sheet_left s.sheet x st.sheet
     → handle' ≡ handle_left s.handle x st.handle → ((n : ℕ) → x ≡ alone n → st.journal ≡ s.journal)
     → flat_of sheet' st.journal handle' ≡ flat_left s x st

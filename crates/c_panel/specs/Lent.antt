@@ -1,6 +1,6 @@
 -- What the functions of this crate hand to each other: buffers that hold a flat sheet apart, and what a call of the
 -- core leaves. Definitions only. Assumes nothing.
-use Rattle.std.specs.Prelude.{◌≡◌, Bool, false, cond, List, [], ℕ, ◌*◌, ◌/◌, ltb, eqb, length}
+use Rattle.std.specs.Prelude.{◌≡◌, false, cond, List, [], ℕ, ◌*◌, ◌/◌, ltb, eqb, length}
 use Rattle.base.specs.Numbers.{bad_sheet, list_too_long, flat_misfit}
 use Rattle.base.specs.Answer.{answer_told}
 use Rattle.base.specs.Answer.Told.{result, alone}

@@ -223,6 +223,7 @@ fn push_listed(
 }
 
 // 1 to 4 come before 21: a push of no pixels answers these, else "still", and leaves everything.
+#[tactic(auto, unfolding(crate::specs::Lent::long_number))]
 fn long_number(no: u8) -> u8
     ensures { result ≡ long_number no }
 {

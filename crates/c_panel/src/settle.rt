@@ -14,14 +14,11 @@ use c_bytes::{put_handle, put_sheet};
 fn is_done(answer: Answer) -> bool
     ensures { result ≡ is_done (answer_told answer) }
 {
-    match answer {
-        Answer::Done => true,
-        Answer::Still => false,
-        Answer::Refused(_) => false,
-    }
+    matches!(answer, Answer::Done)
 }
 
 // Where the answer is "done", the handle is written over its bytes; else they keep.
+#[tactic(auto, unfolding(c_model::specs::Step::handle_left))]
 pub(crate) fn settle_handle(answer: Answer, after: Handle, handle: &mut [u8])
     requires { length handle.old ≡ 40 }
     ensures { handle.new ≡ handle_left handle.old (answer_told answer) after }
@@ -32,6 +29,7 @@ pub(crate) fn settle_handle(answer: Answer, after: Handle, handle: &mut [u8])
 }
 
 // The same of a sheet.
+#[tactic(auto, unfolding(crate::specs::Lent::sheet_left))]
 pub(crate) fn settle_sheet(
     answer: Answer,
     k: usize,

@@ -1,6 +1,6 @@
 // The calls of `tool_line`, `change_op` and `change_stroke`.
-use base::{Counted, MadeOp, Truth};
-use c_flat::{NO_EDIT, edit_of, is_edit, tell_count, tell_edit};
+use base::{Counted, MadeOp};
+use c_flat::{NO_EDIT, edit_of, is_edit, tell_count, tell_edit, tell_truth};
 use change_stroke::Stroke;
 
 #[unsafe(no_mangle)]
@@ -66,13 +66,7 @@ pub extern "C" fn call_is_empty(
     if !is_edit(bytes) {
         return NO_EDIT;
     }
-    match change_op::is_empty(edit_of(bytes, index, doubles), list) {
-        Truth::Is(b) => {
-            r[0] = if b { 1 } else { 0 };
-            0
-        }
-        Truth::Refused(n) => n,
-    }
+    tell_truth(change_op::is_empty(edit_of(bytes, index, doubles), list), r)
 }
 
 #[unsafe(no_mangle)]

@@ -1,4 +1,4 @@
--- A loop that copies the front of a list over the front of a buffer. Assumes nothing.
+-- Indices laid out in a scratch as their bits, and painted there. Assumes nothing.
 use Prim.Native.Nat.{ℕ, ◌+◌, ◌%◌, ◌≤◌, ◌<◌, ◌^◌}
 use mathlib.Core.Path.{◌≡◌, refl, sym, ap, ◌∙◌}
 use mathlib.Core.List.{List, [], ◌∷◌, map}
@@ -17,7 +17,7 @@ use Rattle.base.specs.Lists.{over, All}
 use Rattle.base.proofs.Mapped.{map-set}
 use Rattle.base.proofs.Each.{all-at}
 use Rattle.change_list.specs.Between.{laid_out}
-use Rattle.base.proofs.Over.{over_none, over-set, length_over}
+use Rattle.base.proofs.Over.{over_none, over-set}
 
 -- bits that were an index are that index
 pub bit-back : (z : ℤ) → SFits w16 z → to_z w16 (of_z w16 z % 2 ^ 16) ≡ z
@@ -28,59 +28,34 @@ unfolding All
 bits_back [] a = refl
 bits_back (z ∷ l) a = rw (bit-back z a.0, bits_back l a.1)
 
-module _ (s : List ℕ) (n : ℕ) (o₀ : List ℕ) where
-  pub record Copying (o : List ℕ) (i : ℕ) : Type 0 where
-    pub low : i ≤ n
-    pub done : o ≡ over (take i s) o₀
-
-  pub copying-start : Copying o₀ 0
-  copying-start = record { low = omega arith; done = over_none o₀ }
-
-  module _ (hs : n ≤ length s) (ho : n ≤ length o₀) where
-    pub copying-long : {o : List ℕ} {i : ℕ} → Copying o i → length o ≡ length o₀
-    copying-long {i = i} c = let h = c.low in ap length c.done ∙ length_over (take i s) o₀ (omega (arith, length-take-le i s (omega arith)))
-
-    pub copying-step : {o : List ℕ} {i : ℕ} → Copying o i → i < n → Copying (set o i (get_or s i 0)) (i + 1)
-    copying-step {o} {i} c h = record {
-      low = omega arith;
-      done = rw (add-one, take-suc s i 0 (omega arith)) (ap (λ (l : List ℕ). set l i (get_or s i 0)) c.done ∙ over-set (take i s) o₀ i (get_or s i 0) (length-take-le i s (omega arith)) (omega arith));
-    }
-
-  pub copying-end : {o : List ℕ} {i : ℕ} → Copying o i → n ≤ i → o ≡ over (take n s) o₀
-  copying-end {i = i} c h = let l = c.low in let e : i ≡ n = omega arith in rw (← e) c.done
-
 -- ---- indices laid out as their bits, as the code reads them
 module _ (l : List ℤ) (o₀ : List ℕ) where
   abbrev bits : List ℕ
   bits = map (of_z w16) l
 
   pub record Laying (o : List ℕ) (i : ℕ) : Type 0 where
-    pub copied : Copying bits (length l) o₀ o i
+    pub done : o ≡ over (take i bits) o₀
     pub fits : (j : ℕ) → j < i → SFits w16 (get_or l j (pos 0))
 
   pub laying-start : Laying o₀ 0
-  laying-start = record { copied = copying-start bits (length l) o₀; fits = λ j k. absurd (omega arith) }
-
-  all_of : length l ≤ length bits
-  all_of = omega (arith, length-map l (of_z w16))
+  laying-start = record { done = over_none o₀; fits = λ j k. absurd (omega arith) }
 
   module _ (h : length l ≤ length o₀) {o : List ℕ} {i : ℕ} (c : Laying o i) where
-    pub laying-long : length o ≡ length o₀
-    laying-long = copying-long bits (length l) o₀ all_of h c.copied
-
     pub laying-next : {b : ℕ} → i < length l → mag (get_or l i (pos 0)) < 2 ^ hbits w16 → b ≡ of_z w16 (to_z w16 (of_z w16 (get_or l i (pos 0)))) → Laying (set o i b) (i + 1)
     laying-next {b} k m e =
         let here : SFits w16 (get_or l i (pos 0)) = record { sfits = m } in
-        let at : get_or bits i 0 ≡ of_z w16 (get_or l i (pos 0)) = get_or-map (of_z w16) l i (pos 0) in
-        let is : b ≡ get_or bits i 0 = by_value (of_z w16) here e ∙ sym at in
+        let in_bits : i < length bits = omega (arith, length-map l (of_z w16)) in
+        let is : b ≡ get_or bits i 0 = by_value (of_z w16) here e ∙ sym (get_or-map (of_z w16) l i (pos 0)) in
         record {
-          copied = rw is (copying-step bits (length l) o₀ all_of h c.copied k);
+          done = rw (is, add-one, take-suc bits i 0 in_bits)
+              (ap (λ (v : List ℕ). set v i (get_or bits i 0)) c.done
+              ∙ over-set (take i bits) o₀ i (get_or bits i 0) (length-take-le i bits (omega arith)) (omega arith));
           fits = λ j q. elim (ℕ_discrete j i) [ yes z ↦ rw z here | no z ↦ c.fits j (omega arith) ];
         }
 
     module _ (k : length l ≤ i) where
       pub laying-end : o ≡ over bits o₀
-      laying-end = copying-end bits (length l) o₀ c.copied k ∙ ap (λ (v : List ℕ). over v o₀) (take_all (length l) bits (omega (arith, length-map l (of_z w16))))
+      laying-end = c.done ∙ ap (λ (v : List ℕ). over v o₀) (take_all i bits (omega (arith, length-map l (of_z w16))))
 
       -- the scratch holds the picture
       pub laying-laid : laid_out (length l) o ≡ l
@@ -99,7 +74,3 @@ laid-set n s p z f =
       | yes h ↦ ap (map index) (take-set-lt n s p v h) ∙ map-set index (take n s) p v ∙ ap (set (map index (take n s)) p) (bit-back z f)
       | no h ↦ ap (map index) (take-set-le n s p v (omega arith)) ∙ sym (set_out (map index (take n s)) p z (omega (arith, length-map (take n s) index, length-take n s)))
     ]
-
-pub painted-laid : (s : List ℕ) (p : ℕ) {b : ℕ} (z : ℤ) → SFits w16 z → b ≡ of_z w16 (to_z w16 (of_z w16 z))
-    → (set s p b ≡ set s p (of_z w16 z)) × ((n : ℕ) → laid_out n (set s p b) ≡ set (laid_out n s) p z)
-painted-laid s p {b} z f e = let bits : b ≡ of_z w16 z = by_value (of_z w16) f e in (rw bits, λ n. rw bits (laid-set n s p z f))

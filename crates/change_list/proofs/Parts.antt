@@ -1,18 +1,18 @@
 -- Some rows of a picture, laid out, painted and compared alone: beside them nothing was painted, so there is no change. Assumes nothing.
 use Prim.Native.Nat.{ℕ, zero, suc, ◌+◌, ◌-◌, ◌*◌, ◌%◌, ◌≤◌, ◌<◌, ◌^◌}
 use mathlib.Core.Path.{◌≡◌, refl, sym, ap, ◌∙◌}
-use mathlib.Core.List.{List, [], ◌∷◌, ◌++◌, map}
+use mathlib.Core.List.{List, [], ◌∷◌, map}
 use native.Mathlib.Omega.{arith}
 use native.Mathlib.Nat.{add-zero, zero-add, zero-mul, add-mul, suc-mul, mul_comm, mul-le-mul_right}
 use borrow.Rule.Slice.PartMut.{put_mid}
 use lib.IntN.{ℤ}
 use lib.ListN.{length, take, drop, set, length-drop}
 use lib.Seq.{take-take, drop-drop, take_all, take_at, drop_at, length-take-le, take-set-le, take-set-lt, drop-set-lt, drop-set-add}
+use Rattle.std.proofs.lemmas.List.{drop-map}
 use mir.Syntax.{w16}
 use mir.Val.{to_z}
 use Rattle.base.specs.Lists.{All}
 use Rattle.base.proofs.Mapped.{map-take}
-use Rattle.base.specs.Ints.{eq_z}
 use Rattle.base.proofs.Back.{eq_z-same}
 use Rattle.edit.specs.Change.{Change, place, painted, new_of}
 use Rattle.change_list.specs.Between.{between_from, between, laid_out, rows_of, between_rows, HasRows}
@@ -28,13 +28,8 @@ module _ {A : Type 0} where
   length_part : (c a : ℕ) (l : List A) → a + c ≤ length l → length (take c (drop a l)) ≡ c
   length_part c a l h = length-take-le c (drop a l) (omega (arith, length-drop a l))
 
-  map-drop : {B : Type 0} (f : A → B) (n : ℕ) (l : List A) → map f (drop n l) ≡ drop n (map f l)
-  map-drop f zero l = refl
-  map-drop f (suc n) [] = refl
-  map-drop f (suc n) (x ∷ l) = map-drop f n l
-
   part-map : {B : Type 0} (f : A → B) (c a : ℕ) (l : List A) → take c (drop a (map f l)) ≡ map f (take c (drop a l))
-  part-map f c a l = ap (take c) (sym (map-drop f a l)) ∙ sym (map-take f c (drop a l))
+  part-map f c a l = ap (take c) (drop-map f a l) ∙ sym (map-take f c (drop a l))
 
   part-put : (c a : ℕ) (s part : List A) → a + c ≤ length s → length part ≡ c → take c (drop a (put_mid a c s part)) ≡ part
   part-put c a s part h e = ap (take c) (drop_at (take a s) _ a (length-take-le a s (omega arith))) ∙ take_at part _ c e
@@ -71,12 +66,6 @@ module _ (w first count : ℕ) (l : List ℤ) (s : List ℕ) (r : HasRows w firs
 
   pub end-inside : end ≤ length l
   end-inside = let i = r.inside in omega (arith, add-mul first count w)
-
-  pub lent_fits : length (take (end - at) (drop at l)) ≤ length (take (end - at) (drop at s))
-  lent_fits =
-      let o = r.roomy in
-      let i = end-inside in
-      omega (arith, length_part (end - at) at l (omega arith), length_part (end - at) at s (omega arith))
 
   pub rows-laid : (part : List ℕ) → laid_out (length (take (end - at) (drop at l))) part ≡ take (end - at) (drop at l)
       → length part ≡ length (take (end - at) (drop at s))

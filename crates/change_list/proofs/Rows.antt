@@ -5,18 +5,18 @@ use mathlib.Core.Bool.{Bool, true, false, cond}
 use mathlib.Core.List.{List, [], ◌∷◌, ◌++◌, map, append_assoc, append-nil}
 use native.Mathlib.Omega.{arith}
 use native.Mathlib.Decide.{ℕ_discrete}
-use native.Mathlib.Nat.{add-zero, zero-add, zero-mul, one-mul, add-mul, suc-mul, mul_comm, mul-le-mul_right}
+use native.Mathlib.Numerals.{add-one}
+use native.Mathlib.Nat.{add-zero, zero-add, add-mul, suc-mul, mul-le-mul_right}
 use borrow.Author.Tests.{eq-eqb, ne_eqb}
 use lib.Dec.{eqb}
 use lib.Arith.{digits_div, digits_mod}
 use lib.IntN.{ℤ, pos}
-use lib.ListN.{length, take, drop, get_or, set, length-drop, drop_of_length-le, take-append-drop}
+use lib.ListN.{length, take, drop, get_or, set, length-drop, drop_of_length-le}
 use lib.Seq.{drop-cons, drop-drop, get_or-drop, length-take-le, take-add}
 use mir.Syntax.{w16}
 use lib.Signed.{mag}
 use mir.Val.{Fits, SFits, to_z, of_z, hbits}
 use mir.ValLaws.{of_z-to_z, to_z-Fits}
-use Rattle.base.proofs.Mapped.{map-take}
 use Rattle.base.specs.Ints.{eq_z}
 use Rattle.base.proofs.Back.{eq-back, by_value}
 use Rattle.edit.specs.Change.{packed}
@@ -109,14 +109,9 @@ module _ (l : List ℕ) (m k old new : ℕ) where
 module _ (row : List ℤ) (first at : ℕ) (s₀ : List ℕ) (m₀ : ℕ) where
   pub record Rowing (s : List ℕ) (m x : ℕ) : Type 0 where
     pub low : m ≤ at + x
-    pub upto : x ≤ length row
-    pub long : length s ≡ length s₀
     pub behind : drop (at + x) s ≡ drop (at + x) s₀
     pub fits : (i : ℕ) → i < x → SFits w16 (get_or row i (pos 0))
     pub done : take m s ++ row_from (first + x) (drop x row) (drop (at + x) s₀) ≡ take m₀ s₀ ++ row_from first row (drop at s₀)
-
-  pub rowing_start : m₀ ≤ at → Rowing s₀ m₀ 0
-  rowing_start h = record { low = omega arith; upto = omega arith; long = refl; behind = refl; fits = λ i h. absurd (omega arith); done = rw (add-zero first, add-zero at) }
 
   module _ {s : List ℕ} {m x : ℕ} (r : Rowing s m x) where
     -- what is read is a bit pattern of the picture
@@ -124,9 +119,6 @@ module _ (row : List ℤ) (first at : ℕ) (s₀ : List ℕ) (m₀ : ℕ) where
     read = rw (add-zero (at + x)) at (sym (get_or-drop (at + x) s 0 0) ∙ ap (λ (l : List ℕ). get_or l 0 0) r.behind ∙ get_or-drop (at + x) s₀ 0 0)
 
     module _ (h : x < length row) (fit : at + length row ≤ length s₀) where
-      pub rowing-room : m < length s
-      rowing-room = let a = r.low in let b = r.long in omega arith
-
       next : row_from (first + x) (drop x row) (drop (at + x) s₀)
           ≡ difference_of (first + x) (of_z w16 (get_or row x (pos 0))) (get_or s₀ (at + x) 0 % 2 ^ 16) ++ row_from (first + (x + 1)) (drop (x + 1) row) (drop (at + (x + 1)) s₀)
       unfolding row_from
@@ -137,8 +129,8 @@ module _ (row : List ℤ) (first at : ℕ) (s₀ : List ℕ) (m₀ : ℕ) where
           rw (drop-cons row x (pos 0) h, drop-cons s₀ (at + x) 0 (omega arith), a, b, c)
 
       pub rowing-next : {s' : List ℕ} {old new r' : ℕ} → mag (get_or row x (pos 0)) < 2 ^ hbits w16 → old ≡ of_z w16 (to_z w16 (of_z w16 (get_or row x (pos 0)))) → new ≡ get_or s (at + x) 0 % 2 ^ 16
-          → Put s m (difference_of (first + x) old new) (m + 1) s' r' → length s' ≡ length s → Rowing s' r' (x + 1)
-      rowing-next {s'} {old} {new} {r'} g e f u t =
+          → Put s m (difference_of (first + x) old new) (m + 1) s' r' → Rowing s' r' (x + 1)
+      rowing-next {s'} {old} {new} {r'} g e f u =
           let fit-here : SFits w16 (get_or row x (pos 0)) = record { sfits = g } in
           let lo = r.low in
           let mo = u.most in
@@ -151,20 +143,16 @@ module _ (row : List ℤ) (first at : ℕ) (s₀ : List ℕ) (m₀ : ℕ) where
           let here : difference_of (first + x) old new ≡ difference_of (first + x) (of_z w16 (get_or row x (pos 0))) (get_or s₀ (at + x) 0 % 2 ^ 16) = rw (by_value (of_z w16) fit-here e, f, read) in
           record {
             low = omega arith;
-            upto = omega arith;
-            long = t ∙ r.long;
             behind = kept ∙ rw (← one) (sym (drop-drop 1 (at + x) s) ∙ ap (drop 1) r.behind ∙ drop-drop 1 (at + x) s₀);
             fits = λ i k. elim (ℕ_discrete i x) [ yes q ↦ rw q fit-here | no q ↦ r.fits i (omega arith) ];
             done = ap (λ (k : List ℕ). k ++ rest) u.front ∙ append_assoc (take m s) (difference_of (first + x) old new) rest
                 ∙ ap (λ (k : List ℕ). take m s ++ k) (ap (λ (k : List ℕ). k ++ rest) here ∙ sym next) ∙ r.done;
           }
 
-    pub rowing-end : length row ≤ x → Put s₀ m₀ (row_from first row (drop at s₀)) (at + length row) s m
+    pub rowing-end : x ≡ length row → Put s₀ m₀ (row_from first row (drop at s₀)) (at + length row) s m
     unfolding row_from
-    rowing-end h =
-        let u = r.upto in
-        let e : x ≡ length row = omega arith in
-        let none : drop x row ≡ [] = drop_of_length-le row h in
+    rowing-end e =
+        let none : drop x row ≡ [] = drop_of_length-le row (omega arith) in
         record {
           front = sym (append-nil (take m s)) ∙ (rw none at r.done);
           most = rw (← e) r.low;
@@ -176,87 +164,61 @@ module _ (row : List ℤ) (first at : ℕ) (s₀ : List ℕ) (m₀ : ℕ) where
 
 -- ---- count rows from `first` on
 module _ (w first count : ℕ) (l : List ℤ) (s₀ : List ℕ) where
-  -- the changes of the rows from the j-th on
+  -- the changes of the rows from y on
   abbrev left : ℕ → List ℕ
-  left j = map packed (between_from w ((first + j) * w) (rows_of w (first + j) (count - j) l) (map index_of (drop ((first + j) * w) s₀)))
+  left y = map packed (between_from w (y * w) (rows_of w y (first + count - y) l) (map index_of (drop (y * w) s₀)))
 
-  pub record Listing (s : List ℕ) (m j : ℕ) : Type 0 where
-    pub low : m ≤ (first + j) * w
-    pub upto : j ≤ count
-    pub long : length s ≡ length s₀
-    pub behind : drop ((first + j) * w) s ≡ drop ((first + j) * w) s₀
-    pub done : take m s ++ left j ≡ left 0
-
-  pub listing_start : Listing s₀ 0 0
-  listing_start = record { low = omega arith; upto = omega arith; long = refl; behind = refl; done = refl }
+  pub record Listing (s : List ℕ) (m y : ℕ) : Type 0 where
+    pub low : m ≤ y * w
+    pub behind : drop (y * w) s ≡ drop (y * w) s₀
+    pub done : take m s ++ left y ≡ left first
 
   -- row y as it is lent
   abbrev lent : ℕ → List ℤ
   lent y = take (y * w + w - y * w) (drop (y * w) l)
 
-  module _ (in-picture : HasRows w first count (length l) (length s₀)) {s : List ℕ} {m j : ℕ} (g : Listing s m j) where
-    abbrev y : ℕ
-    y = first + j
-
-    module _ (k : j < count) where
+  module _ (in-picture : HasRows w first count (length l) (length s₀)) {s : List ℕ} {m y : ℕ} (g : Listing s m y) where
+    module _ (k : y < first + count) where
       pub row_inside : y * w + w ≤ length l
-      row_inside =
-          let i = in-picture.inside in
-          let below : suc (first + j) ≤ first + count = omega arith in
-          omega (arith, suc-mul y w, mul-le-mul_right w below)
+      row_inside = let i = in-picture.inside in omega (arith, suc-mul y w, mul-le-mul_right w k)
 
       length-lent : length (lent y) ≡ w
       length-lent = length-take-le (y * w + w - y * w) (drop (y * w) l) (omega (arith, length-drop (y * w) l, row_inside)) ∙ omega arith
 
-      pub listing-fits : (m ≤ y * w) × (y * w + length (lent y) ≤ length s) × (y * 2 ^ 16 + length (lent y) ≤ 2 ^ 32)
-      listing-fits =
-          let n = in-picture.narrow in
-          let f = in-picture.few in
-          let o = in-picture.roomy in
-          (g.low, rw (length-lent, g.long) (omega (arith, row_inside)), rw length-lent (omega arith))
-
-      pub listing-next : All (SFits w16) (lent y) → {s' : List ℕ} {r : ℕ}
-          → Put s m (row_from (y * 2 ^ 16) (lent y) (drop (y * w) s)) (y * w + length (lent y)) s' r → length s' ≡ length s → Listing s' r (j + 1)
-      listing-next f {s'} {r} u t =
+      pub listing-next : first ≤ y → All (SFits w16) (lent y) → {s' : List ℕ} {r : ℕ}
+          → Put s m (row_from (y * 2 ^ 16) (lent y) (drop (y * w) s)) (y * w + length (lent y)) s' r → Listing s' r (y + 1)
+      listing-next b f {s'} {r} u =
           let wide : y * w + w - y * w ≡ w = omega arith in
-          let nx : (first + (j + 1)) * w ≡ y * w + w = (let e : first + (j + 1) ≡ suc y = omega arith in rw e (omega (arith, suc-mul y w))) in
-          let end : y * w + length (lent y) ≡ (first + (j + 1)) * w = omega (arith, length-lent) in
-          let more : count - j ≡ suc (count - (j + 1)) = omega arith in
-          let split : left j ≡ row_from (y * 2 ^ 16) (lent y) (drop (y * w) s₀) ++ left (j + 1) =
-          rw (more, wide) (row-splits w y (first + (j + 1)) (count - (j + 1)) l s₀ nx row_inside in-picture.roomy (rw wide at f)) in
+          let nx : (y + 1) * w ≡ y * w + w = rw add-one (omega (arith, suc-mul y w)) in
+          let end : y * w + length (lent y) ≡ (y + 1) * w = omega (arith, length-lent) in
+          let more : first + count - y ≡ suc (first + count - (y + 1)) = omega arith in
+          let split : left y ≡ row_from (y * 2 ^ 16) (lent y) (drop (y * w) s₀) ++ left (y + 1) =
+          rw (more, wide) (row-splits w y (y + 1) (first + count - (y + 1)) l s₀ nx row_inside in-picture.roomy (rw wide at f)) in
           let n : ℕ = length (lent y) in
           let passed : drop (y * w + n) s ≡ drop (y * w + n) s₀ = sym (drop-drop n (y * w) s) ∙ ap (drop n) g.behind ∙ drop-drop n (y * w) s₀ in
           record {
             low = rw (← end) u.most;
-            upto = omega arith;
-            long = t ∙ g.long;
             behind = rw (← end) (u.behind ∙ passed);
-            done = ap (λ (b : List ℕ). b ++ left (j + 1)) (u.front ∙ ap (λ (b : List ℕ). take m s ++ row_from (y * 2 ^ 16) (lent y) b) g.behind)
-                ∙ append_assoc (take m s) (row_from (y * 2 ^ 16) (lent y) (drop (y * w) s₀)) (left (j + 1))
+            done = ap (λ (b : List ℕ). b ++ left (y + 1)) (u.front ∙ ap (λ (b : List ℕ). take m s ++ row_from (y * 2 ^ 16) (lent y) b) g.behind)
+                ∙ append_assoc (take m s) (row_from (y * 2 ^ 16) (lent y) (drop (y * w) s₀)) (left (y + 1))
                 ∙ ap (λ (b : List ℕ). take m s ++ b) (sym split) ∙ g.done;
           }
 
-    pub listing-end : count ≤ j → Front (map packed (between_rows w first count l (laid_out (length l) s₀))) s m
+    pub listing-end : length s ≡ length s₀ → y ≡ first + count → Front (map packed (between_rows w first count l (laid_out (length l) s₀))) s m
     unfolding between_rows between_from
-    listing-end k =
-        let u = g.upto in
+    listing-end lg e =
         let i = in-picture.inside in
         let o = in-picture.roomy in
         let lo = g.low in
-        let lg = g.long in
-        let e : j ≡ count = omega arith in
         let fits : first * w + count * w ≤ length l = omega (arith, add-mul first count w) in
         let rows : length (rows_of w first count l) ≡ count * w = length-rows w first count l fits in
+        let z : first + count - first ≡ count = omega arith in
         front_of
-        (sym (append-nil (take m s)) ∙ ap (λ (x : List ℕ). take m s ++ x) (sym (none_left e)) ∙ g.done
-        ∙ ap (map packed) (all_left ∙ between-take w (first * w) (rows_of w first count l) (map index_of (drop (first * w) s₀))
+        (sym (append-nil (take m s)) ∙ ap (λ (x : List ℕ). take m s ++ x) (sym none_left) ∙ (rw z at g.done)
+        ∙ ap (map packed) (between-take w (first * w) (rows_of w first count l) (map index_of (drop (first * w) s₀))
         ∙ ap (λ (n : ℕ). between_from w (first * w) (rows_of w first count l) (take n (map index_of (drop (first * w) s₀)))) rows
         ∙ ap (between_from w (first * w) (rows_of w first count l)) (sym (rows-read w first count (length l) s₀ fits))))
-        (omega (arith, mul-le-mul_right w (let z : first + j ≤ first + count = omega arith in z)))
+        (omega (arith, (rw e at lo)))
       where
-        none_left : j ≡ count → left j ≡ []
-        none_left e = let z : count - j ≡ 0 = omega arith in rw (z, no_rows w (first + j) l)
-
-        all_left : between_from w ((first + 0) * w) (rows_of w (first + 0) (count - 0) l) (map index_of (drop ((first + 0) * w) s₀))
-            ≡ between_from w (first * w) (rows_of w first count l) (map index_of (drop (first * w) s₀))
-        all_left = let a : first + 0 ≡ first = omega arith in let b : count - 0 ≡ count = omega arith in rw (a, b)
+        none_left : left y ≡ []
+        none_left = let z : first + count - y ≡ 0 = omega arith in rw (z, no_rows w y l)

@@ -9,16 +9,8 @@ ghost use Rattle.edit.specs.Change.{packed};
 ghost use Rattle.change_list.specs.Fronts.{Front, Put};
 ghost use Rattle.change_list.specs.Between.{laid_out, rows_of, between_rows, HasRows, difference_of, row_from};
 
+use edit::{NEW, OLD, PART, ROW};
 use edit_pixels::bits_of;
-
-// The values of one part, and the units in which a change counts its row, its old and its new.
-const PART: u64 = 65_536;
-
-const ROW: u64 = 65_536;
-
-const OLD: u64 = 4_294_967_296;
-
-const NEW: u64 = 281_474_976_710_656;
 
 // Indices into the scratch, an index a number, in 16 bits.
 fn lay(indices: &[i16], scratch: &mut [u64])
@@ -26,11 +18,8 @@ fn lay(indices: &[i16], scratch: &mut [u64])
     ensures scratch_after { scratch.new ≡ over (map (of_z w16) indices.now) scratch.old }
     ensures scratch_after_2 { laid_out (length indices.now) scratch.new ≡ indices.now }
 {
-    let mut i: usize = 0;
-    while i < indices.len() {
-        let bits = bits_of(indices[i]) as u64;
-        scratch[i] = bits;
-        i += 1;
+    for (i, index) in indices.iter().enumerate() {
+        scratch[i] = bits_of(*index) as u64;
     }
 }
 
@@ -51,8 +40,7 @@ pub fn paint(scratch: &mut [u64], p: usize, index: i16)
     ensures scratch_after { scratch.new ≡ set scratch.old p (of_z w16 index) }
     ensures by_index { (n : ℕ) → laid_out n scratch.new ≡ set (laid_out n scratch.old) p index }
 {
-    let bits = bits_of(index) as u64;
-    scratch[p] = bits;
+    scratch[p] = bits_of(index) as u64;
 }
 
 // The change of old to new at m, where they differ; answers the next place.
@@ -77,12 +65,10 @@ fn row_differences(row: &[i16], first: u64, at: usize, s: &mut [u64], m: usize) 
     ensures all { All (SFits w16) row.now }
 {
     let mut m = m;
-    let mut x: usize = 0;
-    while x < row.len() {
-        let old = bits_of(row[x]) as u64;
+    for (x, index) in row.iter().enumerate() {
+        let old = bits_of(*index) as u64;
         let new = s[at + x] % PART;
         m = put_difference(s, m, first + x as u64, old, new);
-        x += 1;
     }
     m
 }
@@ -100,14 +86,11 @@ pub fn differences(
     ensures { Front (map packed (between_rows w first count indices.now
         (laid_out (length indices.now) scratch.old))) scratch.new result }
 {
-    let mut m: usize = 0;
-    let mut j: usize = 0;
-    while j < count {
-        let y = first + j;
+    let mut m = 0;
+    for y in first..first + count {
         let at = y * w;
         let end = at + w;
         m = row_differences(&indices[at..end], y as u64 * ROW, at, scratch, m);
-        j += 1;
     }
     m
 }

@@ -12,11 +12,7 @@ pub fn copy_out(scratch: &[u64], n: usize, out: &mut [u64])
     requires n_in_bounds_2 { n ≤ length out.old }
     ensures { out.new ≡ over (take n scratch.now) out.old }
 {
-    let mut i: usize = 0;
-    while i < n {
-        out[i] = scratch[i];
-        i += 1;
-    }
+    out[..n].copy_from_slice(&scratch[..n]);
 }
 
 // The end of every call that leaves n changes at the front of scratch: how many they are, or 16 where the buffer

@@ -1,28 +1,22 @@
--- What `normalize`, `pixels` and `is_empty` answer, by what their tests find. Assumes nothing.
+-- What `normalize` and `pixels` answer, by what their tests find. Assumes nothing.
 use Prim.Native.Nat.{ℕ, ◌≤◌, ◌<◌}
-use mathlib.Core.Path.{◌≡◌, refl, ap, ◌∙◌}
-use mathlib.Core.Bool.{Bool}
-use mathlib.Core.List.{List, [], ◌∷◌, map}
+use mathlib.Core.Path.{◌≡◌, refl, ap}
+use mathlib.Core.List.{List, map}
 use native.Mathlib.Omega.{arith}
 use borrow.Author.Tests.{lt-ltb, le-ltb}
-use lib.Dec.{ltb}
 use lib.ListN.{length, take}
 use Rattle.base.specs.Limits.{max_changes}
-use Rattle.base.specs.Numbers.{list_too_long}
-use Rattle.base.specs.Checks.{◌when◌, first_of}
+use Rattle.base.specs.Checks.{first_of}
 use Rattle.base.specs.Answer.{Told, filled, leaving, count_told, Op, op_count}
 use Rattle.base.specs.Answer.Told.{result, alone}
 use Rattle.base.specs.declared.Counted.TheVariants.{Refused}
-use Rattle.base.proofs.First.{refused-first, result-first}
-use Rattle.base.specs.declared.Edit.{Edit}
 use Rattle.edit.specs.Change.{unpacked}
-use Rattle.edit.specs.List.{list_of, empty_pixels}
 use Rattle.change_list.specs.Fronts.{Front}
 use Rattle.change_list.specs.Listed.{handed, InScratch}
 use Rattle.change_list.proofs.Handing.{listed-refused, listed-done}
 use Rattle.change_list.proofs.InScratch.{scratch-then}
 use Rattle.change_normal.specs.Normal.{normalize_of, normal_packed}
-use Rattle.change_op.specs.Op.{normalize_checks, normalize_call, making, pixels_of, pixels_call, is_empty_of}
+use Rattle.change_op.specs.Op.{normalize_checks, normalize_call, making, pixels_of, pixels_call}
 
 module _ (room : ℕ) (list out : List ℕ) where
   pub normalize-long : max_changes < length list → filled (Refused 21) out ≡ normalize_call room list out
@@ -55,13 +49,3 @@ module _ (tool room : ℕ) (list : List ℕ) (places : ℕ) where
       → InScratch (op_count o) places s (making o) (pixels_call tool room list)
   unfolding pixels_call
   pixels-in {a} c e = rw (e, count_kept tool a) (scratch-then c (λ out after h d. ap (λ f. making (pixels_of tool f.answer) f.buffer) d))
-
--- ---- `is_empty`
-module _ (edit : Edit) (list : List ℕ) where
-  pub empty-long : max_changes < length list → alone 21 ≡ is_empty_of edit list
-  unfolding is_empty_of first_of
-  empty-long h = refused-first (list_too_long when ltb max_changes (length list) ∷ []) alone _ 21 (rw (lt-ltb max_changes (length list) h)) (λ e. omega arith)
-
-  pub empty-told : {b : Bool} → length list ≤ max_changes → b ≡ empty_pixels (list_of edit) (length list) → result b ≡ is_empty_of edit list
-  unfolding is_empty_of first_of
-  empty-told h e = ap result e ∙ result-first (list_too_long when ltb max_changes (length list) ∷ []) alone _ (rw (le-ltb max_changes (length list) h))

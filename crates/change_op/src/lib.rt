@@ -43,6 +43,7 @@ pub fn normalize(list: &[u64], scratch: &mut [u64], out: &mut [u64]) -> Counted
 }
 
 // An edit of pixels, whose list was counted.
+#[tactic(auto, unfolding(crate::specs::Op::pixels_of))]
 pub fn pixels_of(tool: u8, counted: Counted) -> MadeOp
     ensures { made_op_told result ≡ pixels_of tool (counted_told counted) }
 {
@@ -81,7 +82,7 @@ pub fn made_count(answer: MadeOp) -> usize
     ensures { result ≡ made_count answer }
 {
     match answer {
-        MadeOp::Op { edit: _, count } => count,
+        MadeOp::Op { count, .. } => count,
         MadeOp::Refused(_) => 0,
     }
 }
@@ -97,29 +98,17 @@ pub fn is_empty(edit: Edit, list: &[u64]) -> Truth
     Truth::Is(edit::is_empty(list_of(edit), list.len()))
 }
 
-// The journal's kind of an edit: 1 "pixels", 2 "palette_set", 3 "palette_add", 4 "palette_remove", and document 02's 5, a
-// lock.
+// The journal's kind of an edit: 1 "pixels", 2 "palette_set", 3 "palette_add", 4 "palette_remove", and document
+// 02's 5, a lock.
+#[tactic(auto, unfolding(journal_record::specs::Found::kind_of))]
 pub fn kind(edit: Edit) -> u8
     ensures { result ≡ kind_of edit }
 {
     match edit {
-        Edit::Pixels { tool: _ } => 1,
-        Edit::PaletteSet {
-            index: _,
-            old: _,
-            new: _,
-            old_lab: _,
-        } => 2,
-        Edit::PaletteAdd { rgb: _ } => 3,
-        Edit::PaletteRemove {
-            index: _,
-            rgb: _,
-            lab: _,
-        } => 4,
-        Edit::PaletteLock {
-            index: _,
-            old: _,
-            new: _,
-        } => 5,
+        Edit::Pixels { .. } => 1,
+        Edit::PaletteSet { .. } => 2,
+        Edit::PaletteAdd { .. } => 3,
+        Edit::PaletteRemove { .. } => 4,
+        Edit::PaletteLock { .. } => 5,
     }
 }

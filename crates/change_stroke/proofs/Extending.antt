@@ -3,7 +3,7 @@ use Prim.Native.Nat.{ℕ, ◌+◌, ◌≤◌, ◌<◌, ◌^◌}
 use mathlib.Core.Path.{◌≡◌}
 use mathlib.Core.List.{List, ◌++◌, map, map-append}
 use native.Mathlib.Omega.{arith}
-use borrow.Author.Tests.{lt-ltb, le-ltb, ltb-false}
+use borrow.Author.Tests.{ltb-false}
 use lib.Dec.{ltb}
 use lib.ListN.{length, take}
 use lib.Seq.{length-take-le}
@@ -22,29 +22,6 @@ use Rattle.change_normal.proofs.ByPlace.{normal-again}
 use Rattle.change_stroke.specs.Stroke.{extended, extend_checks, extend_call}
 
 module _ (count places n room : ℕ) where
-  pub extend-long : max_changes < count → 21 ≡ first_of (extend_checks count places n room)
-  unfolding extend_checks first_of
-  extend-long h = rw (lt-ltb max_changes count h)
-
-  module _ (h : count ≤ max_changes) where
-    pub extend-list : max_changes < n → 21 ≡ first_of (extend_checks count places n room)
-    unfolding extend_checks first_of
-    extend-list k = rw (le-ltb max_changes count h, lt-ltb max_changes n k)
-
-    module _ (k : n ≤ max_changes) where
-      pub extend-few : places < count → 16 ≡ first_of (extend_checks count places n room)
-      unfolding extend_checks first_of
-      extend-few l = rw (le-ltb max_changes count h, le-ltb max_changes n k, lt-ltb places count l)
-
-      module _ (l : count ≤ places) where
-        pub extend-scratch : room < count + n → 16 ≡ first_of (extend_checks count places n room)
-        unfolding extend_checks first_of
-        extend-scratch m = rw (le-ltb max_changes count h, le-ltb max_changes n k, le-ltb places count l, lt-ltb room (count + n) m)
-
-        pub extend-none : count + n ≤ room → 0 ≡ first_of (extend_checks count places n room)
-        unfolding extend_checks first_of
-        extend-none m = rw (le-ltb max_changes count h, le-ltb max_changes n k, le-ltb places count l, le-ltb room (count + n) m)
-
   -- what it means that none applies
   pub record Roomy : Type 0 where
     pub short : count ≤ max_changes

@@ -1,9 +1,9 @@
 -- What the calls on a stroke answer that read its buffer, by what their tests find. Assumes nothing.
-use Prim.Native.Nat.{ℕ, ◌≤◌, ◌<◌}
+use Prim.Native.Nat.{ℕ, ◌≤◌}
 use mathlib.Core.Path.{◌≡◌, ◌∙◌}
 use mathlib.Core.List.{List}
 use native.Mathlib.Omega.{arith}
-use borrow.Author.Tests.{lt-ltb, le-ltb, ltb-false}
+use borrow.Author.Tests.{ltb-false}
 use lib.Dec.{ltb}
 use lib.ListN.{length, take}
 use Rattle.base.specs.Limits.{max_changes}
@@ -16,18 +16,6 @@ use Rattle.change_op.specs.Op.{MadeList, made, pixels_call}
 use Rattle.change_stroke.specs.Stroke.{stroke_checks, changes_of, into_op_call}
 
 module _ (count places : ℕ) where
-  pub stroke-long : max_changes < count → 21 ≡ first_of (stroke_checks count places)
-  unfolding stroke_checks first_of
-  stroke-long h = rw (lt-ltb max_changes count h)
-
-  pub stroke-short : count ≤ max_changes → places < count → 16 ≡ first_of (stroke_checks count places)
-  unfolding stroke_checks first_of
-  stroke-short h k = rw (le-ltb max_changes count h, lt-ltb places count k)
-
-  pub stroke-none : count ≤ max_changes → count ≤ places → 0 ≡ first_of (stroke_checks count places)
-  unfolding stroke_checks first_of
-  stroke-none h k = rw (le-ltb max_changes count h, le-ltb places count k)
-
   -- where none applies, the buffer has the changes
   pub stroke-held : first_of (stroke_checks count places) ≡ 0 → count ≤ places
   unfolding stroke_checks

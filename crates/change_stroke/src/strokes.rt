@@ -14,6 +14,7 @@ use change_op::{made_count, pixels_in};
 
 // The number of the first check of an extension that applies, or 0: 21 of either list, then 16 for a count that
 // the buffer has no places for, and for scratch with fewer places than both lists have changes.
+#[tactic(auto, unfolding(crate::specs::Stroke::extend_checks, base::specs::Checks::first_of))]
 pub fn extend_no(count: usize, places: usize, n: usize, room: usize) -> u8
     ensures { result ≡ first_of (extend_checks count places n room) }
 {
@@ -51,6 +52,7 @@ pub fn extend(stroke: &mut [u64], count: usize, list: &[u64], scratch: &mut [u64
 
 // The number of the first check of a stroke that applies, or 0: 21 of its count, then 16 where the buffer has fewer
 // places.
+#[tactic(auto, unfolding(crate::specs::Stroke::stroke_checks, base::specs::Checks::first_of))]
 fn stroke_no(count: usize, places: usize) -> u8
     ensures { result ≡ first_of (stroke_checks count places) }
 {

@@ -1,34 +1,28 @@
--- A list of doubles gone through: it rises where each step so far rose and what is left rises. Assumes nothing.
-use mathlib.Core.Path.{◌≡◌, refl, sym, ◌∙◌, ap}
-use mathlib.Core.Bool.{Bool, true, false, not, ◌&&◌}
+-- A list of doubles rises exactly where std's `is_sorted_by` finds each below the next. Assumes nothing.
+use mathlib.Core.Path.{◌≡◌, refl, sym, ap, ◌∙◌}
+use mathlib.Core.Bool.{Bool, true, false, ◌&&◌, and-false}
 use mathlib.Core.List.{List, [], ◌∷◌}
-use mathlib.Core.Logic.{◌⊎◌, inl, inr}
-use Prim.Native.Nat.{ℕ, ◌+◌, ◌≤◌, ◌<◌}
+use Prim.Native.Nat.{ℕ, zero, suc, ◌<◌}
+use native.Mathlib.Numerals.{add-one}
 use native.Mathlib.Omega.{arith}
-use borrow.Author.Tests.{not-true, not-false}
 use lib.Ieee.{Float, nan, lt}
-use lib.ListN.{length, get_or, drop}
-use Rattle.base.proofs.Scan.{drop-next, drop-end}
-use Rattle.color_doubles.proofs.Units.{below_or_not}
+use lib.ListN.{length, get_or}
+use Rattle.std.specs.List.{IsAllAdjacentAnswer}
 use Rattle.color_curve.specs.Curve.{rising}
 
-module _ (l : List Float) (i : ℕ) where
-  next : i + 1 < length l → rising (drop i l) ≡ lt (get_or l i nan) (get_or l (i + 1) nan) && rising (drop (i + 1) l)
-  unfolding rising
-  next h = rw (drop-next l i nan (omega (arith, h)), drop-next l (i + 1) nan h) refl
+up : (l : List Float) → ((k : ℕ) → suc k < length l → true ≡ lt (get_or l k nan) (get_or l (suc k) nan)) → true ≡ rising l
+unfolding rising
+up [] h = refl
+up (x ∷ []) h = refl
+up (x ∷ y ∷ l) h = up (y ∷ l) (λ k q. h (suc k) (omega arith)) ∙ ap (λ (b : Bool). b && rising (y ∷ l)) (h 0 (omega arith))
 
-  -- no step is left
-  pub rising-end : length l ≤ i + 1 → rising (drop i l) ≡ true
-  unfolding rising
-  rising-end h = go (below_or_not i (length l))
-    where
-      go : (i < length l) ⊎ (length l ≤ i) → rising (drop i l) ≡ true
-      go (inl k) = rw (drop-next l i nan k, drop-end l (i + 1) h) refl
-      go (inr k) = rw (drop-end l i k) refl
+down : (l : List Float) (k : ℕ) → suc k < length l → false ≡ lt (get_or l k nan) (get_or l (suc k) nan) → false ≡ rising l
+unfolding rising
+down [] k h e = absurd (omega arith)
+down (x ∷ []) k h e = absurd (omega arith)
+down (x ∷ y ∷ l) zero h e = ap (λ (b : Bool). b && rising (y ∷ l)) e
+down (x ∷ y ∷ l) (suc k) h e = sym (and-false (lt x y)) ∙ ap (λ (b : Bool). lt x y && b) (down (y ∷ l) k (omega arith) e)
 
-  -- a step that rises, and one that does not
-  pub rising_step : i + 1 < length l → not (lt (get_or l i nan) (get_or l (i + 1) nan)) ≡ false → rising (drop i l) ≡ rising (drop (i + 1) l)
-  rising_step h e = next h ∙ ap (λ (b : Bool). b && rising (drop (i + 1) l)) (not-false (lt (get_or l i nan) (get_or l (i + 1) nan)) e)
-
-  pub rising-not : i + 1 < length l → not (lt (get_or l i nan) (get_or l (i + 1) nan)) ≡ true → rising (drop i l) ≡ false
-  rising-not h e = next h ∙ ap (λ (b : Bool). b && rising (drop (i + 1) l)) (not-true (lt (get_or l i nan) (get_or l (i + 1) nan)) e)
+pub rising_answer : (l : List Float) (r : Bool) → IsAllAdjacentAnswer (λ x y b. b ≡ lt x y) l r → r ≡ rising l
+rising_answer l true h = up l (λ k q. rw add-one at (h k nan (omega arith)))
+rising_answer l false h = down l h.0 (omega arith) (rw add-one at (h.2 nan))

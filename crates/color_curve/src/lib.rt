@@ -19,14 +19,7 @@ const VALUES: usize = 256;
 fn is_rising(values: &[f64]) -> bool
     ensures { result ≡ rising values.now }
 {
-    let mut i: usize = 0;
-    while i + 1 < values.len() {
-        if !(values[i] < values[i + 1]) {
-            return false;
-        }
-        i += 1;
-    }
-    true
+    values.is_sorted_by(|x, y| *x < *y)
 }
 
 // Whether these are the 256 values of a curve: the first 0, the last 1, each greater than the one before.

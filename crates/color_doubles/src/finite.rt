@@ -18,10 +18,8 @@ pub fn any_unfit(lab: &[f64]) -> bool
     ensures { result ≡ some unfit lab.now }
 {
     let mut bad = false;
-    let mut i = 0;
-    while i < lab.len() {
-        bad = either(bad, is_unfit(lab[i]));
-        i += 1;
+    for x in lab {
+        bad = either(bad, is_unfit(*x));
     }
     bad
 }

@@ -69,18 +69,16 @@ pub fn search_in(target: Lab, lab: &[f64], k: usize) -> Search
     let start = Search {
         near: Near {
             entry: 0,
-            distance: f64::from_bits(0x7ff0_0000_0000_0000),
+            distance: f64::INFINITY,
         },
         total: 0.0,
     };
     let half = k / 2;
     let mut s = start;
     let mut u = start;
-    let mut i = 0;
-    while i < half {
+    for i in 0..half {
         s = take(s, target, lab, i);
         u = take(u, target, lab, half + i);
-        i += 1;
     }
     let both = join(s, u);
     if half + half < k {

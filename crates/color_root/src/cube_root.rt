@@ -56,14 +56,12 @@ fn raised(n: u64, from: u64) -> u64
     requires { (n < 2 ^ 55) × (from ≤ 2 ^ 53) }
     ensures { (from ≤ result) × (result ≤ 2 ^ 53) × (target n ≤ cube (2 * result + 1)) }
 {
-    let mut m = from;
-    while m < 0x20_0000_0000_0000 {
+    for m in from..0x20_0000_0000_0000 {
         if n <= cube_top(2 * m + 1) {
             return m;
         }
-        m += 1;
     }
-    m
+    0x20_0000_0000_0000
 }
 
 // The first number from `from` down to 2^52 whose half step down is below the root.
@@ -71,14 +69,12 @@ fn lowered(n: u64, from: u64) -> u64
     requires { (2 ^ 52 ≤ n) × (2 ^ 52 ≤ from) × (from ≤ 2 ^ 53) × (target n ≤ cube (2 * from + 1)) }
     ensures { NearestRoot n result }
 {
-    let mut m = from;
-    while m > 0x10_0000_0000_0000 {
-        if cube_top(2 * m - 1) < n {
-            return m;
+    for m in (0x10_0000_0000_0000..from).rev() {
+        if cube_top(2 * m + 1) < n {
+            return m + 1;
         }
-        m -= 1;
     }
-    m
+    0x10_0000_0000_0000
 }
 
 // Whether the cube of m alone shows that m is the nearest: it misses the number by less than 3/2 m^2, in

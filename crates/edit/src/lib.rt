@@ -7,6 +7,16 @@ ghost use Rattle.edit.specs.List.{list_of, empty_pixels};
 
 use base::Edit;
 
+// A change as one number of 64 bits: its column from bit 0 on, its row from ROW, its old from OLD and its new from NEW,
+// each of them below PART.
+pub const PART: u64 = 65_536;
+
+pub const ROW: u64 = 65_536;
+
+pub const OLD: u64 = 4_294_967_296;
+
+pub const NEW: u64 = 281_474_976_710_656;
+
 // The list of changes that an edit goes by: none, one of pixels, or the remap of a removed entry.
 #[derive(Clone, Copy)]
 pub enum ListKind {

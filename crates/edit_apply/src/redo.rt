@@ -14,43 +14,26 @@ use edit_locks::is_locked;
 use edit_renumber::lower_above;
 
 // The edit with the colour, the LAB or the mark that its entry has now, as the journal keeps it.
+#[tactic(auto, unfolding(edit::specs::Apply::filled_edit, crate::specs::Redoable::EntryIn))]
 pub fn fill_edit(palette: &[u8], lab: &[f64], locks: &[bool], edit: Edit) -> Edit
     requires { EntryIn (length palette.now) edit × EntryIn (length lab.now) edit × MarkIn (length locks.now) edit }
     ensures { (w h k : ℕ) (indices : List ℤ)
         → result ≡ filled_edit (sheet_of w h k palette.now lab.now indices) locks.now edit }
 {
     match edit {
-        Edit::Pixels { tool: _ } => edit,
-        Edit::PaletteSet {
+        Edit::Pixels { .. } | Edit::PaletteAdd { .. } => edit,
+        Edit::PaletteSet { index, new, .. } => Edit::PaletteSet {
             index,
-            old: _,
+            old: rgb_at(palette, index),
             new,
-            old_lab: _,
-        } => {
-            let old = rgb_at(palette, index);
-            let old_lab = lab_at(lab, index);
-            Edit::PaletteSet {
-                index,
-                old,
-                new,
-                old_lab,
-            }
-        }
-        Edit::PaletteAdd { rgb: _ } => edit,
-        Edit::PaletteRemove {
+            old_lab: lab_at(lab, index),
+        },
+        Edit::PaletteRemove { index, .. } => Edit::PaletteRemove {
             index,
-            rgb: _,
-            lab: _,
-        } => {
-            let rgb = rgb_at(palette, index);
-            let old_lab = lab_at(lab, index);
-            Edit::PaletteRemove {
-                index,
-                rgb,
-                lab: old_lab,
-            }
-        }
-        Edit::PaletteLock { index, old: _, new } => {
+            rgb: rgb_at(palette, index),
+            lab: lab_at(lab, index),
+        },
+        Edit::PaletteLock { index, new, .. } => {
             let old = is_locked(locks, index);
             Edit::PaletteLock { index, old, new }
         }
@@ -69,6 +52,7 @@ fn store_entry(palette: &mut [u8], lab: &mut [f64], loaded: bool, curve: &[f64],
 }
 
 // Does what an edit does beside its list, which is painted already, and answers the palette count after it.
+#[tactic(auto, unfolding(edit::specs::Apply::restDone, crate::specs::Redoable::Finishable))]
 pub fn finish_edit(
     k: usize,
     palette: &mut [u8],
@@ -85,13 +69,8 @@ pub fn finish_edit(
         (sheet_of w h k palette.old lab.old indices.old) edit }
 {
     match edit {
-        Edit::Pixels { tool: _ } => k,
-        Edit::PaletteSet {
-            index,
-            old: _,
-            new,
-            old_lab: _,
-        } => {
+        Edit::Pixels { .. } | Edit::PaletteLock { .. } => k,
+        Edit::PaletteSet { index, new, .. } => {
             store_entry(palette, lab, loaded, curve, index, new);
             k
         }
@@ -99,20 +78,11 @@ pub fn finish_edit(
             store_entry(palette, lab, loaded, curve, k, rgb);
             k + 1
         }
-        Edit::PaletteRemove {
-            index,
-            rgb: _,
-            lab: _,
-        } => {
+        Edit::PaletteRemove { index, .. } => {
             lower_above(indices, index);
             close_palette_gap(palette, index, k);
             close_lab_gap(lab, index, k);
             k - 1
         }
-        Edit::PaletteLock {
-            index: _,
-            old: _,
-            new: _,
-        } => k,
     }
 }

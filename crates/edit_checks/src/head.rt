@@ -9,7 +9,7 @@ ghost use Rattle.edit.specs.Checks.{Permitted, permitted_of, same_rgb, head_chec
 
 use base::{
     COLOUR_NOT_PERMITTED, ENTRY_LOCKED, Edit, LAST_ENTRY, MAX_ENTRIES, NO_SUCH_ENTRY, PALETTE_FULL,
-    Rgb, STALE, both,
+    Rgb, STALE,
 };
 use edit_entries::{check_color, has_rgb};
 use edit_locks::is_locked;
@@ -19,10 +19,11 @@ fn is_stale(palette: &[u8], index: usize, c: Rgb, replay: bool) -> bool
     requires { 3 * index + 3 ≤ length palette.now }
     ensures { result ≡ replay && not (same_rgb (rgb_at palette.now index) c) }
 {
-    both(replay, !has_rgb(palette, index, c))
+    replay && !has_rgb(palette, index, c)
 }
 
 // The number of the first check that applies to a set, or 0: "7, 24, 11, 10".
+#[tactic(auto, unfolding(edit::specs::Checks::head_checks, base::specs::Checks::first_of))]
 fn set_no(
     k: usize,
     palette: &[u8],
@@ -55,6 +56,7 @@ fn set_no(
 }
 
 // The number of the first check that applies to an add, or 0: "8, 10".
+#[tactic(auto, unfolding(edit::specs::Checks::head_checks, base::specs::Checks::first_of))]
 fn add_no(k: usize, limited: bool, permitted: &[u8], c: Rgb) -> u8
     ensures { (w h : ℕ) (palette : List ℕ) (lab : List Float) (indices : List ℤ) (locks : List Bool) (replay : Bool) → result
         ≡ first_of (head_checks replay (sheet_of w h k palette lab indices) locks (permitted_of limited permitted.now)
@@ -70,6 +72,7 @@ fn add_no(k: usize, limited: bool, permitted: &[u8], c: Rgb) -> u8
 }
 
 // The number of the first of a removal's checks before its list that applies, or 0: "7, 24, 9, 11".
+#[tactic(auto, unfolding(edit::specs::Checks::head_checks, base::specs::Checks::first_of))]
 fn entry_no(k: usize, palette: &[u8], locks: &[bool], index: usize, c: Rgb, replay: bool) -> u8
     requires { (k ≤ 255) × (length palette.now ≡ 765) × (length locks.now ≡ 255) }
     ensures { (w h : ℕ) (lab : List Float) (indices : List ℤ) (p : Permitted) (x : Lab)
@@ -92,6 +95,7 @@ fn entry_no(k: usize, palette: &[u8], locks: &[bool], index: usize, c: Rgb, repl
 
 // The number of the first check that applies to a lock, or 0: 7, "Replay of kind 5 gets 11, after 7, when the old mark
 // differs".
+#[tactic(auto, unfolding(edit::specs::Checks::head_checks, base::specs::Checks::first_of))]
 fn lock_no(k: usize, locks: &[bool], index: usize, old: bool, replay: bool) -> u8
     requires { (k ≤ 255) × (length locks.now ≡ 255) }
     ensures { (s : Sheet) (p : Permitted) (new : Bool) → s.k ≡ k
@@ -100,13 +104,14 @@ fn lock_no(k: usize, locks: &[bool], index: usize, old: bool, replay: bool) -> u
     if k <= index {
         return NO_SUCH_ENTRY;
     }
-    if both(replay, is_locked(locks, index) != old) {
+    if replay && is_locked(locks, index) != old {
         return STALE;
     }
     0
 }
 
 // The number of the first of an edit's checks before its list that applies, or 0.
+#[tactic(auto, unfolding(edit::specs::Checks::head_checks, base::specs::Checks::first_of))]
 pub fn head_no(
     k: usize,
     palette: &[u8],
@@ -122,19 +127,17 @@ pub fn head_no(
         (permitted_of limited permitted.now) edit) }
 {
     match edit {
-        Edit::Pixels { tool: _ } => 0,
+        Edit::Pixels { .. } => 0,
         Edit::PaletteSet {
             index,
             old,
             new,
-            old_lab: _,
+            ..
         } => set_no(
             k, palette, locks, limited, permitted, index, old, new, replay,
         ),
         Edit::PaletteAdd { rgb } => add_no(k, limited, permitted, rgb),
-        Edit::PaletteRemove { index, rgb, lab: _ } => entry_no(
-            k, palette, locks, index, rgb, replay,
-        ),
-        Edit::PaletteLock { index, old, new: _ } => lock_no(k, locks, index, old, replay),
+        Edit::PaletteRemove { index, rgb, .. } => entry_no(k, palette, locks, index, rgb, replay),
+        Edit::PaletteLock { index, old, .. } => lock_no(k, locks, index, old, replay),
     }
 }

@@ -1,18 +1,15 @@
--- Entries stored, taken out and put back, where a callee did its part on `&mut l[at..]`. Assumes nothing.
+-- An entry stored, also where one was put in. Assumes nothing.
 use mathlib.Core.Path.{◌≡◌, sym, ap, ◌∙◌}
-use mathlib.Core.List.{List, [], ◌∷◌, ◌++◌, append_assoc, append-nil}
-use Prim.Native.Nat.{ℕ, ◌+◌, ◌*◌, ◌-◌, ◌≤◌}
+use mathlib.Core.List.{List, [], ◌∷◌, ◌++◌, append_assoc}
+use Prim.Native.Nat.{ℕ, ◌+◌, ◌*◌, ◌≤◌}
 use native.Mathlib.Omega.{arith}
-use native.Mathlib.Nat.{zero-add}
 use native.Mathlib.Numerals.{add-one, add-two}
-use borrow.Rule.Slice.PartMut.{put_mid}
 use lib.Ieee.{Float}
-use lib.ListN.{length, take, drop, set, length-drop, length-take, drop_of_length-le}
-use lib.Seq.{drop-drop, take_all, take_at, drop_at, drop-append-add, length-take-le, sets-eq}
+use lib.ListN.{length, take, drop, set, length-drop, length-take}
+use lib.Seq.{take_at, drop_at, drop-append-add, length-take-le, sets-eq}
 use Rattle.base.specs.declared.Lab.{Lab}
 use Rattle.base.specs.Triples.{with_lab}
-use Rattle.edit.specs.Storage.{numbers_of, stored, stored_by, closed_by, reinserted_by}
-use Rattle.edit_entries.proofs.Gaps.{drop-take}
+use Rattle.edit.specs.Storage.{numbers_of, stored, stored_by, reinserted_by}
 
 module _ {A : Type 0} where
   -- three stores
@@ -31,30 +28,8 @@ module _ {A : Type 0} where
       ap (λ (i : ℕ). drop (i + m) (take at l ++ (u ++ S))) (sym k) ∙ drop-append-add (take at l) (u ++ S) m ∙ drop_at u S m e in
       rw (q, front, rest)
 
-  module _ (l : List A) (at : ℕ) (h : at ≤ length l) where
-    -- the part that is lent is all from `at` on
-    lent : take (length l - at) (drop at l) ≡ drop at l
-    lent = take_all (length l - at) (drop at l) (simp length-drop (omega arith))
-
-    given_back : (ys : List A) → put_mid at (length l - at) l ys ≡ take at l ++ ys
-    given_back ys =
-        let none : drop (length l - at) (drop at l) ≡ [] = drop_of_length-le (drop at l) {i = length l - at} (simp length-drop (omega arith)) in
-        rw (none, append-nil ys)
-
-    pub closed-part : (m n : ℕ) (ys : List A) → at + m ≤ n → ys ≡ closed_by m 0 (n - at) (take (length l - at) (drop at l)) → put_mid at (length l - at) l ys ≡ closed_by m at n l
-    unfolding closed_by
-    closed-part m n ys k e =
-        let q : at + (n - at - m) ≡ n - m = omega arith in
-        given_back ys ∙ rw (e, lent, ← drop-take at n l, zero-add m, drop-drop m at (take n l), drop-drop (n - at - m) at l, q)
-
-    pub opened-part : (m n : ℕ) (ys : List A) → at ≤ n → (let d = take (length l - at) (drop at l) in ys ≡ reinserted_by m 0 (n - at) (take m d) d) → put_mid at (length l - at) l ys ≡ reinserted_by m at n (take m (drop at l)) l
-    unfolding reinserted_by
-    opened-part m n ys k e =
-        let q : at + (n - at + m) ≡ n + m = omega arith in
-        given_back ys ∙ rw (e, lent, ← drop-take at n l, drop-drop (n - at + m) at l, q)
-
-    pub whole : (m : ℕ) → at + m ≤ length l → length (take m (drop at l)) ≡ m
-    whole m k = simp (length-take, length-drop) (omega arith)
+  pub whole : (l : List A) (at m : ℕ) → at + m ≤ length l → length (take m (drop at l)) ≡ m
+  whole l at m k = simp (length-take, length-drop) (omega arith)
 
 -- the LAB of an entry, written
 pub lab-stored : (lab : List Float) (i : ℕ) (x : Lab) → 3 * i + 3 ≤ length lab → with_lab lab i x ≡ stored (3 * i) (numbers_of x) lab

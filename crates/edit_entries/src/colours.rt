@@ -7,6 +7,7 @@ ghost use Rattle.edit_entries.specs.Unfilled.{no_lab};
 use base::{Lab, Rgb, both, either};
 
 // Whether entry i is this colour.
+#[tactic(auto, unfolding(edit::specs::Checks::same_rgb, base::specs::Triples::rgb_at))]
 pub fn has_rgb(colours: &[u8], i: usize, c: Rgb) -> bool
     requires { 3 * i + 3 ≤ length colours.now }
     ensures { result ≡ same_rgb (rgb_at colours.now i) c }
@@ -22,17 +23,15 @@ pub fn has_rgb(colours: &[u8], i: usize, c: Rgb) -> bool
 pub fn is_listed(colours: &[u8], c: Rgb) -> bool
     ensures { result ≡ listed colours.now c }
 {
-    let n = colours.len() / 3;
     let mut found = false;
-    let mut i: usize = 0;
-    while i < n {
+    for i in 0..colours.len() / 3 {
         found = either(found, has_rgb(colours, i, c));
-        i += 1;
     }
     found
 }
 
 // Number 10 of a colour: there is a list of permitted colours, and it is not on it.
+#[tactic(auto, unfolding(edit::specs::Checks::barred))]
 pub fn check_color(limited: bool, permitted: &[u8], c: Rgb) -> bool
     ensures { result ≡ barred (permitted_of limited permitted.now) c }
 {

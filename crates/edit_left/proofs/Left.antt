@@ -2,7 +2,7 @@
 use mathlib.Core.Path.{◌≡◌, refl, sym, ap, ◌∙◌}
 use mathlib.Core.Bool.{Bool, true, false, not, ◌&&◌, ◌||◌, or-true}
 use mathlib.Core.List.{List, [], ◌∷◌}
-use Prim.Native.Nat.{ℕ, zero, suc, ◌+◌, ◌*◌, ◌^◌, ◌<◌, ◌≤◌}
+use Prim.Native.Nat.{ℕ, zero, suc, ◌+◌, ◌-◌, ◌*◌, ◌<◌, ◌≤◌}
 use native.Mathlib.Omega.{arith}
 use native.Mathlib.Nat.{le_of_suc-le-suc, not-suc-le-zero, zero-lt-suc, add-zero, zero-add, add-suc, suc-add, add_assoc, suc-mul, zero-mul, mul_comm, le_antisymm, mul-le-mul_right}
 use native.Mathlib.Numerals.{add-one}
@@ -11,9 +11,10 @@ use lib.Dec.{eqb}
 use lib.IntN.{ℤ, pos}
 use lib.ListN.{length, get_or, take, drop, length-drop, length-take}
 use lib.Seq.{get_or-take, get_or-drop, length-take-le}
-use lib.Signed.{mag}
 use mir.Syntax.{w16}
-use mir.Val.{to_z, of_z, hbits}
+use mir.Val.{to_z, of_z, SFits}
+use Rattle.std.proofs.Common.{⊎_elim}
+use Rattle.std.proofs.lemmas.Bool.{cases_lt}
 use Rattle.base.specs.Lists.{some, range}
 use Rattle.base.proofs.Scan.{Flagged, flag-step, flag-end, some-none}
 use Rattle.base.proofs.Collect.{length-range}
@@ -24,9 +25,9 @@ use Rattle.edit.specs.Checks.{named, left_from}
 use Rattle.edit_pixels.specs.Inside.{marked, Marks, left_at}
 
 -- as the code reads it
-pub left-read : (i : ℕ) (l : List ℤ) (marks : List ℕ) (q : ℕ) {r : Bool} → mag (get_or l q (pos 0)) < 2 ^ hbits w16
-    → r ≡ eq_z (to_z w16 (of_z w16 (get_or l q (pos 0)))) (pos i) && eqb (get_or marks q 0) 0 → left_at i l marks q ≡ r
-left-read i l marks q h e = sym (by_value {w = w16} (λ z. eq_z z (pos i) && eqb (get_or marks q 0) 0) (record { sfits = h }) e)
+pub left-read : (i : ℕ) (l : List ℤ) (marks : List ℕ) (q : ℕ) {z : ℤ} {m : ℕ} {r : Bool} → z ≡ get_or l q (pos 0) → m ≡ get_or marks q 0
+    → r ≡ eq_z (to_z w16 (of_z w16 z)) (pos i) && eqb m 0 → SFits w16 z → left_at i l marks q ≡ r
+left-read i l marks q {z} {m} at mark e h = sym (by_value {w = w16} (λ y. eq_z y (pos i) && eqb m 0) h e ∙ rw (at, mark))
 
 -- ---- a part of the sheet, and of the marks
 part_length : {A : Type 0} (a n : ℕ) (l : List A) → a + n ≤ length l → length (take n (drop a l)) ≡ n
@@ -121,20 +122,23 @@ module _ {i : ℕ} {l : List ℤ} {marks : List ℕ} where
   none_row y w x p h k = none_is p (ap (λ (n : ℕ). y * w + n) (le_antisymm h k) ∙ sym (suc-mul y w) ∙ ap (λ (n : ℕ). n * w) (sym (add-one y)))
 
   -- a row in which none is
-  columns : (a w : ℕ) → NoneLeft i l marks a → ((x : ℕ) → x < w → left_at i l marks (a + x) ≡ false) → (x : ℕ) → x ≤ w → NoneLeft i l marks (a + x)
-  columns a w p f zero h = none_is p (sym (add-zero a))
-  columns a w p f (suc x) h = rw (← add-one x) (none-column a x (columns a w p f x (omega arith)) (f x h))
-
-  pub row-clear : (y w n : ℕ) → n ≡ w → y * w + w ≤ length l → NoneLeft i l marks (y * w)
-      → some (left_at i (take n (drop (y * w) l)) (take n (drop (y * w) marks))) (range 0 (length (take n (drop (y * w) l)))) ≡ false
-      → NoneLeft i l marks ((y + 1) * w)
-  row-clear y w n e h p none = none_row y w w (columns (y * w) w p here w (omega arith)) (omega arith) (omega arith)
+  row-after : (y w : ℕ) → NoneLeft i l marks (y * w) → ((x : ℕ) → x < w → left_at i l marks (y * w + x) ≡ false) → NoneLeft i l marks ((y + 1) * w)
+  row-after y w p f = record { none = λ q h. ⊎_elim (λ before. p.none q before) (λ past. on q h past) (cases_lt q (y * w)) }
     where
-      long : length (take n (drop (y * w) l)) ≡ w
-      long = part_length (y * w) n l (omega arith) ∙ e
-
-      here : (x : ℕ) → x < w → left_at i l marks (y * w + x) ≡ false
-      here x k = sym (left-part i l marks (y * w) n x (omega arith)) ∙ row-not (left_at i (take n (drop (y * w) l)) (take n (drop (y * w) marks))) _ none x (rw long k)
+      on : (q : ℕ) → q < (y + 1) * w → y * w ≤ q → left_at i l marks q ≡ false
+      on q h past =
+          let e : y * w + (q - y * w) ≡ q = omega (arith, past) in
+          rw e at (f (q - y * w) (omega (arith, h, past, suc-mul y w)))
 
   pub none_rows : (y w h : ℕ) → NoneLeft i l marks (y * w) → y ≤ h → h ≤ y → length l ≡ w * h → length marks ≡ w * h → {cs : List Change} → Marks w cs marks → false ≡ left_from w i cs 0 l
   none_rows y w h p a b e s m = left-none i l marks m (s ∙ sym e) (none_is p (ap (λ (n : ℕ). n * w) (le_antisymm a b) ∙ mul_comm h w ∙ sym e))
+
+-- ---- a row of the sheet, as a part of it
+module _ (i : ℕ) (l : List ℤ) (marks : List ℕ) (y w n : ℕ) (e : n ≡ w) (h : y * w + w ≤ length l) where
+  long : length (take n (drop (y * w) l)) ≡ w
+  long = part_length (y * w) n l (omega arith) ∙ e
+
+  pub row-clear : NoneLeft i l marks (y * w) → some (left_at i (take n (drop (y * w) l)) (take n (drop (y * w) marks))) (range 0 (length (take n (drop (y * w) l)))) ≡ false
+      → NoneLeft i l marks ((y + 1) * w)
+  row-clear p none =
+      row-after y w p (λ x k. sym (left-part i l marks (y * w) n x (omega arith)) ∙ row-not (left_at i (take n (drop (y * w) l)) (take n (drop (y * w) marks))) _ none x (rw long k))

@@ -1,5 +1,5 @@
-// Number 13 of a removal: the scan for a pixel that is left on its entry, where the places that the removal's list names are
-// marked in a scratch of a byte a pixel.
+// Number 13 of a removal: the scan for a pixel that is left on its entry, where the places that the removal's list
+// names are marked in a scratch of a byte a pixel.
 #![tactic(auto)]
 
 ghost use Rattle.std.specs.Prelude.{◌≡◌, ◌&&◌, List, ◌*◌, ◌≤◌, eqb, pos, length, replicate};
@@ -9,25 +9,21 @@ ghost use Rattle.edit.specs.Change.{Change};
 ghost use Rattle.edit.specs.Checks.{left_from};
 ghost use Rattle.edit_pixels.specs.Inside.{Marks, left_at};
 
-use base::{both, either, same};
+use base::{both, either};
 
 // Whether an index is the entry's.
 pub fn is_entry(z: i16, index: usize) -> bool
     requires { index ≤ 255 }
     ensures { result ≡ eq_z z (pos index) }
 {
-    same(z, index as i16)
+    z == index as i16
 }
 
 // Takes every mark away.
 pub fn clear(marks: &mut [u8])
     ensures { marks.new ≡ replicate (length marks.old) 0 }
 {
-    let mut i: usize = 0;
-    while i < marks.len() {
-        marks[i] = 0;
-        i += 1;
-    }
+    marks.fill(0);
 }
 
 // Whether a pixel is on the entry and not marked.
@@ -45,10 +41,8 @@ fn row_left(row: &[i16], marks: &[u8], index: usize) -> bool
     ensures { result ≡ some (left_at index row.now marks.now) (range 0 (length row.now)) }
 {
     let mut left = false;
-    let mut x: usize = 0;
-    while x < row.len() {
-        left = either(left, is_left(row[x], marks[x], index));
-        x += 1;
+    for (z, mark) in row.iter().zip(marks) {
+        left = either(left, is_left(*z, *mark, index));
     }
     left
 }
@@ -60,22 +54,18 @@ pub fn any_left(w: usize, h: usize, index: usize, indices: &[i16], marks: &[u8])
     ensures { (cs : List Change) → Marks w cs marks.now → result ≡ left_from w index cs 0 indices.now }
 {
     let mut left = false;
-    let mut y: usize = 0;
-    'rows: while y < h {
+    'rows: for y in 0..h {
         let at = y * w;
         let end = at + w;
         if row_left(&indices[at..end], &marks[at..end], index) {
-            let mut x: usize = 0;
-            while x < w {
+            for x in 0..w {
                 let p = at + x;
                 if is_left(indices[p], marks[p], index) {
                     left = true;
                     break 'rows;
                 }
-                x += 1;
             }
         }
-        y += 1;
     }
     left
 }

@@ -30,19 +30,17 @@ fn mark_remap(
     ensures { (result ≡ first_of (flat_map (remap_checks (bare w h k indices.now) index) (map unpacked list.now)))
         × (result ≡ 0 → MarkedFrom w (map unpacked list.now) (w * h) marks.old marks.new) }
 {
-    let mut i: usize = 0;
-    while i < list.len() {
-        let no = mark_move(w, h, k, index, indices, marks, list[i]);
+    for c in list {
+        let no = mark_move(w, h, k, index, indices, marks, *c);
         if no != 0 {
             return no;
         }
-        i += 1;
     }
     0
 }
 
-// The number of the first check that applies to a change of a list, or 0: then the places of a removal's are marked. The
-// olds are looked at on replay alone.
+// The number of the first check that applies to a change of a list, or 0: then the places of a removal's are marked.
+// The olds are looked at on replay alone.
 pub fn check_list(
     kind: ListKind,
     replay: bool,
@@ -68,13 +66,13 @@ pub fn check_list(
 }
 
 // Paints each new of a list at its place, in order.
+#[tactic(auto, unfolding(edit::specs::List::painted_list, crate::specs::Paintable::Paintable))]
 pub fn paint_list(kind: ListKind, indices: &mut [i16], w: usize, list: &[u64])
     requires { Paintable kind w (length indices.old) (map unpacked list.now) }
     ensures { indices.new ≡ painted_list kind w (map unpacked list.now) indices.old }
 {
     match kind {
         ListKind::NoList => (),
-        ListKind::PixelList => paint_news(indices, w, list),
-        ListKind::RemapList { index: _ } => paint_news(indices, w, list),
+        ListKind::PixelList | ListKind::RemapList { .. } => paint_news(indices, w, list),
     }
 }

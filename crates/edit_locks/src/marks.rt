@@ -15,24 +15,16 @@ pub fn is_locked(locks: &[bool], i: usize) -> bool
 }
 
 // Whether the entry of a lock bears its new mark: what undo asks of the marks.
+#[tactic(auto, unfolding(edit::specs::Locks::bears, crate::specs::Movable::MarkIn))]
 pub fn bears(locks: &[bool], edit: Edit) -> bool
     requires { MarkIn (length locks.now) edit }
     ensures { result ≡ locks-of.bears locks.now edit }
 {
     match edit {
-        Edit::Pixels { tool: _ } => true,
-        Edit::PaletteSet {
-            index: _,
-            old: _,
-            new: _,
-            old_lab: _,
-        } => true,
-        Edit::PaletteAdd { rgb: _ } => true,
-        Edit::PaletteRemove {
-            index: _,
-            rgb: _,
-            lab: _,
-        } => true,
-        Edit::PaletteLock { index, old: _, new } => is_locked(locks, index) == new,
+        Edit::PaletteLock { index, new, .. } => is_locked(locks, index) == new,
+        Edit::Pixels { .. }
+        | Edit::PaletteSet { .. }
+        | Edit::PaletteAdd { .. }
+        | Edit::PaletteRemove { .. } => true,
     }
 }

@@ -1,4 +1,3 @@
-pub mod Complement
 pub mod Filling
 pub mod Inside
 pub mod Passing
@@ -7,3 +6,4 @@ pub mod Places
 pub mod Painting
 pub mod Nth
 pub mod Fitting
+pub mod Same

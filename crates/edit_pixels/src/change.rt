@@ -6,39 +6,24 @@ ghost use Rattle.std.proofs.Common.{to_z, of_z};
 ghost use Rattle.edit.specs.Change.{unpacked, place, outside, new_of, old_of, filled_in};
 
 use base::either;
-
-// The values of one part, and the units in which a change counts its row, its old and its new.
-const PART: u64 = 65_536;
-
-const ROW: u64 = 65_536;
-
-const OLD: u64 = 4_294_967_296;
-
-const NEW: u64 = 281_474_976_710_656;
+use edit::{NEW, OLD, PART, ROW};
 
 // The 16 bits of an index.
 pub fn bits_of(z: i16) -> u16
     ensures { result ≡ of_z w16 z }
 {
-    if z < 0 {
-        65_535 - ((-1 - z) as u16)
-    } else {
-        z as u16
-    }
+    z.cast_unsigned()
 }
 
 // The index that 16 bits are.
 pub fn index_of(bits: u16) -> i16
     ensures { result ≡ to_z w16 bits }
 {
-    if bits < 32_768 {
-        bits as i16
-    } else {
-        -1 - ((65_535 - bits) as i16)
-    }
+    bits.cast_signed()
 }
 
 // A change's column.
+#[tactic(auto, unfolding(edit::specs::Change::unpacked))]
 pub fn column(c: u64) -> usize
     ensures { result ≡ (unpacked c).x }
 {
@@ -46,6 +31,7 @@ pub fn column(c: u64) -> usize
 }
 
 // A change's row.
+#[tactic(auto, unfolding(edit::specs::Change::unpacked))]
 pub fn row(c: u64) -> usize
     ensures { result ≡ (unpacked c).y }
 {
@@ -53,17 +39,19 @@ pub fn row(c: u64) -> usize
 }
 
 // A change's old index.
+#[tactic(auto, unfolding(edit::specs::Change::unpacked))]
 pub fn old_of(c: u64) -> i16
     ensures { result ≡ old_of (unpacked c) }
 {
-    index_of((c / OLD % PART) as u16)
+    ((c / OLD % PART) as u16).cast_signed()
 }
 
 // A change's new index.
+#[tactic(auto, unfolding(edit::specs::Change::unpacked))]
 pub fn new_of(c: u64) -> i16
     ensures { result ≡ new_of (unpacked c) }
 {
-    index_of((c / NEW % PART) as u16)
+    ((c / NEW % PART) as u16).cast_signed()
 }
 
 // Where a change stands in the rows of a sheet of width w.
@@ -77,6 +65,7 @@ pub fn place_of(w: usize, c: u64) -> usize
 }
 
 // Number 5 of a change: whether it is off a sheet of w by h.
+#[tactic(auto, unfolding(edit::specs::Change::outside))]
 pub fn is_outside(w: usize, h: usize, c: u64) -> bool
     ensures { result ≡ outside w h (unpacked c) }
 {
@@ -89,6 +78,6 @@ pub fn filled_in(indices: &[i16], w: usize, c: u64) -> u64
     ensures { unpacked result ≡ filled_in w indices.now (unpacked c) }
 {
     let p = place_of(w, c);
-    let old = bits_of(indices[p]) as u64;
+    let old = u64::from(indices[p].cast_unsigned());
     c % OLD + OLD * old + NEW * (c / NEW)
 }

@@ -8,7 +8,7 @@ ghost use Rattle.edit.specs.Checks.{pixel_checks};
 ghost use Rattle.edit_pixels.specs.Inside.{bare};
 
 use crate::change::{is_outside, new_of, old_of, place_of};
-use base::{NO_SUCH_INDEX, OFF_THE_SHEET, STALE, same};
+use base::{NO_SUCH_INDEX, OFF_THE_SHEET, STALE};
 
 // Whether an index lies outside -1..k-1.
 pub fn is_stray(z: i16, k: usize) -> bool
@@ -32,7 +32,7 @@ pub fn pixel_no(w: usize, h: usize, k: usize, indices: &[i16], c: u64, replay: b
         return 0;
     }
     let p = place_of(w, c);
-    if same(indices[p], old_of(c)) {
+    if indices[p] == old_of(c) {
         return 0;
     }
     STALE
@@ -44,13 +44,11 @@ pub fn pixels_no(w: usize, h: usize, k: usize, indices: &[i16], list: &[u64], re
     ensures { result
         ≡ first_of (flat_map (pixel_checks replay (bare w h k indices.now)) (map unpacked list.now)) }
 {
-    let mut i: usize = 0;
-    while i < list.len() {
-        let no = pixel_no(w, h, k, indices, list[i], replay);
+    for c in list {
+        let no = pixel_no(w, h, k, indices, *c, replay);
         if no != 0 {
             return no;
         }
-        i += 1;
     }
     0
 }

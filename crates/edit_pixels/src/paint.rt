@@ -29,9 +29,7 @@ pub fn paint_news(indices: &mut [i16], w: usize, list: &[u64])
     requires { some (past w (length indices.old)) (map unpacked list.now) ≡ false }
     ensures { indices.new ≡ painted new_of w (map unpacked list.now) indices.old }
 {
-    let mut i: usize = 0;
-    while i < list.len() {
-        paint_new(indices, w, list[i]);
-        i += 1;
+    for c in list {
+        paint_new(indices, w, *c);
     }
 }

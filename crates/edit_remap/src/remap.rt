@@ -9,7 +9,7 @@ ghost use Rattle.edit.specs.Checks.{misdirected, remap_checks};
 ghost use Rattle.edit_pixels.specs.Inside.{bare};
 ghost use Rattle.edit_remap.specs.Marked.{when_none};
 
-use base::{BAD_REMAP, OFF_THE_SHEET, either, same};
+use base::{BAD_REMAP, OFF_THE_SHEET, either};
 use edit_left::is_entry;
 use edit_pixels::{is_outside, is_stray, new_of, old_of, place_of};
 
@@ -18,7 +18,7 @@ fn is_bad_target(z: i16, index: usize, k: usize) -> bool
     requires { index ≤ 255 }
     ensures { result ≡ eq_z z (pos index) || (eq_z z (negsuc 0) || stray k z) }
 {
-    either(is_entry(z, index), either(same(z, -1), is_stray(z, k)))
+    either(is_entry(z, index), either(z == -1, is_stray(z, k)))
 }
 
 // Number 12 of a change, on a sheet of any height.
@@ -33,6 +33,7 @@ fn is_misdirected(w: usize, k: usize, index: usize, indices: &[i16], c: u64) -> 
 }
 
 // Number 12 of a change that stands in the picture, or 0: then its place is marked in a scratch of a byte a pixel.
+#[tactic(auto, unfolding(base::specs::Checks::first_of))]
 pub fn mark_inside(
     w: usize,
     k: usize,
@@ -55,6 +56,7 @@ pub fn mark_inside(
 }
 
 // The number of the first check that applies to one change of a remap, or 0: then its place is marked.
+#[tactic(auto, unfolding(edit::specs::Checks::remap_checks, base::specs::Checks::first_of))]
 pub fn mark_move(
     w: usize,
     h: usize,

@@ -18,11 +18,8 @@ pub fn lower_above(indices: &mut [i16], index: usize)
     ensures { indices.new ≡ map (lowered index) indices.old }
 {
     let bound = index as i16;
-    let mut i: usize = 0;
-    while i < indices.len() {
-        let z = lower_one(indices[i], bound);
-        indices[i] = z;
-        i += 1;
+    for z in indices.iter_mut() {
+        *z = lower_one(*z, bound);
     }
 }
 
@@ -40,10 +37,7 @@ pub fn raise_from(indices: &mut [i16], index: usize)
     ensures { indices.new ≡ map (raised index) indices.old }
 {
     let bound = index as i16;
-    let mut i: usize = 0;
-    while i < indices.len() {
-        let z = raise_one(indices[i], bound);
-        indices[i] = z;
-        i += 1;
+    for z in indices.iter_mut() {
+        *z = raise_one(*z, bound);
     }
 }

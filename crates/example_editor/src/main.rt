@@ -29,24 +29,19 @@ struct Drawing {
 
 // A transparent sheet with two entries, of which the second is red, and none locked.
 fn open(rt: &impl Print) -> io::Result<Drawing> {
-    let mut palette: [u8; 765] = [0; 765];
-    let mut lab: [f64; 765] = [0.0; 765];
-    let indices: [i16; 24] = [-1; 24];
-    let mut locks: [bool; 255] = [false; 255];
-    let journal: [u8; 200] = [0; 200];
-    palette[3] = 200;
-    let opened = new(6, 4, 2, &palette, &mut lab, &indices, &mut locks);
-    show(rt, Step::New, opened, &indices)?;
-    let handle = fresh();
-    Ok(Drawing {
+    let mut d = Drawing {
         k: 2,
-        palette,
-        lab,
-        indices,
-        locks,
-        journal,
-        handle,
-    })
+        palette: [0; 765],
+        lab: [0.0; 765],
+        indices: [-1; 24],
+        locks: [false; 255],
+        journal: [0; 200],
+        handle: fresh(),
+    };
+    d.palette[3] = 200;
+    let opened = new(6, 4, 2, &d.palette, &mut d.lab, &d.indices, &mut d.locks);
+    show(rt, Step::New, opened, &d.indices)?;
+    Ok(d)
 }
 
 // How many changes a tool drew, none where it refused; at most as many as there are places.
@@ -54,31 +49,23 @@ fn count(drawn: Counted, places: usize) -> usize
     ensures { result ≤ places }
 {
     match drawn {
-        Counted::Count(n) => {
-            if n <= places {
-                return n;
-            }
-            0
-        }
-        Counted::Refused(_) => 0,
+        Counted::Count(n) if n <= places => n,
+        _ => 0,
     }
 }
 
 // A drag along points, with a brush of one pixel and entry 1: how many changes stand in the list.
-fn draw(d: Drawing, points: &[i32], list: &mut [u64]) -> usize
+fn draw(d: &Drawing, points: &[i32], list: &mut [u64]) -> usize
     ensures { result ≤ 24 }
 {
-    let palette = d.palette;
-    let lab = d.lab;
-    let indices = d.indices;
-    let mut scratch: [u64; 24] = [0; 24];
+    let mut scratch = [0u64; 24];
     let drawn = pencil(
         6,
         4,
         d.k,
-        &palette,
-        &lab,
-        &indices,
+        &d.palette,
+        &d.lab,
+        &d.indices,
         Area::Whole,
         points,
         1,
@@ -90,143 +77,93 @@ fn draw(d: Drawing, points: &[i32], list: &mut [u64]) -> usize
 }
 
 // A drag made a step of the history.
-fn stroke(rt: &impl Print, d: Drawing, points: &[i32]) -> io::Result<Drawing> {
-    let mut list: [u64; 24] = [0; 24];
+fn stroke(rt: &impl Print, d: &mut Drawing, points: &[i32]) -> io::Result<()> {
+    let mut list = [0u64; 24];
     let n = draw(d, points, &mut list);
-    let mut palette = d.palette;
-    let mut lab = d.lab;
-    let mut indices = d.indices;
-    let mut locks = d.locks;
-    let mut journal = d.journal;
-    let mut marks: [u8; 24] = [0; 24];
-    let edit = Edit::Pixels { tool: 1 };
+    let mut marks = [0u8; 24];
     let moved = push(
         6,
         4,
         d.k,
-        &mut palette,
-        &mut lab,
-        &mut indices,
-        &mut locks,
+        &mut d.palette,
+        &mut d.lab,
+        &mut d.indices,
+        &mut d.locks,
         false,
         b"",
         false,
         &[],
-        edit,
-        &list[0..n],
+        Edit::Pixels { tool: 1 },
+        &list[..n],
         FORM,
-        &mut journal,
+        &mut d.journal,
         d.handle,
         &mut marks,
     );
-    let answer = moved.answer;
-    show(rt, Step::Push, answer, &indices)?;
-    let handle = moved.handle;
-    Ok(Drawing {
-        k: moved.k,
-        palette,
-        lab,
-        indices,
-        locks,
-        journal,
-        handle,
-    })
+    d.k = moved.k;
+    d.handle = moved.handle;
+    show(rt, Step::Push, moved.answer, &d.indices)
 }
 
 // The last step taken back.
-fn back(rt: &impl Print, d: Drawing) -> io::Result<Drawing> {
-    let mut palette = d.palette;
-    let mut lab = d.lab;
-    let mut indices = d.indices;
-    let mut locks = d.locks;
-    let journal = d.journal;
+fn back(rt: &impl Print, d: &mut Drawing) -> io::Result<()> {
     let moved = undo(
         6,
         4,
         d.k,
-        &mut palette,
-        &mut lab,
-        &mut indices,
-        &mut locks,
+        &mut d.palette,
+        &mut d.lab,
+        &mut d.indices,
+        &mut d.locks,
         FORM,
-        &journal,
+        &d.journal,
         d.handle,
     );
-    let answer = moved.answer;
-    show(rt, Step::Undo, answer, &indices)?;
-    let handle = moved.handle;
-    Ok(Drawing {
-        k: moved.k,
-        palette,
-        lab,
-        indices,
-        locks,
-        journal,
-        handle,
-    })
+    d.k = moved.k;
+    d.handle = moved.handle;
+    show(rt, Step::Undo, moved.answer, &d.indices)
 }
 
 // The step that was taken back, done again.
-fn forth(rt: &impl Print, d: Drawing) -> io::Result<Drawing> {
-    let mut palette = d.palette;
-    let mut lab = d.lab;
-    let mut indices = d.indices;
-    let mut locks = d.locks;
-    let journal = d.journal;
-    let mut marks: [u8; 24] = [0; 24];
+fn forth(rt: &impl Print, d: &mut Drawing) -> io::Result<()> {
+    let mut marks = [0u8; 24];
     let moved = redo(
         6,
         4,
         d.k,
-        &mut palette,
-        &mut lab,
-        &mut indices,
-        &mut locks,
+        &mut d.palette,
+        &mut d.lab,
+        &mut d.indices,
+        &mut d.locks,
         false,
         &[],
         FORM,
-        &journal,
+        &d.journal,
         d.handle,
         &mut marks,
     );
-    let answer = moved.answer;
-    show(rt, Step::Redo, answer, &indices)?;
-    let handle = moved.handle;
-    Ok(Drawing {
-        k: moved.k,
-        palette,
-        lab,
-        indices,
-        locks,
-        journal,
-        handle,
-    })
+    d.k = moved.k;
+    d.handle = moved.handle;
+    show(rt, Step::Redo, moved.answer, &d.indices)
 }
 
 // The sheet as it is now is the one that was saved.
-fn save(d: Drawing) -> Drawing {
-    let journal = d.journal;
-    let marked = mark_saved(FORM, &journal, d.handle);
-    let handle = marked.handle;
-    let mut saved = d;
-    saved.handle = handle;
-    saved
+fn save(d: &mut Drawing) {
+    d.handle = mark_saved(FORM, &d.journal, d.handle).handle;
 }
 
 // Whether the sheet is another than the one that was saved.
-fn dirty(rt: &impl Print, d: Drawing) -> io::Result<()> {
-    let journal = d.journal;
-    show_dirty(rt, is_dirty(FORM, &journal, d.handle))
+fn dirty(rt: &impl Print, d: &Drawing) -> io::Result<()> {
+    show_dirty(rt, is_dirty(FORM, &d.journal, d.handle))
 }
 
 fn main(rt: HostRuntime) -> io::Result<()> {
-    let opened = open(&rt)?;
-    let drag = [0, 0, 3, 3, 5, 1];
-    let drawn = stroke(&rt, opened, &drag)?;
-    let again = forth(&rt, back(&rt, drawn)?)?;
-    let saved = save(again);
-    dirty(&rt, saved)?;
-    let corner = [5, 3];
-    let later = stroke(&rt, saved, &corner)?;
-    dirty(&rt, later)
+    let mut d = open(&rt)?;
+    stroke(&rt, &mut d, &[0, 0, 3, 3, 5, 1])?;
+    back(&rt, &mut d)?;
+    forth(&rt, &mut d)?;
+    save(&mut d);
+    dirty(&rt, &d)?;
+    stroke(&rt, &mut d, &[5, 3])?;
+    dirty(&rt, &d)
 }

@@ -23,130 +23,93 @@ struct Symbol {
     locks: [bool; 255],
 }
 
-#[derive(Clone, Copy)]
-struct Pair {
-    first: Symbol,
-    second: Symbol,
+// One with no entries.
+fn blank() -> Symbol {
+    Symbol {
+        k: 0,
+        palette: [0; 765],
+        lab: [0.0; 765],
+        indices: [-1; 6],
+        locks: [false; 255],
+    }
 }
 
 // How many entries a line has, none where it is refused.
 fn entries(read: Opened) -> usize {
     match read {
-        Opened::Sheet { w, h, k } => k,
+        Opened::Sheet { k, .. } => k,
         Opened::Refused(_) => 0,
     }
 }
 
 // How many bytes a line has, none where its sheet is refused; at most as many as there are.
 fn bytes(spelt: Counted) -> usize
-    ensures { result ≤ 1555 }
+    ensures { result ≤ LONGEST }
 {
     match spelt {
-        Counted::Count(n) => {
-            if n <= LONGEST {
-                return n;
-            }
-            0
-        }
-        Counted::Refused(_) => 0,
+        Counted::Count(n) if n <= LONGEST => n,
+        _ => 0,
     }
 }
 
 // The joined count, none where the sheets are refused.
 fn count(joined: Joined) -> usize {
     match joined {
-        Joined::Palette { k, first, second } => k,
+        Joined::Palette { k, .. } => k,
         Joined::Refused(_) => 0,
     }
 }
 
 // A symbol read from a line, none of its entries locked.
 fn read(line: &[u8]) -> Symbol {
-    let mut palette: [u8; 765] = [0; 765];
-    let mut lab: [f64; 765] = [0.0; 765];
-    let mut indices: [i16; 6] = [-1; 6];
-    let k = entries(read_sheet(line, &mut palette, &mut lab, &mut indices));
-    Symbol {
-        k,
-        palette,
-        lab,
-        indices,
-        locks: [false; 255],
-    }
+    let mut s = blank();
+    s.k = entries(read_sheet(line, &mut s.palette, &mut s.lab, &mut s.indices));
+    s
 }
 
 // A symbol's line.
-fn print(rt: &impl Print, s: Symbol) -> io::Result<()> {
-    let palette = s.palette;
-    let lab = s.lab;
-    let indices = s.indices;
-    let mut text: [u8; 1555] = [0; 1555];
-    let n = bytes(spell(3, 2, s.k, &palette, &lab, &indices, &mut text));
-    rt.write_all(&text[0..n])
+fn print(rt: &impl Print, s: &Symbol) -> io::Result<()> {
+    let mut text = [0u8; LONGEST];
+    let n = bytes(spell(3, 2, s.k, &s.palette, &s.lab, &s.indices, &mut text));
+    rt.write_all(&text[..n])
 }
 
 // Both symbols on one palette.
-fn put_together(a: Symbol, b: Symbol) -> Pair {
-    let palette = a.palette;
-    let lab = a.lab;
-    let indices = a.indices;
-    let locks = a.locks;
-    let palette2 = b.palette;
-    let lab2 = b.lab;
-    let indices2 = b.indices;
-    let locks2 = b.locks;
-    let mut to_palette: [u8; 765] = [0; 765];
-    let mut to_lab: [f64; 765] = [0.0; 765];
-    let mut to_indices: [i16; 6] = [-1; 6];
-    let mut to_locks: [bool; 255] = [false; 255];
-    let mut to_palette2: [u8; 765] = [0; 765];
-    let mut to_lab2: [f64; 765] = [0.0; 765];
-    let mut to_indices2: [i16; 6] = [-1; 6];
-    let mut to_locks2: [bool; 255] = [false; 255];
+fn put_together(a: &Symbol, b: &Symbol) -> (Symbol, Symbol) {
+    let mut first = blank();
+    let mut second = blank();
     let joined = join(
         3,
         2,
         a.k,
-        &palette,
-        &lab,
-        &indices,
-        &locks,
+        &a.palette,
+        &a.lab,
+        &a.indices,
+        &a.locks,
         3,
         2,
         b.k,
-        &palette2,
-        &lab2,
-        &indices2,
-        &locks2,
+        &b.palette,
+        &b.lab,
+        &b.indices,
+        &b.locks,
         3,
         2,
-        &mut to_palette,
-        &mut to_lab,
-        &mut to_indices,
-        &mut to_locks,
+        &mut first.palette,
+        &mut first.lab,
+        &mut first.indices,
+        &mut first.locks,
         3,
         2,
-        &mut to_palette2,
-        &mut to_lab2,
-        &mut to_indices2,
-        &mut to_locks2,
+        &mut second.palette,
+        &mut second.lab,
+        &mut second.indices,
+        &mut second.locks,
     );
     let k = count(joined);
-    let first = Symbol {
-        k,
-        palette: to_palette,
-        lab: to_lab,
-        indices: to_indices,
-        locks: to_locks,
-    };
-    let second = Symbol {
-        k,
-        palette: to_palette2,
-        lab: to_lab2,
-        indices: to_indices2,
-        locks: to_locks2,
-    };
-    Pair { first, second }
+    first.k = k;
+    second.k = k;
+    (first, second)
 }
 
 fn main(rt: HostRuntime) -> io::Result<()> {
@@ -154,9 +117,9 @@ fn main(rt: HostRuntime) -> io::Result<()> {
     let ours = read(b"000300020003000000FF0000FFFFFF00010201FF02\n");
     // red, green, and red once more
     let theirs = read(b"000300020003FF000000FF00FF00000001020102FF\n");
-    print(&rt, ours)?;
-    print(&rt, theirs)?;
-    let both = put_together(ours, theirs);
-    print(&rt, both.first)?;
-    print(&rt, both.second)
+    print(&rt, &ours)?;
+    print(&rt, &theirs)?;
+    let (first, second) = put_together(&ours, &theirs);
+    print(&rt, &first)?;
+    print(&rt, &second)
 }

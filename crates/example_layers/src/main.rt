@@ -6,12 +6,12 @@
 // 255 lock marks a layer. A call of a history is lent its layer's parts, `flatten` and `repaint` are lent all but the marks.
 #![tactic(auto)]
 
-mod keep;
 mod print;
 
-use base::{Answer, Edit, Form, Handle, Lab, Moved, Rgb};
+ghost use Rattle.std.specs.Prelude.{◌<◌};
+
+use base::{Edit, Form, Handle, Lab, Moved, Rgb};
 use history::{fresh, push, redo, undo};
-use keep::{keep_bytes, keep_indices, keep_numbers};
 use layer::{flatten, repaint};
 use print::{draw, show};
 use std::io;
@@ -96,70 +96,24 @@ fn act_on(
 fn act_on_layer(
     i: usize,
     act: Act,
-    palettes: &mut [u8],
-    labs: &mut [f64],
-    indices: &mut [i16],
-    locks: &mut [bool],
+    palettes: &mut [u8; 2295],
+    labs: &mut [f64; 2295],
+    indices: &mut [i16; 72],
+    locks: &mut [bool; 765],
     journal: &mut [u8],
     handle: Handle,
-) -> Moved {
-    if i < 3 {
-        if palettes.len() == 2295 {
-            if labs.len() == 2295 {
-                if indices.len() == 72 {
-                    if locks.len() == 765 {
-                        let entries = 765 * i;
-                        let past = entries + 765;
-                        let pixels = 24 * i;
-                        let end = pixels + 24;
-                        let first = 255 * i;
-                        let last = first + 255;
-                        return act_on(
-                            act,
-                            &mut palettes[entries..past],
-                            &mut labs[entries..past],
-                            &mut indices[pixels..end],
-                            &mut locks[first..last],
-                            journal,
-                            handle,
-                        );
-                    }
-                }
-            }
-        }
-    }
-    Moved {
-        answer: Answer::Still,
-        k: 1,
+) -> Moved
+    requires { i < 3 }
+{
+    act_on(
+        act,
+        &mut palettes[765 * i..765 * i + 765],
+        &mut labs[765 * i..765 * i + 765],
+        &mut indices[24 * i..24 * i + 24],
+        &mut locks[255 * i..255 * i + 255],
+        journal,
         handle,
-    }
-}
-
-// Layer i as it is, kept.
-fn keep_layer(
-    i: usize,
-    palettes: &[u8],
-    labs: &[f64],
-    indices: &[i16],
-    palette: &mut [u8],
-    lab: &mut [f64],
-    earlier: &mut [i16],
-) {
-    if i < 3 {
-        if palettes.len() == 2295 {
-            if labs.len() == 2295 {
-                if indices.len() == 72 {
-                    let entries = 765 * i;
-                    let past = entries + 765;
-                    let pixels = 24 * i;
-                    let end = pixels + 24;
-                    keep_bytes(&palettes[entries..past], palette);
-                    keep_numbers(&labs[entries..past], lab);
-                    keep_indices(&indices[pixels..end], earlier);
-                }
-            }
-        }
-    }
+    )
 }
 
 // A call on layer i, and the repaint after it, which is lent the layer as it was before the call. No entry is added
@@ -169,33 +123,28 @@ fn change(
     step: &str,
     i: usize,
     act: Act,
-    palettes: &mut [u8],
-    labs: &mut [f64],
-    indices: &mut [i16],
-    locks: &mut [bool],
+    palettes: &mut [u8; 2295],
+    labs: &mut [f64; 2295],
+    indices: &mut [i16; 72],
+    locks: &mut [bool; 765],
     journal: &mut [u8],
     handle: Handle,
-    out: &mut [u8],
-) -> io::Result<Handle> {
+    out: &mut [u8; 96],
+) -> io::Result<Handle>
+    requires { i < 3 }
+{
     let sizes = [6, 4, 1, 6, 4, 1, 6, 4, 1];
-    let mut palette: [u8; 765] = [0; 765];
-    let mut lab: [f64; 765] = [0.0; 765];
-    let mut earlier: [i16; 24] = [-1; 24];
-    keep_layer(
-        i,
-        palettes,
-        labs,
-        indices,
-        &mut palette,
-        &mut lab,
-        &mut earlier,
-    );
+    let mut palette = [0u8; 765];
+    let mut lab = [0.0f64; 765];
+    let mut earlier = [0i16; 24];
+    palette.copy_from_slice(&palettes[765 * i..765 * i + 765]);
+    lab.copy_from_slice(&labs[765 * i..765 * i + 765]);
+    earlier.copy_from_slice(&indices[24 * i..24 * i + 24]);
     let moved = act_on_layer(i, act, palettes, labs, indices, locks, journal, handle);
     repaint(
         &sizes, palettes, labs, indices, i, 6, 4, 1, &palette, &lab, &earlier, out,
     );
-    let answer = moved.answer;
-    show(rt, step, answer.number(), out)?;
+    show(rt, step, moved.answer.number(), out)?;
     Ok(moved.handle)
 }
 

@@ -1,6 +1,5 @@
 // The calls over structs, as a maker makes them: the list of changes is a local array of structs, palette count and
-// handle are locals, and all three are lent. A function that lends a struct is proved by hand (tools/walks); those that
-// call it are not.
+// handle are locals, and all three are lent.
 ghost use Rattle.std.specs.Prelude.{◌≡◌, false, pos, length, replicate};
 ghost use Rattle.color_curve.specs.Curve.{curve_of, srgb};
 ghost use Rattle.sheet.specs.Sheet.{sheet_of};

@@ -1,13 +1,12 @@
 -- The call's answers: what the sizes of both parts say of the conversion. Assumes nothing.
 use Prim.Native.Nat.{ℕ, ◌+◌, ◌-◌, ◌*◌, ◌≤◌, ◌<◌}
-use mathlib.Core.Path.{◌≡◌, refl, sym, ap, ap₂, ◌∙◌, subst}
+use mathlib.Core.Path.{◌≡◌, refl, sym, ap, ap₂, ◌∙◌}
 use mathlib.Core.Bool.{Bool, true, false, cond, ◌||◌}
-use mathlib.Core.List.{List, [], ◌∷◌, ◌++◌}
+use mathlib.Core.List.{List, [], ◌∷◌}
 use mathlib.Core.Option.{Option, none, some, some-injective}
 use native.Mathlib.Nat.{sub-zero}
 use native.Mathlib.Omega.{arith}
 use borrow.Author.Tests.{lt-ltb}
-use lib.Dec.{ltb}
 use lib.ListN.{length, take, drop, length-drop}
 use lib.Seq.{length-take-le}
 use Rattle.base.specs.Numbers.{journal_damaged, journal_full}
@@ -18,7 +17,7 @@ use Rattle.base.specs.declared.Form.{Form}
 use Rattle.base.specs.declared.Handle.{Handle}
 use Rattle.base.proofs.First.{refused-first, result-first}
 use Rattle.edit.specs.Change.{Change, outside}
-use Rattle.history_ledger.specs.Calls.{Answer, Outcome, done, refused}
+use Rattle.history_ledger.specs.Calls.{Answer, done, refused}
 use Rattle.history_ledger.specs.Handle.{sound}
 use Rattle.history_ledger.proofs.Soundness.{sound-facts}
 use Rattle.journal_record.specs.Bytes.{splice}
@@ -27,13 +26,17 @@ use Rattle.journal_raw.specs.Raw.{Raw, other, raws_bytes, raws_in, stray, any_st
 use Rattle.base.proofs.Scan.{or_left, or_right}
 use Rattle.journal_write.proofs.Placed.{column-on}
 use Rattle.base.specs.declared.Converted.{Converted}
-use Rattle.history_convert.specs.declared.Sizes.TheVariants as sizes
-use Rattle.history_convert.specs.Convert.{Lent, lent, Used, used_in, used_bytes, moved_to, record_checks, rewritten, entry_checks, convert_of}
+use Rattle.std.specs.Prelude.{Some, None}
+use Rattle.history_convert.specs.declared.Sizes.{Sizes}
+use Rattle.history_convert.specs.Convert.{lent, Used, used_in, used_bytes, moved_to, record_checks, rewritten, entry_checks, convert_of}
 use Rattle.history_convert.specs.Sizes.{sizes_of, Ready, Rewritable, leaves}
-use Rattle.history_convert.proofs.Converting.{entered, converts-is, Parts, parts}
+use Rattle.history_convert.proofs.Converting.{entered, converts-is, parts}
 use Rattle.history_convert.proofs.Writing.{raws-most}
 
 -- ---- both parts have sizes
+abbrev both-long : Form → ℕ → Used → Sizes
+both-long f w u = record { past = length (raws_bytes (other f) w u.past); future = length (raws_bytes (other f) w u.future) }
+
 pub record Sized (f : Form) (w h : ℕ) (journal : List ℕ) (handle : Handle) (past future : ℕ) : Type 0 where
   pub used : Used
   pub reads : used_in f w journal handle ≡ some used
@@ -42,19 +45,27 @@ pub record Sized (f : Form) (w h : ℕ) (journal : List ℕ) (handle : Handle) (
   pub past_is : length (raws_bytes (other f) w used.past) ≡ past
   pub future-is : length (raws_bytes (other f) w used.future) ≡ future
 
-module _ (f : Form) (w h : ℕ) (journal : List ℕ) (handle : Handle) (past future : ℕ) where
+module _ (f : Form) (w h : ℕ) (journal : List ℕ) (handle : Handle) (sizes : Sizes) where
   sized-where : (u : Used) → used_in f w journal handle ≡ some u → (b : Bool) → any_stray w h u.past || any_stray w h u.future ≡ b
-      → cond b sizes.Unsound (sizes.Both (length (raws_bytes (other f) w u.past)) (length (raws_bytes (other f) w u.future))) ≡ sizes.Both past future → Sized f w h journal handle past future
+      → cond b None (Some (both-long f w u)) ≡ Some sizes → Sized f w h journal handle sizes.past sizes.future
   sized-where u q true s e = absurd (let z : ◌≡◌ {A = ℕ} 0 1 = cc in omega arith)
   sized-where u q false s e =
-      record { used = u; reads = q; past-on = or_left (any_stray w h u.past) _ s; future-on = or_right (any_stray w h u.past) _ s; past_is = (cc); future-is = (cc) }
+      let same : ◌≡◌ {A = Sizes} (both-long f w u) sizes = cc in
+      record {
+        used = u;
+        reads = q;
+        past-on = or_left (any_stray w h u.past) _ s;
+        future-on = or_right (any_stray w h u.past) _ s;
+        past_is = ap (λ (x : Sizes). x.past) same;
+        future-is = ap (λ (x : Sizes). x.future) same;
+      }
 
-  sized-by : (o : Option Used) → used_in f w journal handle ≡ o → sizes_of (other f) w h o ≡ sizes.Both past future → Sized f w h journal handle past future
+  sized-by : (o : Option Used) → used_in f w journal handle ≡ o → sizes_of (other f) w h o ≡ Some sizes → Sized f w h journal handle sizes.past sizes.future
   unfolding sizes_of
   sized-by none q e = absurd (let z : ◌≡◌ {A = ℕ} 0 1 = cc in omega arith)
   sized-by (some u) q e = sized-where u q (any_stray w h u.past || any_stray w h u.future) refl e
 
-  pub sized : sizes_of (other f) w h (used_in f w journal handle) ≡ sizes.Both past future → Sized f w h journal handle past future
+  pub sized : sizes_of (other f) w h (used_in f w journal handle) ≡ Some sizes → Sized f w h journal handle sizes.past sizes.future
   sized e = sized-by (used_in f w journal handle) refl e
 
 -- ---- only a sheet that has a width has changes
@@ -148,18 +159,18 @@ module _ (f : Form) (w h : ℕ) (journal : List ℕ) (handle : Handle) (out : Li
     unfolding convert_of
     past-entry = result-first _ _ _ (sym n-is ∙ zero_is)
 
-    damaged-by : (o : Option Used) → sizes_of (other f) w h o ≡ sizes.Unsound → refused (lent handle out) journal_damaged ≡ rewritten (other f) w h handle out o
+    damaged-by : (o : Option Used) → sizes_of (other f) w h o ≡ None → refused (lent handle out) journal_damaged ≡ rewritten (other f) w h handle out o
     unfolding sizes_of rewritten
     damaged-by none e = refl
     damaged-by (some u) e = by (any_stray w h u.past || any_stray w h u.future) refl e
       where
         by : (b : Bool) → any_stray w h u.past || any_stray w h u.future ≡ b
-            → cond b sizes.Unsound (sizes.Both (length (raws_bytes (other f) w u.past)) (length (raws_bytes (other f) w u.future))) ≡ sizes.Unsound
+            → cond b None (Some (both-long f w u)) ≡ None
             → refused (lent handle out) journal_damaged ≡ rewritten (other f) w h handle out (some u)
         by true s e = refused-first _ _ _ journal_damaged (stray-is f w h out u s) (λ z. omega arith)
         by false s e = absurd (let z : ◌≡◌ {A = ℕ} 0 1 = cc in omega arith)
 
-    pub answer-damaged : sizes_of (other f) w h (used_in f w journal handle) ≡ sizes.Unsound → refused (lent handle out) journal_damaged ≡ convert_of f w h journal handle out
+    pub answer-damaged : sizes_of (other f) w h (used_in f w journal handle) ≡ None → refused (lent handle out) journal_damaged ≡ convert_of f w h journal handle out
     answer-damaged e = damaged-by (used_in f w journal handle) e ∙ past-entry
 
     module _ (past future : ℕ) (s : Sized f w h journal handle past future) where

@@ -1,27 +1,26 @@
 -- A conversion is done exactly where its checks pass and the used part is read: then its outcome is the records in the other form. Assumes nothing.
 use Prim.Native.Nat.{ℕ, zero, suc, ◌+◌, ◌-◌, ◌≤◌}
-use mathlib.Core.Path.{◌≡◌, refl, sym, ap, ap₂, ◌∙◌, subst}
-use mathlib.Core.Bool.{Bool, true, false, not, ◌||◌}
-use mathlib.Core.List.{List, [], ◌∷◌, ◌++◌}
+use mathlib.Core.Path.{◌≡◌, refl, ◌∙◌, subst}
+use mathlib.Core.Bool.{true, false}
+use mathlib.Core.List.{List}
 use mathlib.Core.Option.{Option, none, some, some-injective}
 use native.Mathlib.Omega.{arith}
 use borrow.Author.Tests.{ltb-false, le-ltb, not-false}
 use lib.Dec.{ltb}
 use lib.ListN.{length, take, drop}
-use Rattle.base.specs.Limits.{max_side, max_journal}
-use Rattle.base.specs.Checks.{Check, ◌when◌, first_of, refused_or}
+use Rattle.base.specs.Checks.{Check, first_of, refused_or}
 use Rattle.base.specs.Numbers.{journal_damaged}
 use Rattle.base.specs.Answer.{Done}
 use Rattle.base.specs.Answer.Told.{alone}
 use Rattle.base.specs.Lists.{over}
 use Rattle.base.specs.declared.Form.{Form}
 use Rattle.base.specs.declared.Handle.{Handle}
-use Rattle.base.proofs.First.{past, skip}
+use Rattle.base.proofs.First.{past}
 use Rattle.history_ledger.specs.Calls.{Outcome, done, refused, guarded}
 use Rattle.history_ledger.specs.Handle.{sound}
 use Rattle.journal_raw.specs.Raw.{Raw, other, raws_bytes, raws_in, any_stray}
 use Rattle.base.proofs.Scan.{or_left, or_right}
-use Rattle.history_convert.specs.Convert.{Lent, lent, Used, both_read, used_in, used_bytes, used_handle, record_checks, rewritten, entry_checks, convert_of}
+use Rattle.history_convert.specs.Convert.{lent, Used, both_read, used_in, used_bytes, used_handle, record_checks, rewritten, entry_checks, convert_of}
 
 -- ---- checks that pass, and an answer that is done
 not_done : {X : Type 0} (n : ℕ) → alone n ≡ Done → X

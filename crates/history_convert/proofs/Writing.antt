@@ -1,6 +1,6 @@
 -- The loop that writes a part: the records before the i-th stand in the other form from `to` on. Assumes nothing.
 use Prim.Native.Nat.{ℕ, zero, suc, ◌+◌, ◌-◌, ◌*◌, ◌≤◌, ◌<◌}
-use mathlib.Core.Path.{◌≡◌, refl, sym, ap, ap₂, ◌∙◌, subst}
+use mathlib.Core.Path.{◌≡◌, refl, sym, ap, ◌∙◌, subst}
 use mathlib.Core.List.{List, [], ◌∷◌, ◌++◌, flat_map, append_assoc, append-nil}
 use mathlib.Core.Option.{Option, none, some, some-injective}
 use native.Mathlib.Nat.{sub-zero}
@@ -13,9 +13,8 @@ use Rattle.base.proofs.Collect.{flat_map-append, flat_map-one}
 use Rattle.journal_record.specs.Bytes.{splice}
 use Rattle.journal_raw.specs.Raw.{Raw, other, raw_length, raw_bytes, raws_bytes, raw_in, before, followed, raws_in}
 use Rattle.journal_raw.specs.At.{Room}
-use Rattle.journal_raw.proofs.Readings.{length-raw, Bounds, bounds}
+use Rattle.journal_raw.proofs.Readings.{length-raw, bounds}
 use Rattle.journal_raw.proofs.Rewriting.{Put, put-none, put_next}
-use Rattle.history_convert.specs.Sizes.{Ready}
 
 -- ---- the first of n + 1 records, and the others
 pub record First (f : Form) (w k : ℕ) (b : List ℕ) (rs : List Raw) : Type 0 where

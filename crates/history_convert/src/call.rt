@@ -6,7 +6,6 @@ ghost use Rattle.base.specs.Checks.{first_of};
 ghost use Rattle.history_convert.specs.Convert.{moved_to, entry_checks, convert_of};
 ghost use Rattle.history_convert.specs.Sizes.{leaves};
 
-use crate::Sizes;
 use crate::measure::measure_used;
 use crate::write::write_used;
 use base::{
@@ -84,15 +83,13 @@ pub fn convert(
     if no != 0 {
         return refused(no, handle);
     }
-    let sizes = measure_used(w, h, from, journal, handle);
-    match sizes {
-        Sizes::Both { past, future } => {
-            if out.len() < past + future {
-                return refused(JOURNAL_FULL, handle);
-            }
-            write_used(w, from, journal, handle, out, past);
-            done(past, past + future, handle)
-        }
-        Sizes::Unsound => refused(JOURNAL_DAMAGED, handle),
+    let Some(sizes) = measure_used(w, h, from, journal, handle) else {
+        return refused(JOURNAL_DAMAGED, handle);
+    };
+    let end = sizes.past + sizes.future;
+    if out.len() < end {
+        return refused(JOURNAL_FULL, handle);
     }
+    write_used(w, from, journal, handle, out, sizes.past);
+    done(sizes.past, end, handle)
 }

@@ -10,16 +10,9 @@ mod write;
 
 pub use call::convert;
 
-// The length of a part of the journal in the other form.
+// How long the records before the standing offset are in the other form, and those after it.
 #[derive(Clone, Copy)]
-pub enum Size {
-    Bytes(usize),
-    Unsound,
-}
-
-// The same of the records before the standing offset and of those after it.
-#[derive(Clone, Copy)]
-pub enum Sizes {
-    Both { past: usize, future: usize },
-    Unsound,
+pub struct Sizes {
+    pub past: usize,
+    pub future: usize,
 }

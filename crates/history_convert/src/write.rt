@@ -20,12 +20,10 @@ pub fn write(w: usize, form: Form, bytes: &[u8], n: usize, out: &mut [u8], to: u
 {
     let mut at: usize = 0;
     let mut put = to;
-    let mut i: usize = 0;
-    while i < n {
+    for _ in 0..n {
         let one = write_record(w, form, bytes, at, out, put);
         at += one.length;
         put += one.size;
-        i += 1;
     }
 }
 

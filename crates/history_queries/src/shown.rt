@@ -91,8 +91,7 @@ fn shown_after(form: Form, journal: &[u8], handle: Handle, n: usize) -> Next
     ensures { next_told result ≡ shown_after form journal.now n handle }
 {
     let mut cursor = handle;
-    let mut left = n;
-    while left != 0 {
+    for _ in 0..n {
         match next_redo(form, journal, cursor) {
             Next::Record {
                 edit: _,
@@ -104,7 +103,6 @@ fn shown_after(form: Form, journal: &[u8], handle: Handle, n: usize) -> Next
             Next::Nothing => return Next::Nothing,
             Next::Refused(no) => return Next::Refused(no),
         }
-        left -= 1;
     }
     next_redo(form, journal, cursor)
 }

@@ -12,12 +12,10 @@ pub fn find(colours: &[u8], n: usize, c: Rgb) -> usize
     requires { length colours.now ≡ 3 * n }
     ensures { (result ≡ place_in colours.now c) × (result ≤ n) }
 {
-    let mut i: usize = 0;
-    while i < n {
+    for i in 0..n {
         if has_rgb(colours, i, c) {
             return i;
         }
-        i += 1;
     }
     n
 }
@@ -50,14 +48,12 @@ pub(crate) fn find_news(
     requires { (length first.now ≡ 3 * k) × (3 * k2 ≤ length second.now) × (k2 ≤ 255) × (length news.old ≡ 255) }
     ensures { Found (news_of first.now second.now k2) news.old news.new result }
 {
-    let mut n: usize = 0;
-    let mut i: usize = 0;
-    while i < k2 {
+    let mut n = 0;
+    for i in 0..k2 {
         if brings(first, k, second, i) {
             news[n] = i;
             n += 1;
         }
-        i += 1;
     }
     n
 }

@@ -24,7 +24,8 @@ use Rattle.edit.specs.Storage.{bytes_of, numbers_of}
 use Rattle.join_model.specs.Joined.{Entry, entry_at, entries_of, colours_of, labs_of, marks_of, has, joined, place_of}
 use Rattle.join_model.specs.Joined.{moved_to}
 use Rattle.join_model.specs.News.{brings, news_of}
-use Rattle.join_model.specs.Stored.{Below, colours_at, labs_at, locks_at, all_of, Entered}
+use Rattle.join_model.specs.Stored.{Below, all_of, Entered}
+use Rattle.join_model.proofs.Named.{colours_at, labs_at, locks_at}
 use Rattle.join_model.specs.Places.{place_in, goes}
 use Rattle.join_model.proofs.Bringing.{news-next}
 use Rattle.join_model.proofs.Joined.{same-rgb, has-append}

@@ -6,3 +6,4 @@ pub mod Shown
 pub mod Judging
 pub mod OnePalette
 pub mod Examples
+pub mod Named

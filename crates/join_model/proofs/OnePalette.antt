@@ -32,7 +32,8 @@ use Rattle.edit.specs.Storage.{numbers_of}
 use Rattle.history_ledger.specs.Handle.{fresh}
 use Rattle.join_model.specs.Joined.{Entry, entry_at, entries_of, colours_of, labs_of, marks_of, moved_to}
 use Rattle.join_model.specs.News.{news_of}
-use Rattle.join_model.specs.Stored.{Below, labs_at}
+use Rattle.join_model.specs.Stored.{Below}
+use Rattle.join_model.proofs.Named.{labs_at}
 use Rattle.join_model.proofs.Joined.{joins}
 use Rattle.join_model.proofs.Bytes.{entries-length, joined-news, colours-front, labs-front, locks-front, map-map}
 use Rattle.join_model.proofs.Bytes.{colours-named, labs-named, marks-named, colours-append, labs-append}

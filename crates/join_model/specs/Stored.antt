@@ -1,24 +1,12 @@
 -- Entries that a list names, stored one after the other. Definitions only. Assumes nothing.
 use Rattle.std.specs.Prelude.{◌≡◌, Bool, ℕ, ◌<◌, Float}
-use mathlib.Core.List.{List, ◌++◌, map, flat_map}
+use mathlib.Core.List.{List, ◌++◌, map}
 use Rattle.base.specs.Lists.{All, over}
-use Rattle.base.specs.Triples.{rgb_at, lab_at}
-use Rattle.edit.specs.Storage.{bytes_of, numbers_of}
-use Rattle.edit.specs.Locks.{lock_at}
 use Rattle.join_model.specs.Joined.{Entry, entry_at, entries_of, colours_of, labs_of, marks_of}
 
 -- each of a list is below k
 unfoldable pub Below : ℕ → List ℕ → Type 0
 Below k l = All (λ i. i < k) l
-
-unfoldable pub colours_at : List ℕ → List ℕ → List ℕ
-colours_at palette l = flat_map (λ i. bytes_of (rgb_at palette i)) l
-
-unfoldable pub labs_at : List Float → List ℕ → List Float
-labs_at lab l = flat_map (λ i. numbers_of (lab_at lab i)) l
-
-unfoldable pub locks_at : List Bool → List ℕ → List Bool
-locks_at locks l = map (lock_at locks) l
 
 -- the joined entries as the code has them: the first's, and those of the second that a list names
 unfoldable pub all_of : ℕ → List ℕ → List Float → List Bool → List ℕ → List Float → List Bool → List ℕ → List Entry

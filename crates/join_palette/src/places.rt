@@ -16,10 +16,8 @@ fn fill_places(colours: &[u8], n: usize, palette: &[u8], k: usize, table: &mut [
     ensures { Moves k colours.now palette.now table.new }
 {
     table[0] = -1;
-    let mut i: usize = 0;
-    while i < k {
+    for i in 0..k {
         table[i + 1] = find(colours, n, rgb_at(palette, i)) as i16;
-        i += 1;
     }
 }
 
@@ -37,10 +35,8 @@ fn move_indices(table: &[i16; 256], indices: &[i16], out: &mut [i16])
     requires { (some (stray 255) indices.now ≡ false) × (length indices.now ≡ length out.old) }
     ensures { out.new ≡ map (moved_in table.now) indices.now }
 {
-    let mut i: usize = 0;
-    while i < indices.len() {
-        out[i] = place_of(table, indices[i]);
-        i += 1;
+    for (i, z) in indices.iter().enumerate() {
+        out[i] = place_of(table, *z);
     }
 }
 

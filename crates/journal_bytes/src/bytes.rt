@@ -12,9 +12,7 @@ pub fn put_u24(dst: &mut [u8], at: usize, v: usize)
     requires { at + 3 ≤ length dst.old }
     ensures { dst.new ≡ splice dst.old at (le 3 v) }
 {
-    dst[at] = (v % 256) as u8;
-    dst[at + 1] = (v / 256 % 256) as u8;
-    dst[at + 2] = (v / 256 / 256 % 256) as u8;
+    dst[at..at + 3].copy_from_slice(&v.to_le_bytes()[..3]);
 }
 
 // Writes the 4 bytes of v from `at` on.
@@ -22,10 +20,7 @@ pub fn put_u32(dst: &mut [u8], at: usize, v: u32)
     requires { at + 4 ≤ length dst.old }
     ensures { dst.new ≡ splice dst.old at (le 4 v) }
 {
-    dst[at] = (v % 256) as u8;
-    dst[at + 1] = (v / 256 % 256) as u8;
-    dst[at + 2] = (v / 256 / 256 % 256) as u8;
-    dst[at + 3] = (v / 256 / 256 / 256 % 256) as u8;
+    dst[at..at + 4].copy_from_slice(&v.to_le_bytes());
 }
 
 // Writes the 8 bytes of v from `at` on.
@@ -33,8 +28,7 @@ pub fn put_u64(dst: &mut [u8], at: usize, v: u64)
     requires { at + 8 ≤ length dst.old }
     ensures { dst.new ≡ splice dst.old at (le 8 v) }
 {
-    put_u32(dst, at, (v % 4_294_967_296) as u32);
-    put_u32(dst, at + 4, (v / 4_294_967_296) as u32);
+    dst[at..at + 8].copy_from_slice(&v.to_le_bytes());
 }
 
 // Writes the 8 bytes of a double that is a number, by its bits.
@@ -43,19 +37,7 @@ pub fn put_f64(dst: &mut [u8], at: usize, x: f64)
     requires t { T (not (is_nan x)) }
     ensures { dst.new ≡ splice dst.old at (double_bytes x) }
 {
-    put_u64(dst, at, f64::to_bits(x));
-}
-
-fn byte(b: u8) -> u32
-    ensures { (result ≡ b) × (result < 256) }
-{
-    b as u32
-}
-
-fn wide(x: u32) -> u64
-    ensures { (result ≡ x) × (result < 4294967296) }
-{
-    x as u64
+    put_u64(dst, at, x.to_bits());
 }
 
 // The number in the 2 bytes from `at` on.
@@ -63,9 +45,7 @@ pub fn get_u16(src: &[u8], at: usize) -> u32
     requires { at + 2 ≤ length src.now }
     ensures { (result ≡ le_at 2 src.now at) × (result < 65536) }
 {
-    let b0 = byte(src[at]);
-    let b1 = byte(src[at + 1]);
-    b0 + 256 * b1
+    u32::from(u16::from_le_bytes([src[at], src[at + 1]]))
 }
 
 // The number in the 3 bytes from `at` on.
@@ -73,10 +53,7 @@ pub fn get_u24(src: &[u8], at: usize) -> u32
     requires { at + 3 ≤ length src.now }
     ensures { (result ≡ le_at 3 src.now at) × (result < 16777216) }
 {
-    let b0 = byte(src[at]);
-    let b1 = byte(src[at + 1]);
-    let b2 = byte(src[at + 2]);
-    b0 + 256 * (b1 + 256 * b2)
+    u32::from_le_bytes([src[at], src[at + 1], src[at + 2], 0])
 }
 
 // The number in the 4 bytes from `at` on.
@@ -84,11 +61,7 @@ pub fn get_u32(src: &[u8], at: usize) -> u32
     requires { at + 4 ≤ length src.now }
     ensures { result ≡ le_at 4 src.now at }
 {
-    let b0 = byte(src[at]);
-    let b1 = byte(src[at + 1]);
-    let b2 = byte(src[at + 2]);
-    let b3 = byte(src[at + 3]);
-    b0 + 256 * (b1 + 256 * (b2 + 256 * b3))
+    u32::from_le_bytes([src[at], src[at + 1], src[at + 2], src[at + 3]])
 }
 
 // The number in the 8 bytes from `at` on.
@@ -96,9 +69,16 @@ pub fn get_u64(src: &[u8], at: usize) -> u64
     requires { at + 8 ≤ length src.now }
     ensures { result ≡ le_at 8 src.now at }
 {
-    let low = wide(get_u32(src, at));
-    let high = wide(get_u32(src, at + 4));
-    low + 4_294_967_296 * high
+    u64::from_le_bytes([
+        src[at],
+        src[at + 1],
+        src[at + 2],
+        src[at + 3],
+        src[at + 4],
+        src[at + 5],
+        src[at + 6],
+        src[at + 7],
+    ])
 }
 
 // The double in the 8 bytes from `at` on.

@@ -14,6 +14,7 @@ const LEAST: usize = 8;
 
 // A record of `length` bytes from the front on, where these bytes hold it and its last four are its
 // length.
+#[tactic(auto, unfolding(journal_record::specs::Found::closed_at, journal_record::specs::Record::closed))]
 fn closed(bytes: &[u8], start: usize, kind: u8, length: usize, count: usize) -> Found
     requires { 4 ≤ length }
     ensures { result ≡ closed_at bytes.now start kind length count }
@@ -34,6 +35,7 @@ fn closed(bytes: &[u8], start: usize, kind: u8, length: usize, count: usize) -> 
 
 // The same of a kind with a list: `fixed` bytes and those of the changes, of which there are at least `least`. The
 // count stands 8 bytes before the end of the fixed ones.
+#[tactic(auto, unfolding(journal_record::specs::Found::counted_at))]
 fn counted(form: Form, bytes: &[u8], start: usize, kind: u8, fixed: usize, least: usize) -> Found
     requires { (8 ≤ fixed) × (fixed ≤ 37) }
     ensures { result ≡ counted_at form bytes.now start kind fixed least }
@@ -56,6 +58,7 @@ fn is_mark(b: u8) -> bool
 }
 
 // The same of a lock, whose old and new mark are marks: "a recorded mark other than 0 or 1 gets 4".
+#[tactic(auto, unfolding(journal_record::specs::Found::locked_at))]
 fn locked(bytes: &[u8], start: usize) -> Found
     requires { 4 ≤ length bytes.now }
     ensures { result ≡ locked_at bytes.now start }
@@ -102,6 +105,7 @@ pub fn find_forth(form: Form, journal: &[u8], offset: usize, end: usize) -> Foun
 }
 
 // The record where it has n bytes.
+#[tactic(auto, unfolding(journal_record::specs::Found::whole_only))]
 fn whole_only(found: Found, n: usize) -> Found
     ensures { result ≡ whole_only n found }
 {

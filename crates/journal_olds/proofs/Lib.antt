@@ -1,4 +1,3 @@
 pub mod Fresh
 pub mod Examples
 pub mod Claims
-pub mod Signed

@@ -17,10 +17,8 @@ fn any_stray_old_in(k: usize, form: Form, journal: &[u8], at: usize, n: usize) -
     ensures { (w : ℕ) → result ≡ some (λ c. stray k (old_of c)) (changes_in form w journal.now at n) }
 {
     let mut bad = false;
-    let mut i: usize = 0;
-    while i < n {
+    for i in 0..n {
         bad = either(bad, is_stray(old_of(change_at(form, journal, at, i)), k));
-        i += 1;
     }
     bad
 }
@@ -32,10 +30,8 @@ pub fn paint_olds_in(indices: &mut [i16], w: usize, form: Form, journal: &[u8], 
     ensures { indices.new ≡ painted old_of w (changes_in form w journal.now at n) indices.old }
 {
     let row = row_width(form, w);
-    let mut i: usize = 0;
-    while i < n {
+    for i in 0..n {
         paint_old(indices, row, change_at(form, journal, at, i));
-        i += 1;
     }
 }
 
@@ -76,8 +72,7 @@ fn claim_place(indices: &mut [i16], w: usize, k: usize, c: u64) -> bool
 {
     let p = place_of(w, c);
     let taken = is_claimed(indices[p]);
-    let z = claim(indices[p]);
-    indices[p] = z;
+    indices[p] = claim(indices[p]);
     both(!taken, is_stray(old_of(c), k))
 }
 
@@ -100,9 +95,7 @@ fn claim_places(
 {
     let row = row_width(form, w);
     let mut bad = false;
-    let mut i: usize = n;
-    while 0 < i {
-        i -= 1;
+    for i in (0..n).rev() {
         let hit = claim_place(indices, row, k, change_at(form, journal, at, i));
         bad = either(bad, hit);
     }
@@ -117,8 +110,7 @@ fn release_place(indices: &mut [i16], w: usize, c: u64)
         (release_of (get_or indices.old (place w (unpacked c)) (pos 0))) }
 {
     let p = place_of(w, c);
-    let z = release(indices[p]);
-    indices[p] = z;
+    indices[p] = release(indices[p]);
 }
 
 // Takes the claims off the places of the changes.
@@ -129,10 +121,8 @@ fn release_places(indices: &mut [i16], w: usize, form: Form, journal: &[u8], at:
         → indices.new ≡ l }
 {
     let row = row_width(form, w);
-    let mut i: usize = 0;
-    while i < n {
+    for i in 0..n {
         release_place(indices, row, change_at(form, journal, at, i));
-        i += 1;
     }
 }
 

@@ -1,9 +1,9 @@
 -- A change that was read, written in the form that it was read in, is its bytes; and on the sheet its numbers fit those of a change.
 -- Assumes nothing.
-use Prim.Native.Nat.{ℕ, zero, suc, ◌+◌, ◌-◌, ◌*◌, ◌/◌, ◌%◌, ◌^◌, ◌≤◌, ◌<◌}
-use mathlib.Core.Path.{◌≡◌, refl, sym, ap, ap₂, ◌∙◌}
-use mathlib.Core.Bool.{Bool, true, false, cond, ◌||◌}
-use mathlib.Core.List.{List, [], ◌∷◌, ◌++◌, flat_map, append_assoc}
+use Prim.Native.Nat.{ℕ, zero, suc, ◌+◌, ◌*◌, ◌/◌, ◌%◌, ◌^◌, ◌≤◌, ◌<◌}
+use mathlib.Core.Path.{◌≡◌, ◌∙◌}
+use mathlib.Core.Bool.{false}
+use mathlib.Core.List.{List, flat_map}
 use native.Mathlib.Nat.{add_assoc, div-add-mod', mul-zero}
 use native.Mathlib.Omega.{arith}
 use lib.ListN.{length, take, drop}
@@ -16,7 +16,7 @@ use Rattle.base.proofs.Scan.{or_left, or_right}
 use Rattle.base.specs.declared.Form.{Form}
 use Rattle.base.specs.declared.Form.TheVariants.{Coordinates, Places}
 use Rattle.edit.specs.Change.{Change, unpacked, place, outside}
-use Rattle.journal_record.specs.Bytes.{le, le_at}
+use Rattle.journal_record.specs.Bytes.{le_at}
 use Rattle.journal_record.specs.Record.{change_bytes, stride, change_in, changes_in}
 use Rattle.journal_record.proofs.Strides.{first_fits, rest-fits}
 use Rattle.journal_write.specs.Fit.{FitChange, FitChanges}

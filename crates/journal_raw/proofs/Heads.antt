@@ -1,10 +1,10 @@
 -- What a record's kind, count and marks say that it holds goes by its kind, its head and the changes behind the head alone: so it is the same in both forms.
 -- Assumes nothing.
-use Prim.Native.Nat.{ℕ, zero, suc, ◌+◌, ◌*◌, ◌≤◌, ◌<◌}
-use mathlib.Core.Path.{◌≡◌, refl, sym, ap, ap₂, ◌∙◌, subst}
+use Prim.Native.Nat.{ℕ, zero, suc, ◌+◌, ◌*◌, ◌≤◌}
+use mathlib.Core.Path.{◌≡◌, refl, sym, ◌∙◌, subst}
 use mathlib.Core.Logic.{◌⊎◌, inl, inr}
 use mathlib.Core.Bool.{Bool, true, false, cond, ◌&&◌}
-use mathlib.Core.List.{List, [], ◌∷◌, ◌++◌}
+use mathlib.Core.List.{List}
 use mathlib.Core.Option.{Option, none, some, some-injective}
 use native.Mathlib.Nat.{mul-zero}
 use native.Mathlib.Omega.{arith}
@@ -12,14 +12,14 @@ use borrow.Author.Tests.{eqb-true}
 use lib.Dec.{leb, eqb}
 use lib.ListN.{length, get_or, take, drop}
 use Rattle.base.specs.declared.Form.{Form}
-use Rattle.base.specs.declared.Form.TheVariants.{Coordinates, Places}
+use Rattle.base.specs.declared.Form.TheVariants.{Coordinates}
 use Rattle.base.specs.declared.Edit.{Edit}
-use Rattle.base.specs.declared.Edit.TheVariants.{Pixels, PaletteSet, PaletteAdd, PaletteRemove, PaletteLock}
+use Rattle.base.specs.declared.Edit.TheVariants.{Pixels, PaletteSet, PaletteAdd, PaletteRemove}
 use Rattle.edit.specs.Change.{Change}
 use Rattle.journal_record.specs.Bytes.{le_at}
-use Rattle.journal_record.specs.Record.{stride, pixels_kind, remove_kind, record_length, rgb_in, lab_in, is_mark, mark_in, lock_in, changes_in, by_kind, contents}
+use Rattle.journal_record.specs.Record.{stride, pixels_kind, remove_kind, record_length, rgb_in, lab_in, is_mark, lock_in, changes_in, by_kind, contents}
 use Rattle.journal_record.specs.Found.{kind_of}
-use Rattle.journal_record.proofs.Parts.{byte-part, mark-part, le_at-part, rgb-part, lab-part}
+use Rattle.journal_record.proofs.Parts.{byte-part, le_at-part, rgb-part, lab-part}
 use Rattle.journal_record.proofs.ByKind.{kind-pixels, kind-set, kind-add, kind-remove, kind-lock}
 use Rattle.journal_raw.specs.Raw.{head_length, kind_byte}
 

@@ -6,6 +6,7 @@ use mathlib.Core.List.{List}
 use mathlib.Core.Option.{Option, none, some, some-injective}
 use native.Mathlib.Nat.{add_assoc}
 use native.Mathlib.Omega.{arith}
+use Rattle.std.specs.Prelude.{Some, None}
 use lib.ListN.{length, take, drop, length-drop}
 use lib.Seq.{take_all, drop-drop}
 use Rattle.base.specs.Lists as lists
@@ -16,11 +17,11 @@ use Rattle.journal_record.specs.Bytes.{splice}
 use Rattle.journal_record.specs.Record.{stride, changes_in, Reading, read_forth}
 use Rattle.journal_record.specs.Found.{kind_of, found_at}
 use Rattle.journal_record.specs.declared.Found.TheVariants.{Record, Unsound}
-use Rattle.journal_record.proofs.Holds.{Tells, tells_at}
+use Rattle.journal_record.proofs.Holds.{tells_at}
 use Rattle.journal_record.proofs.Strides.{stride-least}
 use Rattle.journal_record.proofs.Finding.{length-in}
 use Rattle.journal_record.proofs.Parts.{changes-part}
-use Rattle.journal_raw.specs.declared.Measured.TheVariants as measured
+use Rattle.journal_raw.specs.declared.Written.{Written}
 use Rattle.journal_raw.specs.Raw.{Raw, head_length, raw_length, raw_bytes, raw_of, raw_in, stray}
 use Rattle.journal_raw.specs.At.{raw_at, measured_raw, Room}
 use Rattle.journal_raw.proofs.Readings.{within, n-is, cs-there, twice}
@@ -79,22 +80,25 @@ module _ (f : Form) (w : ℕ) (bytes : List ℕ) (at : ℕ) (inside : at ≤ len
       rw (t.kind-is, t.count-is) at (lies-by n t.edit t.changes t.reading)
 
 -- ---- what a measure answers
-pub none-measured : (f g : Form) (w h : ℕ) (bytes : List ℕ) (at : ℕ) → raw_in f w (drop at bytes) ≡ none → measured.Unsound ≡ measured_raw g w h (raw_in f w (drop at bytes))
+abbrev written : ℕ → ℕ → Written
+written n k = record { length = n; size = k }
+
+pub none-measured : (f g : Form) (w h : ℕ) (bytes : List ℕ) (at : ℕ) → raw_in f w (drop at bytes) ≡ none → None ≡ measured_raw g w h (raw_in f w (drop at bytes))
 unfolding measured_raw
 none-measured f g w h bytes at e = rw e
 
 module _ (f g : Form) (w h : ℕ) (bytes : List ℕ) (at kind n count : ℕ) (l : Lies f w bytes at kind n count) (head : ℕ) (off : Bool) (h-is : head ≡ head_length kind)
     (t : off ≡ lists.some (outside w h) (changes_in f w bytes (at + 1 + head) count)) where
-  pub off-measured : off ≡ true → measured.Unsound ≡ measured_raw g w h (raw_in f w (drop at bytes))
+  pub off-measured : off ≡ true → None ≡ measured_raw g w h (raw_in f w (drop at bytes))
   unfolding measured_raw stray
   off-measured e = rw (l.raw-is, ← rw h-is at t, e)
 
   pub on-measured : off ≡ false → (into : Form) (size : ℕ) → into ≡ g → size ≡ 1 + head_length kind + stride into * count + 4
-      → measured.Record n size ≡ measured_raw g w h (raw_in f w (drop at bytes))
+      → Some (written n size) ≡ measured_raw g w h (raw_in f w (drop at bytes))
   unfolding measured_raw stray
   on-measured e into size i s =
       rw (l.raw-is, ← rw h-is at t, e)
-      (ap (measured.Record n) (rw i at s ∙ sym (length_at f w bytes at kind count (omega (arith, l.length-is, l.within)) g)))
+      (ap (λ (k : ℕ). Some (written n k)) (rw i at s ∙ sym (length_at f w bytes at kind count (omega (arith, l.length-is, l.within)) g)))
 
 -- ---- what writing it asks and leaves
 module _ (f g : Form) (w : ℕ) (bytes : List ℕ) (at kind n count : ℕ) (l : Lies f w bytes at kind n count) where

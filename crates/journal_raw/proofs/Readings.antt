@@ -1,14 +1,14 @@
 -- A record that was read is its bytes, written in the form that it was read in; and written in either form it is read again, from both ends, as the same edit
 -- with the same changes. Assumes nothing.
-use Prim.Native.Nat.{ℕ, suc, ◌+◌, ◌-◌, ◌*◌, ◌^◌, ◌≤◌, ◌<◌}
-use mathlib.Core.Path.{◌≡◌, refl, sym, ap, ap₂, ◌∙◌, subst}
-use mathlib.Core.Bool.{Bool, true, false, cond, ◌&&◌}
+use Prim.Native.Nat.{ℕ, ◌+◌, ◌-◌, ◌*◌, ◌^◌, ◌≤◌, ◌<◌}
+use mathlib.Core.Path.{◌≡◌, refl, sym, ap, ◌∙◌, subst}
+use mathlib.Core.Bool.{Bool, true, false, cond}
 use mathlib.Core.List.{List, [], ◌∷◌, ◌++◌, flat_map, append_assoc, append-nil}
-use mathlib.Core.Option.{Option, none, some, some-injective}
+use mathlib.Core.Option.{none, some, some-injective}
 use native.Mathlib.Omega.{arith}
 use borrow.Author.Tests.{leb-true, le-leb, eq-eqb, eqb-true}
-use lib.Dec.{leb, eqb}
-use lib.ListN.{length, get_or, take, drop, length-take, length-drop, length-append}
+use lib.Dec.{leb}
+use lib.ListN.{length, take, drop, length-take, length-drop, length-append}
 use lib.Seq.{take-add, take_at, drop_at, drop-cons}
 use Rattle.base.proofs.Bools.{and_left, and_right}
 use Rattle.base.specs.Lists as lists
@@ -27,7 +27,7 @@ use Rattle.journal_write.proofs.Placed.{fit-places}
 use Rattle.journal_raw.specs.Raw.{Raw, head_length, kind_byte, raw_length, raw_bytes, raw_of, raw_in, stray, AllBytes}
 use Rattle.journal_raw.proofs.AsBytes.{le-again}
 use Rattle.journal_raw.proofs.Changes.{changes-again, fit-changes}
-use Rattle.journal_raw.proofs.Heads.{Pair, pair, count_in, held, head_of, list_of, by-kind, Told, told}
+use Rattle.journal_raw.proofs.Heads.{Pair, pair, count_in, held, by-kind, Told, told}
 
 abbrev triple : ℕ → Edit → List Change → Reading
 triple n e cs = some (n, e, cs)

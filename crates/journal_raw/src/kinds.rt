@@ -17,6 +17,7 @@ pub fn other(form: Form) -> Form
 }
 
 // How many bytes stand between the kind and the changes, or the length.
+#[tactic(auto, unfolding(crate::specs::Raw::head_length, journal_record::specs::Record::by_kind))]
 pub fn head_length(kind: u8) -> usize
     ensures { (result ≡ head_length kind) × (result ≤ 32) }
 {
@@ -39,6 +40,7 @@ pub fn head_length(kind: u8) -> usize
 }
 
 // The byte of a kind.
+#[tactic(auto, unfolding(crate::specs::Raw::kind_byte, journal_record::specs::Record::by_kind))]
 pub fn kind_byte(form: Form, kind: u8) -> u8
     ensures { result ≡ kind_byte form kind }
 {

@@ -11,14 +11,7 @@ pub use judge::measure_record;
 pub use kinds::other;
 pub use rewrite::write_record;
 
-// What a measure of a record answers: its length, and its length in the other form.
-#[derive(Clone, Copy)]
-pub enum Measured {
-    Record { length: usize, size: usize },
-    Unsound,
-}
-
-// What a written record answers: its length, and its length in the other form.
+// A record measured, or written: its length, and its length in the other form.
 #[derive(Clone, Copy)]
 pub struct Written {
     pub length: usize,

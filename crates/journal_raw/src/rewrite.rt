@@ -28,11 +28,7 @@ fn copy(bytes: &[u8], at: usize, n: usize, out: &mut [u8], to: usize)
     requires { (at + n ≤ length bytes.now) × (to + n ≤ length out.old) }
     ensures { out.new ≡ splice out.old to (take n (drop at bytes.now)) }
 {
-    let mut i: usize = 0;
-    while i < n {
-        out[to + i] = bytes[at + i];
-        i += 1;
-    }
+    out[to..to + n].copy_from_slice(&bytes[at..at + n]);
 }
 
 // A change from its place to column and row; old and new as they are.
@@ -76,8 +72,7 @@ fn put_changes(w: usize, form: Form, bytes: &[u8], at: usize, n: usize, out: &mu
         ≡ splice out.old to (flat_map (change_bytes (other form) w) (changes_in form w bytes.now at n)) }
 {
     let into = other(form);
-    let mut i: usize = 0;
-    while i < n {
+    for i in 0..n {
         put_change(
             w,
             form,
@@ -86,7 +81,6 @@ fn put_changes(w: usize, form: Form, bytes: &[u8], at: usize, n: usize, out: &mu
             out,
             to + list_bytes(into, i),
         );
-        i += 1;
     }
 }
 

@@ -1,8 +1,8 @@
 -- A number that was read and the change that it is: the same place, the same old and new, and on or off the sheet by its place. Assumes nothing.
-use mathlib.Core.Path.{◌≡◌, refl, sym, ap, ◌∙◌}
+use mathlib.Core.Path.{◌≡◌, refl, sym, ap}
 use mathlib.Core.Bool.{Bool, true, false, ◌||◌}
 use mathlib.Core.List.{List}
-use Prim.Native.Nat.{ℕ, zero, suc, ◌+◌, ◌*◌, ◌/◌, ◌%◌, ◌^◌, ◌<◌, ◌≤◌}
+use Prim.Native.Nat.{ℕ, zero, suc, ◌+◌, ◌*◌, ◌/◌, ◌%◌, ◌^◌, ◌<◌}
 use native.Mathlib.Nat.{mul_comm, mod-lt, div-add-mod', zero-mul, le-div_iff_mul-le, div-lt_iff_lt-mul}
 use native.Mathlib.Omega.{arith}
 use borrow.Author.Tests.{le-leb, lt-leb, leb-true, leb-false}
@@ -12,7 +12,7 @@ use mir.Syntax.{w16}
 use mir.Val.{to_z}
 use Rattle.base.specs.declared.Form.{Form}
 use Rattle.base.specs.declared.Form.TheVariants.{Coordinates, Places}
-use Rattle.edit.specs.Change.{Change, unpacked, place, outside}
+use Rattle.edit.specs.Change.{unpacked, place, outside}
 use Rattle.edit.specs.Checks.{misdirected}
 use Rattle.edit_pixels.specs.Inside.{bare}
 use Rattle.journal_record.specs.Bytes.{le_at}

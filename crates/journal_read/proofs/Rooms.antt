@@ -1,5 +1,5 @@
 -- Where a record's parts lie, by its kind. Assumes nothing.
-use mathlib.Core.Path.{◌≡◌, refl, sym, ap, ◌∙◌}
+use mathlib.Core.Path.{◌≡◌, refl, ap, ◌∙◌}
 use mathlib.Core.List.{List, []}
 use Prim.Native.Nat.{ℕ, zero, suc, ◌+◌, ◌*◌, ◌≤◌}
 use native.Mathlib.Omega.{arith}
@@ -23,10 +23,6 @@ module _ {f : Form} {journal : List ℕ} {kind start count : ℕ} (l : Lies f jo
   pub set_room : kind ≡ 2 → start + 36 ≤ length journal
   unfolding edit_at by_kind record_length
   set_room e = rw e at l.inside
-
-  pub add-room : kind ≡ 3 → start + 8 ≤ length journal
-  unfolding edit_at by_kind record_length
-  add-room e = rw e at l.inside
 
   pub remove-room : kind ≡ 4 → start + (37 + stride f * count) ≤ length journal
   unfolding edit_at by_kind record_length

@@ -15,7 +15,7 @@ use Rattle.base.specs.declared.Edit.TheVariants.{Pixels, PaletteSet, PaletteAdd,
 use Rattle.edit.specs.Change.{Change}
 use Rattle.journal_record.specs.declared.Found.TheVariants.{Record, Unsound}
 use Rattle.journal_record.specs.Bytes.{le_at}
-use Rattle.journal_record.specs.Record.{stride, record_length, Reading, by_kind, read_forth, of_length, read_back}
+use Rattle.journal_record.specs.Record.{record_length, Reading, by_kind, read_forth, of_length, read_back}
 use Rattle.journal_record.specs.Found.{kind_of, found_at, found_before}
 use Rattle.journal_record.proofs.LittleEndian.{drop-take}
 use Rattle.journal_record.proofs.Holds.{Tells, tells_at, tells-before, Holds, Held, read-holds}

@@ -12,32 +12,23 @@ ghost use Rattle.journal_record.specs.Record.{stride, change_in};
 ghost use Rattle.journal_read.specs.Number.{change_of, row_width};
 
 use base::{Form, NO_SUCH_INDEX, OFF_THE_SHEET};
+use edit::{NEW, OLD};
 use edit_pixels::{is_outside, is_stray, new_of, place_of};
 use edit_remap::mark_inside;
 use journal_bytes::{get_u16, get_u24, get_u64};
 use journal_find::list_bytes;
 
-// The width of the rows of places, and the units in which a change counts its old and its new.
-const ROW: usize = 65_536;
-
-const OLD: u64 = 4_294_967_296;
-
-const NEW: u64 = 281_474_976_710_656;
-
-fn wide(x: u32) -> u64
-    ensures { (result ≡ x) × (result < 4294967296) }
-{
-    x as u64
-}
+// The width of the rows of places.
+const ROW: usize = edit::ROW as usize;
 
 // The change in the 7 bytes from `at` on: "place y × w + x in three bytes, then old and new in two each".
 fn placed_at(journal: &[u8], at: usize) -> u64
     requires { at + 7 ≤ length journal.now }
     ensures { (w : ℕ) → change_of Places w result ≡ change_in Places w journal.now at }
 {
-    let p = wide(get_u24(journal, at));
-    let old = wide(get_u16(journal, at + 3));
-    let new = wide(get_u16(journal, at + 5));
+    let p = u64::from(get_u24(journal, at));
+    let old = u64::from(get_u16(journal, at + 3));
+    let new = u64::from(get_u16(journal, at + 5));
     p + OLD * old + NEW * new
 }
 

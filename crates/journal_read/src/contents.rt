@@ -9,6 +9,7 @@ use crate::rgb::get_rgb;
 use base::Edit;
 
 // The edit of a record that lies in the journal, in either form: without its changes a record is as long in both.
+#[tactic(auto, unfolding(crate::specs::Lies::edit_at, journal_record::specs::Record::by_kind, journal_record::specs::Record::record_length))]
 pub fn edit_at(journal: &[u8], kind: u8, start: usize) -> Edit
     requires { Lies Coordinates journal.now kind start 0 }
     ensures { result ≡ edit_at journal.now kind start }

@@ -11,19 +11,12 @@ pub const ADD: u8 = 3;
 
 pub const LOCK: u8 = 5;
 
-// A byte as an index.
-fn index_of(b: u8) -> usize
-    ensures { (result ≡ b) × (result ≤ 255) }
-{
-    b as usize
-}
-
 // The entry that a set, a removal or a lock names.
 pub fn entry_at(journal: &[u8], start: usize) -> usize
     requires { start + 2 ≤ length journal.now }
     ensures { (result ≡ get_or journal.now (start + 1) 0) × (result ≤ 255) }
 {
-    index_of(journal[start + 1])
+    usize::from(journal[start + 1])
 }
 
 // The mark that stands at a place of a lock's record, where it is 0 or 1.

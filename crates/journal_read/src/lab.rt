@@ -28,6 +28,7 @@ pub fn double_in(journal: &[u8], at: usize) -> f64
 }
 
 // The LAB in the 24 bytes from `at` on, bit by bit where it is finite.
+#[tactic(auto, unfolding(journal_record::specs::Record::lab_in))]
 pub fn lab_in(journal: &[u8], at: usize) -> Lab
     requires { at + 24 ≤ length journal.now }
     ensures { result ≡ lab_in journal.now at }

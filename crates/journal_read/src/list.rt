@@ -36,10 +36,8 @@ pub fn any_outside_in(w: usize, h: usize, form: Form, journal: &[u8], at: usize,
     ensures { result ≡ some (outside w h) (changes_in form w journal.now at n) }
 {
     let mut bad = false;
-    let mut i: usize = 0;
-    while i < n {
+    for i in 0..n {
         bad = either(bad, is_off(form, w, h, change_at(form, journal, at, i)));
-        i += 1;
     }
     bad
 }
@@ -50,13 +48,11 @@ fn pixels_no_in(w: usize, h: usize, k: usize, form: Form, journal: &[u8], at: us
     ensures { (indices : List ℤ) → result
         ≡ first_of (flat_map (pixel_checks false (bare w h k indices)) (changes_in form w journal.now at n)) }
 {
-    let mut i: usize = 0;
-    while i < n {
+    for i in 0..n {
         let no = change_no(form, w, h, k, change_at(form, journal, at, i));
         if no != 0 {
             return no;
         }
-        i += 1;
     }
     0
 }
@@ -83,14 +79,12 @@ fn mark_remap_in(
         × (result ≡ 0
         → MarkedFrom w (changes_in form w journal.now at n) (w * h) marks.old marks.new) }
 {
-    let mut i: usize = 0;
-    while i < n {
+    for i in 0..n {
         let c = change_at(form, journal, at, i);
         let no = mark_change(form, w, h, k, index, indices, marks, c);
         if no != 0 {
             return no;
         }
-        i += 1;
     }
     0
 }
@@ -133,14 +127,13 @@ fn paint_news_in(indices: &mut [i16], w: usize, form: Form, journal: &[u8], at: 
     ensures { indices.new ≡ painted new_of w (changes_in form w journal.now at n) indices.old }
 {
     let row = row_width(form, w);
-    let mut i: usize = 0;
-    while i < n {
+    for i in 0..n {
         paint_new(indices, row, change_at(form, journal, at, i));
-        i += 1;
     }
 }
 
 // The same of a list by its kind.
+#[tactic(auto, unfolding(edit::specs::List::painted_list, edit_list::specs::Paintable::Paintable))]
 pub fn paint_list_in(
     list: ListKind,
     indices: &mut [i16],

@@ -5,6 +5,7 @@ ghost use Rattle.journal_record.specs.Record.{rgb_in};
 use base::Rgb;
 
 // The colour in the 3 bytes from `at` on.
+#[tactic(auto, unfolding(journal_record::specs::Record::rgb_in))]
 pub fn get_rgb(journal: &[u8], at: usize) -> Rgb
     requires { at + 3 ≤ length journal.now }
     ensures { result ≡ rgb_in journal.now at }

@@ -20,7 +20,7 @@ use Rattle.base.specs.declared.Edit.TheVariants.{Pixels, PaletteSet, PaletteAdd,
 use Rattle.edit.specs.Change.{Change}
 use Rattle.edit.specs.Storage.{bytes_of}
 use Rattle.journal_record.specs.Bytes.{le, unle, le_at}
-use Rattle.journal_record.specs.Record.{pixels_kind, remove_kind, lab_bytes, list_bytes, mark_byte, is_mark, body_of, record_length, record_of, rgb_in, double_in, lab_in, changes_in, by_kind, contents, closed, agreed, read_forth, of_length, read_back}
+use Rattle.journal_record.specs.Record.{pixels_kind, remove_kind, lab_bytes, list_bytes, mark_byte, is_mark, body_of, record_length, record_of, rgb_in, double_in, lab_in, changes_in, contents, closed, agreed, read_forth, of_length, read_back}
 use Rattle.journal_write.specs.Fit.{FitLab, FitEdit, Fit}
 use Rattle.journal_record.proofs.LittleEndian.{length-le, unle-le, le_at-of}
 use Rattle.journal_record.proofs.ByKind.{kind-pixels, kind-set, kind-add, kind-remove, kind-lock}

@@ -16,7 +16,7 @@ ghost use Rattle.journal_write.specs.Fit.{Numbers};
 ghost use Rattle.journal_write.specs.List.{within, Puttable};
 
 use base::{Form, Lab, Rgb};
-use edit::ListKind;
+use edit::{ListKind, OLD};
 use edit_pixels::{column, filled_in, row};
 use journal_bytes::{put_f64, put_u24, put_u32, put_u64};
 use journal_find::list_bytes;
@@ -51,10 +51,8 @@ pub fn put_lab(part: &mut [u8], at: usize, x: Lab)
     put_f64(part, at + 16, x.b);
 }
 
-// The units of a number of three bytes, and of a change's old and new.
+// Numbers of three bytes are below this.
 const PLACES: usize = 16_777_216;
-
-const OLD: u64 = 4_294_967_296;
 
 // A change's place on a sheet of width w, y × w + x, as far as three bytes tell it: of a width they tell no more than
 // its own three.
@@ -92,10 +90,8 @@ fn put_changes(form: Form, part: &mut [u8], at: usize, list: &[u64], w: usize)
     ensures { part.new
         ≡ splice part.old at (flat_map (change_bytes form w) (map unpacked list.now)) }
 {
-    let mut i: usize = 0;
-    while i < list.len() {
-        put_change(form, part, at + list_bytes(form, i), w, list[i]);
-        i += 1;
+    for (i, c) in list.iter().enumerate() {
+        put_change(form, part, at + list_bytes(form, i), w, *c);
     }
 }
 
@@ -107,16 +103,9 @@ fn put_filled(form: Form, part: &mut [u8], at: usize, list: &[u64], indices: &[i
         ≡ splice part.old at
         (flat_map (change_bytes form w) (map (filled_in w indices.now) (map unpacked list.now))) }
 {
-    let mut i: usize = 0;
-    while i < list.len() {
-        put_change(
-            form,
-            part,
-            at + list_bytes(form, i),
-            w,
-            filled_in(indices, w, list[i]),
-        );
-        i += 1;
+    for (i, c) in list.iter().enumerate() {
+        let filled = filled_in(indices, w, *c);
+        put_change(form, part, at + list_bytes(form, i), w, filled);
     }
 }
 
@@ -149,7 +138,7 @@ pub fn write_add(part: &mut [u8], c: Rgb)
 pub fn mark_byte(mark: bool) -> u8
     ensures { result ≡ mark_byte mark }
 {
-    if mark { 1 } else { 0 }
+    u8::from(mark)
 }
 
 // Writes the bytes of two marks from `at` on.

@@ -4,36 +4,26 @@ use mathlib.Core.Bool.{Bool, true, false, not, cond, ◌||◌}
 use mathlib.Core.List.{List, [], ◌∷◌, ◌++◌, flat_map}
 use Prim.Native.Nat.{ℕ, zero, suc, ◌+◌, ◌*◌, ◌-◌, ◌%◌, ◌<◌, ◌≤◌, min}
 use native.Mathlib.Omega.{arith}
-use native.Mathlib.Numerals.{towards_suc}
-use borrow.Author.Tests.{eq-eqb, ne_eqb, eqb-true, eqb-false, ltb-true, ltb-false, lt-ltb, le-ltb, not-false}
-use lib.Dec.{ltb, eqb}
+use borrow.Author.Tests.{eq-eqb, ne_eqb, eqb-true, eqb-false, ltb-false, not-false}
+use lib.Dec.{eqb}
 use lib.IntN.{ℤ}
 use lib.Ieee.{Float}
 use lib.ListN.{length, get_or, take, drop, length-drop, length-take, drop_of_length-le}
-use lib.Seq.{take_all, take-length, drop-cons, drop-drop, get_or-drop}
-use Rattle.base.specs.Checks.{Check, ◌when◌, first_of}
-use Rattle.base.proofs.First.{first_past, first-here, first-append, no_zero}
+use lib.Seq.{take_all, drop-drop, get_or-drop}
+use Rattle.std.proofs.lemmas.List.{take_min}
+use Rattle.base.specs.Checks.{first_of}
+use Rattle.base.proofs.First.{first_past, first-here, no_zero}
 use Rattle.base.proofs.Scan.{or_left, or_right}
-use Rattle.base.specs.Lists.{some, All}
+use Rattle.base.specs.Lists.{some}
 use Rattle.sheet.specs.Sheet.{Sheet, sheet_of}
-use Rattle.sheet.specs.Checks.{sheet_checks, Limits, WellFormed, Judged}
+use Rattle.sheet.specs.Checks.{sheet_checks, WellFormed, Judged}
 use Rattle.sheet.proofs.Judging.{judged-limits, judged-fine, limited-bad}
 use Rattle.layer_shown.specs.Layers.{layers_of}
 use Rattle.layer_shown.specs.Calls.{count_checks, other_size}
 use Rattle.layer_shown.proofs.Afresh.{all-well}
-use Rattle.layer_checks.specs.Judged.{bottom, count_wrong, sizes_differ, Stands, LayersJudged}
+use Rattle.layer_checks.specs.Judged.{bottom, count_wrong, sizes_differ, LayersJudged}
 
 -- ---- the first layer
--- as many as there are, at most n
-pub take_min : {A : Type 0} (n : ℕ) (l : List A) → take (min n (length l)) l ≡ take n l
-take_min n l = go (ltb (length l) n) refl
-  where
-    go : (b : Bool) → ltb (length l) n ≡ b → take (min n (length l)) l ≡ take n l
-    go true e =
-        let less : length l < n = ltb-true (length l) n e in
-        ap (λ (m : ℕ). take m l) {x = min n (length l)} {y = length l} (omega arith) ∙ take-length l ∙ sym (take_all n l (omega arith))
-    go false e = let more : n ≤ length l = ltb-false (length l) n e in ap (λ (m : ℕ). take m l) {x = min n (length l)} {y = n} (omega arith)
-
 -- it is the first, and the others follow
 bottom-first : (sizes palettes : List ℕ) (labs : List Float) (indices : List ℤ) → 3 ≤ length sizes
     → layers_of sizes palettes labs indices
@@ -117,9 +107,6 @@ pub record Rest (sizes palettes : List ℕ) (labs : List Float) (indices : List 
       ≡ first_of (flat_map (sheet_checks []) (layers_of (drop s sizes) (drop p palettes) (drop p labs) (drop at indices)))
 
 module _ (sizes palettes : List ℕ) (labs : List Float) (indices : List ℤ) where
-  pub rest_all : length sizes % 3 ≡ 0 → Rest sizes palettes labs indices 0 0 0
-  rest_all e = record { s-in = omega arith; thirds = omega arith; p-in = omega arith; l-in = omega arith; at_in = omega arith; same = refl }
-
   module _ {s p at : ℕ} (r : Rest sizes palettes labs indices s p at) where
     pub rest-three : s < length sizes → s + 3 ≤ length sizes
     rest-three h = omega (arith, r.thirds, r.s-in)
@@ -158,10 +145,12 @@ module _ (sizes palettes : List ℕ) (labs : List Float) (indices : List ℤ) wh
       pub rest-cells : WellFormed first → get_or sizes s 0 * get_or sizes (s + 1) 0 ≤ 1048576
       rest-cells f = rw area at (rest-long f).cells
 
-      pub rest-next : WellFormed first → Rest sizes palettes labs indices (s + 3) (p + 765) (at + get_or sizes s 0 * get_or sizes (s + 1) 0)
-      rest-next f =
+      pub rest-next : WellFormed first → (s' p' : ℕ) → s' ≡ s + 3 → p' ≡ p + 765
+          → Rest sizes palettes labs indices s' p' (at + get_or sizes s 0 * get_or sizes (s + 1) 0)
+      rest-next f s' p' e q =
           let l = rest-long f in
-          record {
+          rw (e, q)
+          (record {
             s-in = rest-three h;
             thirds = omega (arith, r.thirds, rest-three h);
             p-in = omega (arith, l.colours, length-drop p palettes, r.p-in);
@@ -170,17 +159,9 @@ module _ (sizes palettes : List ℕ) (labs : List Float) (indices : List ℤ) wh
             same =
                 cut ∙ first_past (sheet_checks [] first) (flat_map (sheet_checks []) others) (sym (judged-fine first f).value)
                 ∙ (rw (area, drop-drop 3 s sizes, drop-drop 765 p palettes, drop-drop 765 p labs, drop-drop (get_or sizes s 0 * get_or sizes (s + 1) 0) at indices));
-          }
+          })
 
 -- ---- the count
-pub count-odd : (n : ℕ) → (n % 3 ≡ 0 → ⊥) → true ≡ count_wrong n
-unfolding count_wrong
-count-odd n h = rw (ne_eqb (n % 3) 0 h)
-
-pub count-even : (n : ℕ) (r : Bool) → n % 3 ≡ 0 → r ≡ eqb n 0 || ltb 24 n → r ≡ count_wrong n
-unfolding count_wrong
-count-even n r h e = e ∙ (rw (eq-eqb (n % 3) 0 h))
-
 pub count-thirds : (n : ℕ) → count_wrong n ≡ false → n % 3 ≡ 0
 unfolding count_wrong
 count-thirds n e = eqb-true (n % 3) 0 (not-false _ (or_left (not (eqb (n % 3) 0)) _ e))
@@ -219,43 +200,32 @@ sizes-other w h (v ∷ g ∷ []) X L Y = refl
 sizes-other w h (v ∷ g ∷ k ∷ []) X L Y = refl
 sizes-other w h (v ∷ g ∷ k ∷ m ∷ more) X L Y = ap (λ (b : Bool). (not (eqb v w) || not (eqb g h)) || b) (sizes-other w h (m ∷ more) (drop 765 X) (drop 765 L) (drop (v * g) Y))
 
-three-more : (l : List ℕ) (s : ℕ) → s + 3 ≤ length l → drop s l ≡ get_or l s 0 ∷ get_or l (s + 1) 0 ∷ get_or l (s + 2) 0 ∷ drop (s + 3) l
-three-more l s h = simp towards_suc (rw (drop-cons l s 0 (omega arith), drop-cons l (suc s) 0 (omega arith), drop-cons l (suc (suc s)) 0 (omega arith)))
+-- one layer's sizes, and those of the others
+sizes-cut : (w h : ℕ) (x rest : List ℕ) → length x ≡ 3
+    → sizes_differ w h (x ++ rest) ≡ (not (eqb (get_or x 0 0) w) || not (eqb (get_or x 1 0) h)) || sizes_differ w h rest
+unfolding sizes_differ
+sizes-cut w h [] rest e = absurd (omega arith)
+sizes-cut w h (a ∷ []) rest e = absurd (omega arith)
+sizes-cut w h (a ∷ b ∷ []) rest e = absurd (omega arith)
+sizes-cut w h (a ∷ b ∷ k ∷ []) rest e = refl
+sizes-cut w h (a ∷ b ∷ k ∷ m ∷ more) rest e = absurd (omega arith)
 
--- those that are left
-pub record Sized (w h : ℕ) (sizes : List ℕ) (s : ℕ) : Type 0 where
-  pub s-in : s ≤ length sizes
-  pub thirds : (length sizes - s) % 3 ≡ 0
-  pub same : sizes_differ w h sizes ≡ sizes_differ w h (drop s sizes)
+pub sizes-short : (w h : ℕ) (rest : List ℕ) → length rest < 3 → false ≡ sizes_differ w h rest
+unfolding sizes_differ
+sizes-short w h [] e = refl
+sizes-short w h (a ∷ []) e = refl
+sizes-short w h (a ∷ b ∷ []) e = refl
+sizes-short w h (a ∷ b ∷ k ∷ more) e = absurd (omega arith)
 
-module _ (w h : ℕ) (sizes : List ℕ) where
-  pub sized-all : length sizes % 3 ≡ 0 → Sized w h sizes 0
-  sized-all e = record { s-in = omega arith; thirds = omega arith; same = refl }
+module _ (w h : ℕ) {left : List ℕ} (x rest : List ℕ) (q : left ≡ x ++ rest) (e : length x ≡ 3) where
+  here : sizes_differ w h left ≡ (not (eqb (get_or x 0 0) w) || not (eqb (get_or x 1 0) h)) || sizes_differ w h rest
+  here = ap (sizes_differ w h) q ∙ sizes-cut w h x rest e
 
-  module _ {s : ℕ} (r : Sized w h sizes s) where
-    pub sized-three : s < length sizes → s + 3 ≤ length sizes
-    sized-three h = omega (arith, r.thirds, r.s-in)
+  pub sizes-wide : (get_or x 0 0 ≡ w → ⊥) → true ≡ sizes_differ w h left
+  sizes-wide a = sym (here ∙ rw (ne_eqb (get_or x 0 0) w a))
 
-    here : s < length sizes → sizes_differ w h sizes ≡ (not (eqb (get_or sizes s 0) w) || not (eqb (get_or sizes (s + 1) 0) h)) || sizes_differ w h (drop (s + 3) sizes)
-    unfolding sizes_differ
-    here i =
-        r.same ∙ ap (sizes_differ w h) (three-more sizes s (sized-three i))
+  pub sizes-high : get_or x 0 0 ≡ w → (get_or x 1 0 ≡ h → ⊥) → true ≡ sizes_differ w h left
+  sizes-high a b = sym (here ∙ rw (eq-eqb (get_or x 0 0) w a, ne_eqb (get_or x 1 0) h b))
 
-    pub sized-none : length sizes ≤ s → false ≡ sizes_differ w h sizes
-    unfolding sizes_differ
-    sized-none i = sym (r.same ∙ rw (drop_of_length-le sizes {i = s} i))
-
-    module _ (i : s < length sizes) where
-      pub sized-wide : (get_or sizes s 0 ≡ w → ⊥) → true ≡ sizes_differ w h sizes
-      sized-wide a = sym (here i ∙ rw (ne_eqb (get_or sizes s 0) w a))
-
-      pub sized-high : get_or sizes s 0 ≡ w → (get_or sizes (s + 1) 0 ≡ h → ⊥) → true ≡ sizes_differ w h sizes
-      sized-high a b = sym (here i ∙ rw (eq-eqb (get_or sizes s 0) w a, ne_eqb (get_or sizes (s + 1) 0) h b))
-
-      pub sized-next : get_or sizes s 0 ≡ w → get_or sizes (s + 1) 0 ≡ h → Sized w h sizes (s + 3)
-      sized-next a b =
-          record {
-            s-in = sized-three i;
-            thirds = omega (arith, r.thirds, sized-three i);
-            same = here i ∙ (rw (eq-eqb (get_or sizes s 0) w a, eq-eqb (get_or sizes (s + 1) 0) h b));
-          }
+  pub sizes-next : get_or x 0 0 ≡ w → get_or x 1 0 ≡ h → sizes_differ w h left ≡ sizes_differ w h rest
+  sizes-next a b = here ∙ rw (eq-eqb (get_or x 0 0) w a, eq-eqb (get_or x 1 0) h b)

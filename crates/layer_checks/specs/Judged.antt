@@ -1,5 +1,5 @@
 -- Layers judged, one after the other. Definitions only. Assumes nothing.
-use Rattle.std.specs.Prelude.{◌≡◌, Bool, true, false, not, cond, ◌||◌, ℕ, ◌*◌, ◌%◌, ◌<◌, ◌≤◌, ltb, eqb, ℤ, Float, length, get_or, take}
+use Rattle.std.specs.Prelude.{◌≡◌, Bool, false, not, cond, ◌||◌, ℕ, ◌*◌, ◌%◌, ◌<◌, ◌≤◌, ltb, eqb, ℤ, Float, length, get_or, take}
 use mathlib.Core.List.{List, [], ◌∷◌, ◌++◌, flat_map}
 use Rattle.base.specs.Limits.{storage, max_layers}
 use Rattle.base.specs.Checks.{first_of}

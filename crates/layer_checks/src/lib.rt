@@ -9,7 +9,7 @@ ghost use Rattle.sheet.specs.Checks.{sheet_checks, Judged};
 ghost use Rattle.layer_shown.specs.Layers.{layers_of};
 ghost use Rattle.layer_checks.specs.Judged.{bottom, count_wrong, sizes_differ, LayersJudged};
 
-use base::{BAD_SHEET, LAYERS_DIFFER, MAX_LAYERS, MAX_SIDE, STORAGE, either, min_usize};
+use base::{BAD_SHEET, LAYERS_DIFFER, MAX_LAYERS, MAX_SIDE, STORAGE, either};
 use sheet::check;
 
 // The number of the first of checks 1 to 3 that applies to the first of some layers, or 0. The last layer has all that is
@@ -30,9 +30,9 @@ fn first_no(sizes: &[usize], palettes: &[u8], labs: &[f64], indices: &[i16]) -> 
     if MAX_SIDE < h {
         return BAD_SHEET;
     }
-    let p = min_usize(STORAGE, palettes.len());
-    let l = min_usize(STORAGE, labs.len());
-    let n = min_usize(w * h, indices.len());
+    let p = STORAGE.min(palettes.len());
+    let l = STORAGE.min(labs.len());
+    let n = (w * h).min(indices.len());
     check(w, h, k, &palettes[..p], &labs[..l], &indices[..n])
 }
 
@@ -42,22 +42,21 @@ fn layers_no(sizes: &[usize], palettes: &[u8], labs: &[f64], indices: &[i16]) ->
     ensures { let layers = layers_of sizes.now palettes.now labs.now indices.now in
         result ≡ first_of (flat_map (sheet_checks []) layers) }
 {
-    let mut s: usize = 0;
-    let mut p: usize = 0;
-    let mut at: usize = 0;
-    while s < sizes.len() {
+    let mut at = 0;
+    for i in 0..sizes.len() / 3 {
+        let s = 3 * i;
+        let p = STORAGE * i;
         let no = first_no(&sizes[s..], &palettes[p..], &labs[p..], &indices[at..]);
         if no != 0 {
             return no;
         }
         at += sizes[s] * sizes[s + 1];
-        p += STORAGE;
-        s += 3;
     }
     0
 }
 
 // Whether so many sizes are not those of 1 to 8 layers, three a layer.
+#[tactic(auto, unfolding(crate::specs::Judged::count_wrong))]
 fn bad_count(n: usize) -> bool
     ensures { result ≡ count_wrong n }
 {
@@ -82,15 +81,10 @@ pub fn sizes_differ(w: usize, h: usize, sizes: &[usize]) -> bool
     requires { length sizes.now % 3 ≡ 0 }
     ensures { result ≡ sizes_differ w h sizes.now }
 {
-    let mut s: usize = 0;
-    while s < sizes.len() {
-        if sizes[s] != w {
+    for size in sizes.chunks_exact(3) {
+        if size[0] != w || size[1] != h {
             return true;
         }
-        if sizes[s + 1] != h {
-            return true;
-        }
-        s += 3;
     }
     false
 }

@@ -1,26 +1,26 @@
 -- What is done at a place is what the definition says. Assumes nothing.
-use mathlib.Core.Path.{◌≡◌, refl, sym, ap, ◌∙◌}
+use mathlib.Core.Path.{◌≡◌, sym, ap, ◌∙◌}
 use mathlib.Core.Bool.{Bool, true, false, not, cond}
-use mathlib.Core.List.{List, [], ◌∷◌, flat_map}
-use Prim.Native.Nat.{ℕ, ◌+◌, ◌*◌, ◌-◌, ◌<◌, ◌≤◌}
+use mathlib.Core.List.{List, flat_map}
+use Prim.Native.Nat.{ℕ, ◌*◌, ◌<◌, ◌≤◌}
 use native.Mathlib.Omega.{arith}
 use borrow.Author.Tests.{eq-eqb}
 use lib.Dec.{eqb}
 use lib.IntN.{ℤ, pos, negsuc}
 use lib.ListN.{length, get_or, take, drop, length-drop}
 use lib.Seq.{length-take-le}
-use Rattle.base.specs.Lists.{some, range, over}
+use Rattle.base.specs.Lists.{range, over}
 use Rattle.sheet.specs.Sheet.{stray}
 use Rattle.sheet_diff.specs.Mask.{shown, same_bytes}
 use Rattle.sheet_diff.specs.Tables.{slot_of, Shades}
 use Rattle.sheet_diff.proofs.Shades.{shades-equal}
 use Rattle.sheet_diff.proofs.Slots.{slot_small}
 use Rattle.layer_shown.specs.Layers.{pixel_in}
-use Rattle.layer_shown.specs.Stack.{shown_in, pixel_up_to}
+use Rattle.layer_shown.specs.Stack.{pixel_up_to}
 use Rattle.layer_shown.proofs.Pixels.{in_list, index-known, flat-same}
 use Rattle.layer_shown.proofs.Stack.{part-shown}
-use Rattle.layer_repaint.specs.Places.{View, view_of, Viewed, SameTable, Stepped, other_at, place_of, stack_place}
-use Rattle.layer_repaint.proofs.Same.{same_place}
+use Rattle.layer_repaint.specs.Places.{View, view_of, Viewed, other_at, place_of, stack_place}
+use Rattle.layer_repaint.proofs.Same.{SameTable}
 
 module _ (pixel : ℕ → List ℕ) (n : ℕ) (before now : View) (bv : Viewed n before) (nv : Viewed n now) where
   -- a pixel has four bytes

@@ -1,5 +1,5 @@
 -- The places of a layer that are repainted. Definitions only. Assumes nothing.
-use Rattle.std.specs.Prelude.{◌≡◌, Bool, true, false, not, cond, List, ℕ, ◌-◌, ◌<◌, ◌≤◌, ℤ, negsuc, length, get_or, take, drop}
+use Rattle.std.specs.Prelude.{◌≡◌, Bool, false, not, cond, List, ℕ, ℤ, negsuc, length, get_or}
 use Rattle.base.specs.Lists.{some}
 use Rattle.sheet.specs.Sheet.{stray}
 use Rattle.sheet_diff.specs.Mask.{shown, same_bytes}
@@ -28,16 +28,6 @@ other_at before now p =
 -- the pixel of all layers there, or what the buffer has
 unfoldable pub place_of : (ℕ → List ℕ) → View → View → List ℕ → ℕ → List ℕ
 place_of pixel before now out p = cond (other_at before now p) (pixel p) (pixel_in out p)
-
--- two tables of 256 with the same numbers
-abbrev pub SameTable : List ℕ → List ℕ → Type 0
-SameTable t u = (j : ℕ) → j < 256 → get_or t j 0 ≡ get_or u j 0
-
--- a step over places from p on that have the same index in both, where both palettes show the same
-pub record Stepped (same : Bool) (before now : List ℤ) (p q : ℕ) : Type 0 where
-  pub forward : p ≤ q
-  pub inside : q ≤ length before
-  pub alike : p < q → (same ≡ true) × (take (q - p) (drop p before) ≡ take (q - p) (drop p now))
 
 -- the same of layer `edited` of so many, of n places each
 unfoldable pub stack_place : ℕ → ℕ → List ℕ → List ℤ → ℕ → View → List ℕ → ℕ → List ℕ

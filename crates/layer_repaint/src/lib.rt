@@ -4,7 +4,6 @@
 // same index are passed by, 64 at a time, by a comparison that is compiled to vector code.
 #![tactic(auto)]
 
-mod alike;
 mod places;
 
 pub use places::repaint_changed;

@@ -5,10 +5,12 @@ ghost use Rattle.base.specs.Lists.{range, over};
 ghost use Rattle.layer_shown.specs.Stack.{pixel_up_to, Stacked};
 ghost use Rattle.layer_repaint.specs.Places.{view_of, Viewed, place_of, stack_place};
 
-use crate::alike::{same_table, step};
 use base::STORAGE;
 use layer_top::put_place;
 use sheet_diff::{fill_shades, shade_of};
+
+// Places that are compared at once.
+const BLOCK: usize = 64;
 
 // Repaints the places where a layer that was `before` through `palette` is `after` through `after_palette`. What else out
 // has keeps.
@@ -36,18 +38,17 @@ fn repaint_places(
     fill_shades(palette, &mut shades);
     let mut after_shades: [u32; 256] = [0; 256];
     fill_shades(after_palette, &mut after_shades);
-    let alike = same_table(&shades, &after_shades);
+    let alike = shades == after_shades;
     let n = before.len();
-    let mut p: usize = 0;
-    while p < n {
-        let q = step(alike, before, after, p);
-        if p < q {
-            p = q;
-        } else {
+    for start in (0..n).step_by(BLOCK) {
+        let end = (start + BLOCK).min(n);
+        if alike && before[start..end] == after[start..end] {
+            continue;
+        }
+        for p in start..end {
             let x = shade_of(&shades, before[p]);
             let y = shade_of(&after_shades, after[p]);
             put_place(x, y, n, count, palettes, indices, p, out);
-            p += 1;
         }
     }
 }

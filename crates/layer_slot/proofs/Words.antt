@@ -1,15 +1,14 @@
 -- The words of slots are the pixels of the layers. Assumes nothing.
 use mathlib.Core.Path.{◌≡◌, refl, sym, ap, ◌∙◌}
 use mathlib.Core.Bool.{Bool, true, false}
-use mathlib.Core.List.{List, [], ◌∷◌, ◌++◌, flat_map}
+use mathlib.Core.List.{List, ◌++◌, flat_map}
 use Prim.Native.Nat.{ℕ, zero, suc, ◌+◌, ◌*◌, ◌-◌, ◌/◌, ◌<◌, ◌≤◌}
 use native.Mathlib.Omega.{arith}
 use borrow.Author.Tests.{leb-false}
 use borrow.Rule.Slice.PartMut.{put_mid}
 use lib.IntN.{ℤ, pos, negsuc, nat_abs}
 use lib.Signed.{lt_z}
-use lib.ListN.{length, get_or, take, drop, replicate, length-replicate, get_or-replicate, length-drop}
-use lib.Seq.{length-take-le}
+use lib.ListN.{length, get_or, take, drop, replicate, length-replicate, get_or-replicate}
 use Rattle.base.specs.Lists.{some, range, over}
 use Rattle.base.proofs.Over.{length_over, over-lent}
 use Rattle.base.proofs.Collect.{range-append, flat_map-append}
@@ -88,10 +87,6 @@ flat-shift f g a b (suc m) h =
     let rest : flat_map g (range (suc a) m) ≡ flat_map f (range (suc b) m) =
     flat-shift f g (suc a) (suc b) m (λ j k. ap g {x = suc a + j} {y = a + suc j} (omega arith) ∙ h (suc j) (omega arith) ∙ ap f {x = b + suc j} {y = suc b + j} (omega arith)) in
     rw (here, rest)
-
--- what is lent of a buffer from a on
-pub part-rest : (a : ℕ) (l : List ℕ) → length (take (length l - a) (drop a l)) ≡ length l - a
-part-rest a l = length-take-le (length l - a) (drop a l) (simp length-drop (omega arith))
 
 pub painted-run : (f g : ℕ → List ℕ) (n : ℕ) (out₀ : List ℕ) → ((p : ℕ) → p < n → length (f p) ≡ 4) → 4 * n ≤ length out₀ → {out : List ℕ} {at : ℕ} (m : ℕ)
     → Painted f out₀ out at → at + m ≤ n → (part : List ℕ) → part ≡ over (flat_map g (range 0 m)) (take (length out - 4 * at) (drop (4 * at) out))

@@ -11,7 +11,7 @@ ghost use Rattle.sheet.specs.Sheet.{stray};
 ghost use Rattle.layer_shown.specs.Stack.{pixel_up_to, Stacked};
 ghost use Rattle.layer_slot.specs.Slots.{slot_over, SlotsOver, Slotted, Table, word_at, place_word};
 
-use base::{min_usize, rgb_at};
+use base::rgb_at;
 use journal_bytes::put_u32;
 use layer_word::{CLEAR, word};
 
@@ -25,26 +25,18 @@ fn fill_table(palettes: &[u8], table: &mut [u32; 2041])
 {
     let n = palettes.len() / 3;
     table[0] = CLEAR;
-    let mut i: usize = 0;
-    while i < n {
+    for i in 0..n {
         table[i + 1] = word(rgb_at(palettes, i));
-        i += 1;
     }
 }
 
 // The slot of an index over the one below.
+#[tactic(auto, unfolding(crate::specs::Slots::slot_over, sheet::specs::Sheet::stray))]
 fn slot(z: i16, low: u16, below: u16) -> u16
     requires { (stray 255 z ≡ false) × (low ≤ 1786) }
     ensures { result ≡ slot_over z low below }
 {
     if z < 0 { below } else { z as u16 + low }
-}
-
-// A slot as a place of the table.
-fn wide(slot: u16) -> usize
-    ensures { result ≡ slot }
-{
-    slot as usize
 }
 
 // Lays a layer's places over the slots.
@@ -53,10 +45,8 @@ fn slot_layer(low: u16, indices: &[i16], slots: &mut [u16; 1024])
         × (length slots.old ≡ 1024) }
     ensures { SlotsOver low indices.now slots.old slots.new }
 {
-    let mut j: usize = 0;
-    while j < indices.len() {
-        slots[j] = slot(indices[j], low, slots[j]);
-        j += 1;
+    for (j, z) in indices.iter().enumerate() {
+        slots[j] = slot(*z, low, slots[j]);
     }
 }
 
@@ -73,12 +63,10 @@ fn slot_places(
         × (m ≤ 1024) × (at + m ≤ n) × Slotted n indices.now 0 at m slots.old }
     ensures { Slotted n indices.now count at m slots.new }
 {
-    let mut i: usize = 0;
-    while i < count {
+    for i in 0..count {
         let a = n * i + at;
         let e = a + m;
         slot_layer((255 * i + 1) as u16, &indices[a..e], slots);
-        i += 1;
     }
 }
 
@@ -89,11 +77,8 @@ fn put_words(table: &[u32; 2041], slots: &[u16; 1024], m: usize, out: &mut [u8])
         × ((j : ℕ) → j < m → get_or slots j 0 < 2041) }
     ensures { out.new ≡ over (flat_map (word_at table.now slots.now) (range 0 m)) out.old }
 {
-    let mut j: usize = 0;
-    while j < m {
-        let at = wide(slots[j]);
-        put_u32(out, 4 * j, table[at]);
-        j += 1;
+    for (j, slot) in slots[..m].iter().enumerate() {
+        put_u32(out, 4 * j, table[*slot as usize]);
     }
 }
 
@@ -125,11 +110,9 @@ pub fn lay_all(n: usize, count: usize, palettes: &[u8], indices: &[i16], out: &m
 {
     let mut table: [u32; 2041] = [0; 2041];
     fill_table(palettes, &mut table);
-    let mut at: usize = 0;
-    while at < n {
-        let m = min_usize(BLOCK, n - at);
+    for at in (0..n).step_by(BLOCK) {
+        let m = BLOCK.min(n - at);
         let a = 4 * at;
         lay_places(n, count, indices, &table, at, m, &mut out[a..]);
-        at += m;
     }
 }

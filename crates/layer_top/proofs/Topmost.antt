@@ -1,7 +1,7 @@
 -- Layers looked at from the top down. Assumes nothing.
 use mathlib.Core.Path.{◌≡◌, refl, sym, ap, ◌∙◌}
-use mathlib.Core.Bool.{Bool, true, false}
-use mathlib.Core.List.{List, [], ◌∷◌, ◌++◌}
+use mathlib.Core.Bool.{true, false}
+use mathlib.Core.List.{List, [], ◌∷◌}
 use Prim.Native.Nat.{ℕ, zero, suc, ◌+◌, ◌*◌, ◌-◌, ◌<◌, ◌≤◌}
 use native.Mathlib.Omega.{arith}
 use borrow.Author.Tests.{leb-false, ltb-true, le-ltb}
@@ -17,7 +17,7 @@ use Rattle.sheet_diff.specs.Mask.{shown}
 use Rattle.journal_record.specs.Bytes.{le}
 use Rattle.journal_record.proofs.LittleEndian.{drop-take}
 use Rattle.layer_shown.specs.Layers.{laid_over, topmost}
-use Rattle.layer_shown.specs.Stack.{shown_in, pixel_up_to, Stacked}
+use Rattle.layer_shown.specs.Stack.{shown_in, pixel_up_to}
 use Rattle.layer_shown.proofs.Pixels.{unseen, in_list}
 use Rattle.layer_top.specs.Entry.{entry_bytes}
 

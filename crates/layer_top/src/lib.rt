@@ -15,6 +15,7 @@ use journal_bytes::put_u32;
 use layer_word::{CLEAR, word};
 
 // The word of entry z of layer i: 255 entries a layer.
+#[tactic(auto, unfolding(sheet::specs::Sheet::stray))]
 fn entry_word(palettes: &[u8], i: usize, z: i16) -> u32
     requires { (765 * i + 765 ≤ length palettes.now) × (stray 255 z ≡ false) × (lt_z z (pos 0) ≡ false) }
     ensures { le 4 result ≡ entry_bytes palettes.now i z }
@@ -27,9 +28,7 @@ fn top_word(n: usize, count: usize, palettes: &[u8], indices: &[i16], p: usize) 
     requires { Stacked n count palettes.now indices.now × (p < n) }
     ensures { le 4 result ≡ pixel_up_to n palettes.now indices.now count p }
 {
-    let mut i = count;
-    while 0 < i {
-        i -= 1;
+    for i in (0..count).rev() {
         let z = indices[n * i + p];
         if z >= 0 {
             return entry_word(palettes, i, z);

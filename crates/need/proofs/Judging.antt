@@ -1,9 +1,8 @@
 -- What the play came to is what `journal_need` answers, and a working sheet that is a copy is played as the opening one. Assumes nothing.
-use mathlib.Core.Path.{◌≡◌, sym, subst}
+use mathlib.Core.Path.{◌≡◌, subst}
 use mathlib.Core.Bool.{Bool, true, false}
 use mathlib.Core.List.{List}
 use Prim.Native.Nat.{ℕ}
-use native.Mathlib.Omega.{arith}
 use lib.IntN.{ℤ}
 use lib.Ieee.{Float}
 use Rattle.base.specs.Answer.Told.{result, alone}
@@ -11,9 +10,9 @@ use Rattle.base.specs.declared.Form.{Form}
 use Rattle.sheet_lent.specs.Lent.{Lent}
 use Rattle.history_model.specs.Document.{Document, Shown, document_of}
 use Rattle.need_model.specs.Need.{needed, need_call}
-use Rattle.need_model.specs.Judged.{NeedFits, NeedJudged}
+use Rattle.need_model.specs.Judged.{NeedJudged}
 use Rattle.need_model.proofs.Judging.{need-short, need-met}
-use Rattle.need_play.specs.Session.{Counted, Playable}
+use Rattle.need_play.specs.Session.{Counted}
 
 module _ (d : Document) (text : List ℕ) (x : Lent) (journal list scratch : ℕ) (f : Form) (j : NeedJudged d text x journal list scratch 0) {full : Bool} {n : ℕ} {p : Shown}
     (c : Counted f d text journal full n p) where
@@ -27,11 +26,6 @@ module _ (d : Document) (text : List ℕ) (x : Lent) (journal list scratch : ℕ
 module _ {w h k : ℕ} {p p' : List ℕ} {l l' : List Float} {i i' : List ℤ} {m m' : List Bool} (same : (p' ≡ p) × (l' ≡ l) × (i' ≡ i) × (m' ≡ m)) where
   abbrev whole : document_of w h k p' l' i' m' ≡ document_of w h k p l i m
   whole = λ z. document_of w h k (same.0 z) (same.1 z) (same.2 z) (same.3 z)
-
-  pub playable : {x : Lent} {journal list scratch : ℕ} → NeedFits (document_of w h k p l i m) x journal list scratch → Playable (document_of w h k p' l' i' m') journal list scratch
-  playable {x} {journal} {list} {scratch} n =
-      subst (λ (d : Document). Playable d journal list scratch) (sym whole)
-      (record { fine = n.fine; permitted = n.permitted; listed = omega (arith, n.sheet.formed.limits.indices-length, n.listed); roomy = n.roomy })
 
   pub copied : {f : Form} {text : List ℕ} {journal : ℕ} {full : Bool} {need : ℕ} {picture : Shown}
       → Counted f (document_of w h k p' l' i' m') text journal full need picture → Counted f (document_of w h k p l i m) text journal full need picture

@@ -2,7 +2,6 @@
 #![tactic(auto)]
 
 mod checks;
-mod copying;
 mod needing;
 
 pub use needing::journal_need;

@@ -6,7 +6,6 @@ ghost use Rattle.need_model.specs.Need.{need_call};
 ghost use Rattle.need_model.specs.Judged.{need_told};
 
 use crate::checks::need_no;
-use crate::copying::copy_sheet;
 use base::{Form, JOURNAL_FULL, Need};
 use need_play::play_all;
 
@@ -69,16 +68,10 @@ pub fn journal_need(
     if no != 0 {
         return Need::Refused(no);
     }
-    copy_sheet(
-        palette,
-        lab,
-        indices,
-        locks,
-        work_palette,
-        work_lab,
-        work_indices,
-        work_locks,
-    );
+    work_palette.copy_from_slice(palette);
+    work_lab.copy_from_slice(lab);
+    work_indices.copy_from_slice(indices);
+    work_locks.copy_from_slice(locks);
     let p = play_all(
         w,
         h,

@@ -9,19 +9,20 @@ ghost use Rattle.need_lines.specs.Cut.{line_length};
 
 use panel_frames::{Frame, decode};
 
+// How many bytes stand before the first newline, all where there is none.
+fn line_length(text: &[u8]) -> usize
+    ensures value { result ≡ line_length text.now }
+    ensures short { result ≤ length text.now }
+{
+    text.iter().position(|b| *b == b'\n').unwrap_or(text.len())
+}
+
 // Where the line that starts at a place ends: at its newline, or where the text does.
 pub fn line_end(text: &[u8], at: usize) -> usize
     requires { at ≤ length text.now }
     ensures { (result ≡ at + line_length (drop at text.now)) × (result ≤ length text.now) × (at ≤ result) }
 {
-    let mut i = at;
-    while i < text.len() {
-        if text[i] == 10 {
-            return i;
-        }
-        i += 1;
-    }
-    i
+    at + line_length(&text[at..])
 }
 
 // Where the line after one that ends at a place starts, or where the text ends.
@@ -30,10 +31,7 @@ pub fn next_line(text: &[u8], end: usize) -> usize
     ensures { let all = text.now in
         (drop result all ≡ drop (end + 1) all) × (result ≡ min (end + 1) (length all)) }
 {
-    if end < text.len() {
-        return end + 1;
-    }
-    end
+    (end + 1).min(text.len())
 }
 
 // An opening, or malformed.
@@ -65,7 +63,7 @@ fn is_unread(line: &[u8]) -> bool
 pub fn any_unread(text: &[u8]) -> bool
     ensures { result ≡ some unread (lines_of text.now) }
 {
-    let mut at: usize = 0;
+    let mut at = 0;
     while at < text.len() {
         let end = line_end(text, at);
         if is_unread(&text[at..end]) {

@@ -3,7 +3,7 @@
 use mathlib.Core.Path.{◌≡◌, refl, sym, ap, ◌∙◌}
 use mathlib.Core.Bool.{Bool, true, false, ◌||◌}
 use mathlib.Core.List.{List, [], ◌∷◌}
-use mathlib.Core.Option.{Option, none, some}
+use mathlib.Core.Option.{Option, some}
 use Prim.Native.Nat.{ℕ, zero, suc}
 use native.Mathlib.Omega.{arith}
 use lib.Dec.{leb, eqb}
@@ -12,7 +12,6 @@ use lib.Seq.{take_all}
 use Rattle.base.specs.Checks.{first_of, refused_or}
 use Rattle.base.specs.Answer.Told.{alone}
 use Rattle.base.specs.declared.Form.{Form}
-use Rattle.base.specs.declared.Edit.TheVariants as edit
 use Rattle.color_curve.specs.Curve.{srgb}
 use Rattle.sheet.specs.Sheet.{view}
 use Rattle.edit.specs.Locks.{lock_at}

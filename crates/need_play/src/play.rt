@@ -6,7 +6,7 @@ ghost use Rattle.history_model.specs.Document.{shown, document_of};
 ghost use Rattle.need_play.specs.Session.{Counted, Playable};
 
 use crate::line::play_line;
-use base::{Answer, Form, JOURNAL_FULL, max_usize};
+use base::{Answer, Form, JOURNAL_FULL};
 use history_handle::fresh;
 use need_lines::{line_end, next_line};
 
@@ -53,7 +53,7 @@ pub fn play_all(
         document_of w h result.k palette.new lab.new indices.new locks.new in
         Counted form document text.now (length journal.old) result.full result.need (shown after) }
 {
-    let mut at: usize = 0;
+    let mut at = 0;
     let mut count = k;
     let mut handle = fresh();
     let mut need: usize = 0;
@@ -74,8 +74,7 @@ pub fn play_all(
             list,
             scratch,
         );
-        let answer = m.answer;
-        if is_full(answer) {
+        if is_full(m.answer) {
             return Played {
                 full: true,
                 k: count,
@@ -83,10 +82,8 @@ pub fn play_all(
             };
         }
         count = m.k;
-        let next = m.handle;
-        handle = next;
-        let reached = next.end;
-        need = max_usize(need, reached);
+        handle = m.handle;
+        need = need.max(handle.end);
         at = next_line(text, end);
     }
     Played {

@@ -78,11 +78,7 @@ fn used_mark(entries: &[u8], colours: &[u8], i: usize) -> u8
     requires { 3 * i + 3 ≤ length colours.now }
     ensures { result ≡ mark (listed entries.now (rgb_at colours.now i)) }
 {
-    if is_listed(entries, rgb_at(colours, i)) {
-        1
-    } else {
-        0
-    }
+    u8::from(is_listed(entries, rgb_at(colours, i)))
 }
 
 // Marks each of n colours that is among the entries. What the buffer has past them keeps.
@@ -90,11 +86,8 @@ fn mark_used(entries: &[u8], colours: &[u8], n: usize, used: &mut [u8])
     requires { (3 * n ≤ length colours.now) × (n ≤ length used.old) }
     ensures { used.new ≡ over (used_of entries.now colours.now n) used.old }
 {
-    let mut i: usize = 0;
-    while i < n {
-        let m = used_mark(entries, colours, i);
-        used[i] = m;
-        i += 1;
+    for i in 0..n {
+        used[i] = used_mark(entries, colours, i);
     }
 }
 

@@ -78,19 +78,16 @@ pub fn nearest_but(lab: &[f64], k: usize, index: usize) -> Near
     let end = 3 * k;
     let before = nearest_in(target, &lab[..at], index);
     let behind = nearest_in(target, &lab[after..end], k - 1 - index);
-    let place = index + behind.entry;
     let later = Near {
-        entry: place,
-        distance: behind.distance,
+        entry: index + behind.entry,
+        ..behind
     };
     let near = nearer(before, later);
-    let j = near.entry;
-    if j < index {
+    if near.entry < index {
         return near;
     }
-    let entry = j + 1;
     Near {
-        entry,
-        distance: near.distance,
+        entry: near.entry + 1,
+        ..near
     }
 }

@@ -31,14 +31,12 @@ fn list_rows(w: usize, h: usize, indices: &[i16], index: usize, target: usize, l
 {
     let from = as_index(index);
     let to = as_index(target);
-    let mut n: usize = 0;
-    let mut y: usize = 0;
-    while y < h {
+    let mut n = 0;
+    for y in 0..h {
         let at = y * w;
         let end = at + w;
         let first = change_of(0, y, from, to);
         n += list_row(&indices[at..end], from, first, &mut list[n..]);
-        y += 1;
     }
 }
 
@@ -72,6 +70,7 @@ fn remove_to(
 }
 
 // A removal, with the entry that its pixels move to and that entry's distance.
+#[tactic(auto, unfolding(palette_model::specs::Removal::with_target))]
 fn with_target(made: Removal, into: usize, distance: f64) -> Removed
     ensures { removed_told result ≡ with_target (entry_at into distance) (removal_told made) }
 {

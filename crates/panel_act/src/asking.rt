@@ -26,6 +26,7 @@ fn set_edit(index: usize, rgb: Rgb) -> Edit
 }
 
 // A merge's edit, or the number that refuses it.
+#[tactic(auto, unfolding(panel_model::specs::Asks::asked_by))]
 fn asked_by(made: Removal) -> Asked
     ensures { result ≡ asked_by made }
 {

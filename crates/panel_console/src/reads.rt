@@ -12,12 +12,9 @@ use crate::{Got, Session};
 use panel_chunk::answer_chunk;
 use panel_ends::{answer_held, begin};
 use panel_input::{GATHERED, HELD, Turn};
-use panel_streams::{count, goes_on, is_sound, send};
+use panel_streams::{CHUNK, count, goes_on, is_sound, send};
 use std::io::{Read, Write};
 use std::num::wrapping_add_u64;
-
-// Bytes that a read asks for.
-const CHUNK: usize = 4_096;
 
 // Reads once, and answers what came, which stands at the front of `chunk` then. A read that failed for the moment only is
 // made again.
@@ -134,7 +131,7 @@ fn answer_reads<R: Read, W: Write>(
     let mut heard = 0;
     let mut said = 0;
     let mut last = 0;
-    while reads < u64::MAX {
+    for _ in 0..u64::MAX {
         let g = answer_some(
             s, palette, lab, indices, locks, journal, line, chunk, bytes, list, out, input, output,
         );

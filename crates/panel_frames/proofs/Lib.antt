@@ -1,4 +1,3 @@
-pub mod Filling
 pub mod Changes
 pub mod Sizes
 pub mod Lines

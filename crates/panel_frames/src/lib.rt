@@ -9,12 +9,18 @@ mod line;
 mod reading;
 
 use base::Rgb;
-pub use carry::{take_bytes, take_changes, take_indices};
+pub use carry::{take_changes, take_indices};
 pub use line::{put_line, put_newline, put_number};
 pub use reading::decode;
 
 // Digits of the longest line that is read: 8,192 bytes.
 pub const MAX_DIGITS: usize = 16_384;
+
+// Digits of a line that are held: one more than are read, so that a longer line is known, however long.
+pub const HELD: usize = MAX_DIGITS + 1;
+
+// Bytes of the longest line that is read.
+pub const MAX_BYTES: usize = MAX_DIGITS / 2;
 
 // Sides of the sheets that an opening line holds.
 pub const MAX_OPEN: usize = 64;

@@ -1,17 +1,10 @@
 // The lines that are printed.
 ghost use Rattle.std.specs.Prelude.{◌≡◌, ◌∷◌, [], ◌+◌, ◌*◌, ◌≤◌, length};
-ghost use Rattle.sheet.specs.Document.{mark};
 ghost use Rattle.journal_record.specs.Bytes.{splice};
 ghost use Rattle.panel_hex.specs.Hex.{hex_of};
 ghost use Rattle.panel_frames.specs.Writing.{head_of, line_of, number_line};
 
 use panel_hex::{put_byte, put_bytes, put_indices};
-
-fn mark_of(b: bool) -> u8
-    ensures { result ≡ mark b }
-{
-    if b { 1 } else { 0 }
-}
 
 pub fn put_newline(out: &mut [u8], at: usize)
     requires { at + 1 ≤ length out.old }
@@ -21,13 +14,14 @@ pub fn put_newline(out: &mut [u8], at: usize)
 }
 
 // Answer, position (2), dirty, k.
+#[tactic(auto, unfolding(crate::specs::Writing::head_of, journal_record::specs::Bytes::le))]
 fn put_head(out: &mut [u8], at: usize, answer: u8, position: usize, dirty: bool, k: usize)
     requires { at + 10 ≤ length out.old }
     ensures { out.new ≡ splice out.old at (hex_of (head_of answer position dirty k)) }
 {
     let low = (position % 256) as u8;
     let high = (position / 256 % 256) as u8;
-    let dirt = mark_of(dirty);
+    let dirt = u8::from(dirty);
     let entries = (k % 256) as u8;
     let head = [answer, low, high, dirt, entries];
     put_bytes(out, at, &head);

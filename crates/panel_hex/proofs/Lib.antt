@@ -1,4 +1,3 @@
 mod Hexes
 pub mod Digits
-mod Indices
 pub mod Trips

@@ -1,85 +1,52 @@
 // Hexadecimal digits, in ASCII: read in either case, written in upper case.
 #![tactic(auto)]
 
-ghost use Rattle.std.specs.Prelude.{◌≡◌, map, ◌+◌, ◌*◌, ◌≤◌, ◌<◌, length};
+ghost use Rattle.std.specs.Prelude.{◌≡◌, map, ◌+◌, ◌*◌, ◌≤◌, ◌<◌, length, ltb};
+ghost use Rattle.std.specs.Bool.{then_some};
 ghost use Rattle.journal_record.specs.Bytes.{splice};
 ghost use Rattle.panel_hex.specs.Hex.{hex_val, pair_val, upper_digit, hex_byte, unhex_of, hex_of, byte_of};
 ghost use Rattle.panel_hex.specs.Spelt.{spelt, Within};
 
-// How many bytes the digits of a line spell.
-#[derive(Clone, Copy)]
-pub enum Spelt {
-    Bytes(usize),
-    Bad,
-}
-
-// The value of a digit, 16 where it is none.
-fn digit(c: u8) -> u8
-    ensures { result ≡ hex_val c }
+// The value of a digit, none where it is no digit.
+#[tactic(auto, unfolding(crate::specs::Hex::hex_val))]
+fn digit(c: u8) -> Option<u8>
+    ensures { result ≡ then_some (ltb (hex_val c) 16) (hex_val c) }
 {
-    if c < 48 {
-        return 16;
+    match c {
+        b'0'..=b'9' => Some(c - b'0'),
+        b'A'..=b'F' => Some(c - b'A' + 10),
+        b'a'..=b'f' => Some(c - b'a' + 10),
+        _ => None,
     }
-    if c < 58 {
-        return c - 48;
-    }
-    if c < 65 {
-        return 16;
-    }
-    if c < 71 {
-        return c - 55;
-    }
-    if c < 97 {
-        return 16;
-    }
-    if c < 103 {
-        return c - 87;
-    }
-    16
 }
 
-fn wide(x: u8) -> u16
-    ensures { result ≡ x }
+// The byte that two digits spell, none where one is no digit.
+#[tactic(auto, unfolding(crate::specs::Hex::pair_val))]
+fn pair(a: u8, b: u8) -> Option<u8>
+    ensures { result ≡ then_some (ltb (pair_val a b) 256) (pair_val a b) }
 {
-    x as u16
+    let high = digit(a)?;
+    let low = digit(b)?;
+    Some(16 * high + low)
 }
 
-// The byte that two digits spell, 256 where one is none.
-fn pair(a: u8, b: u8) -> u16
-    ensures { result ≡ pair_val a b }
-{
-    let high = wide(digit(a));
-    let low = wide(digit(b));
-    if high < 16 {
-        if low < 16 {
-            return 16 * high + low;
-        }
-    }
-    256
-}
-
-// The bytes that the line's digits spell go to the front of `out`. Of a bad line some may.
-pub fn unhex(line: &[u8], out: &mut [u8]) -> Spelt
+// The bytes that the line's digits spell go to the front of `out`: how many. Of a bad line some may go there.
+#[tactic(auto, unfolding(crate::specs::Spelt::Within))]
+pub fn unhex(line: &[u8], out: &mut [u8]) -> Option<usize>
     requires { length line.now ≤ 2 * length out.old + 1 }
     ensures out_after { spelt result out.new ≡ unhex_of line.now }
     ensures within { Within result out.new }
 {
-    let pairs = line.len() / 2;
-    let mut n = 0;
-    while n < pairs {
-        let v = pair(line[2 * n], line[2 * n + 1]);
-        if 256 <= v {
-            return Spelt::Bad;
-        }
-        out[n] = v as u8;
-        n += 1;
+    if line.len() % 2 != 0 {
+        return None;
     }
-    if 2 * n < line.len() {
-        return Spelt::Bad;
+    for (n, digits) in line.chunks_exact(2).enumerate() {
+        out[n] = pair(digits[0], digits[1])?;
     }
-    Spelt::Bytes(n)
+    Some(line.len() / 2)
 }
 
+#[tactic(auto, unfolding(crate::specs::Hex::upper_digit))]
 fn upper(d: u8) -> u8
     requires { d < 16 }
     ensures { result ≡ upper_digit d }
@@ -103,14 +70,13 @@ pub fn put_bytes(out: &mut [u8], at: usize, bytes: &[u8])
     requires { at + 2 * length bytes.now ≤ length out.old }
     ensures { out.new ≡ splice out.old at (hex_of bytes.now) }
 {
-    let mut i = 0;
-    while i < bytes.len() {
-        put_byte(out, at + 2 * i, bytes[i]);
-        i += 1;
+    for (i, b) in bytes.iter().enumerate() {
+        put_byte(out, at + 2 * i, *b);
     }
 }
 
 // An index as a byte.
+#[tactic(auto, unfolding(crate::specs::Hex::byte_of))]
 fn index_byte(z: i16) -> u8
     ensures { result ≡ byte_of z }
 {
@@ -125,9 +91,7 @@ pub fn put_indices(out: &mut [u8], at: usize, indices: &[i16])
     requires { at + 2 * length indices.now ≤ length out.old }
     ensures { out.new ≡ splice out.old at (hex_of (map byte_of indices.now)) }
 {
-    let mut i = 0;
-    while i < indices.len() {
-        put_byte(out, at + 2 * i, index_byte(indices[i]));
-        i += 1;
+    for (i, z) in indices.iter().enumerate() {
+        put_byte(out, at + 2 * i, index_byte(*z));
     }
 }

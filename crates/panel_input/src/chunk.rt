@@ -102,15 +102,19 @@ pub fn pour(
     ensures holds_2 { Holds result.turn (length line.new) × Onward from (length chunk.now) result.next result.turn.at }
 {
     let mut t = Turn { core, len, at: 0 };
-    let mut i = from;
-    while i < chunk.len() {
+    for (i, b) in chunk[from..].iter().enumerate() {
         if GATHERED - LONGEST < t.at {
-            break;
+            return Poured {
+                turn: t,
+                next: from + i,
+            };
         }
         t = take_byte(
-            t, palette, lab, indices, locks, journal, line, chunk[i], bytes, list, out,
+            t, palette, lab, indices, locks, journal, line, *b, bytes, list, out,
         );
-        i += 1;
     }
-    Poured { turn: t, next: i }
+    Poured {
+        turn: t,
+        next: chunk.len(),
+    }
 }

@@ -6,10 +6,8 @@
 mod chunk;
 
 pub use chunk::pour;
+pub use panel_frames::HELD;
 use panel_open::Core;
-
-// Digits of a line that are held: one more than are read, so that a longer line is known, however long.
-pub const HELD: usize = 16_385;
 
 // The longest text of a line: 5 bytes and 4,096 indices in digits, and a newline.
 const LONGEST: usize = 8_203;

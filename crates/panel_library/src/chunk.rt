@@ -5,7 +5,8 @@ ghost use Rattle.panel_lines.specs.Lines.{fed, byteFed, chunkFed, Answered};
 ghost use Rattle.panel_library.specs.Texts.{step_of};
 
 use crate::line::respell;
-use crate::{HELD, Told, Turn};
+use crate::{Told, Turn};
+use panel_frames::HELD;
 use panel_streams::send;
 use std::io::Write;
 
@@ -45,11 +46,9 @@ pub(crate) fn answer_chunk<W: Write>(
 {
     let mut held = len;
     let mut said = 0;
-    let mut i = 0;
-    while i < chunk.len() {
-        let t = take_byte(held, line, chunk[i], text);
+    for byte in chunk {
+        let t = take_byte(held, line, *byte, text);
         held = t.len;
-        i += 1;
         let n = t.n;
         let sent = send(to, &text[..n]);
         said += sent.n;

@@ -6,9 +6,6 @@ mod chunk;
 mod line;
 mod reads;
 
-// Bytes of a line that are held: one more than are read, so that a longer line is known, however long.
-const HELD: usize = 16_385;
-
 // The longest text of a line: 13 bytes, 255 entries and 4,096 indices.
 const LONGEST: usize = 9_735;
 

@@ -9,13 +9,11 @@ ghost use Rattle.panel_library.specs.Runs.{Reads, Closed, Whole};
 
 use crate::chunk::answer_chunk;
 use crate::line::respell;
-use crate::{Got, HELD, LONGEST, Run};
-use panel_streams::{count, goes_on, is_sound, send};
+use crate::{Got, LONGEST, Run};
+use panel_frames::HELD;
+use panel_streams::{CHUNK, count, goes_on, is_sound, send};
 use std::io::{Read, Write};
 use std::num::wrapping_add_u64;
-
-// Bytes that a read asks for.
-const CHUNK: usize = 4_096;
 
 // Reads once, and answers what came, which stands at the front of `chunk` then. A read that failed for the moment only is
 // made again.
@@ -82,7 +80,7 @@ fn answer_reads<R: Read, W: Write>(
     let mut heard = 0;
     let mut said = 0;
     let mut last = 0;
-    while reads < u64::MAX {
+    for _ in 0..u64::MAX {
         let g = answer_some(len, line, chunk, text, input, output);
         len = g.len;
         reads += 1;

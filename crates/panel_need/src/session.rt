@@ -16,12 +16,8 @@ fn session_end(text: &[u8], at: usize) -> usize
     ensures { (at ≤ result) × (result ≤ length text.now) }
 {
     let mut i = at;
-    while i < text.len() {
-        let end = line_end(text, i);
-        if end == i {
-            return i;
-        }
-        i = next_line(text, end);
+    while i < text.len() && text[i] != b'\n' {
+        i = next_line(text, line_end(text, i));
     }
     i
 }
@@ -30,10 +26,7 @@ fn session_end(text: &[u8], at: usize) -> usize
 fn places(w: usize, h: usize) -> usize
     ensures { result ≤ 4096 }
 {
-    if 64 < w {
-        return 0;
-    }
-    if 64 < h {
+    if 64 < w || 64 < h {
         return 0;
     }
     w * h
@@ -88,14 +81,14 @@ fn need_in(
 // Prints a name, and the bytes or the number.
 fn tell(rt: &impl Print, name: &str, need: Need) -> io::Result<()> {
     match need {
-        Need::Bytes { need, k: _ } => println!(rt; "{name} {need}"),
+        Need::Bytes { need, .. } => println!(rt; "{name} {need}"),
         Need::Refused(no) => println!(rt; "{name} refused {no}"),
     }
 }
 
 // Answers a session. An empty one has no answer.
 fn answer(rt: &impl Print, session: &[u8]) -> io::Result<()> {
-    if session.len() == 0 {
+    if session.is_empty() {
         return Ok(());
     }
     let end = line_end(session, 0);
@@ -128,7 +121,7 @@ fn answer(rt: &impl Print, session: &[u8]) -> io::Result<()> {
 
 // Answers the sessions of a text, one after the other.
 pub(crate) fn answer_all(rt: &impl Print, text: &[u8]) -> io::Result<()> {
-    let mut at: usize = 0;
+    let mut at = 0;
     while at < text.len() {
         let end = session_end(text, at);
         answer(rt, &text[at..end])?;

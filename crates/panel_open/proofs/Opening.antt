@@ -1,15 +1,14 @@
 -- The opening: its buffers are filled as the definition's sheet has them, and the first check that applies decides. Assumes nothing.
-use Prim.Native.Nat.{ℕ, zero, suc, ◌+◌, ◌*◌, ◌≤◌, ◌<◌}
+use Prim.Native.Nat.{ℕ, zero, suc, ◌*◌, ◌≤◌, ◌<◌}
 use mathlib.Core.Path.{◌≡◌, refl, sym, ap, ◌∙◌}
 use mathlib.Core.Bool.{Bool, true, false}
-use mathlib.Core.List.{List, [], ◌∷◌, ◌++◌, map}
+use mathlib.Core.List.{List, [], ◌∷◌, ◌++◌}
 use mathlib.Core.Option.{none, some}
 use native.Mathlib.Omega.{arith}
 use borrow.Author.Tests.{lt-ltb, le-ltb}
 use lib.IntN.{ℤ}
 use lib.Ieee.{Float}
-use lib.ListN.{length, take, drop, replicate, length-map, length-take, length-drop, length-replicate}
-use lib.Seq.{take_at}
+use lib.ListN.{take, drop, replicate, length-replicate}
 use Rattle.base.specs.Limits.{max_entries, storage}
 use Rattle.base.specs.Checks.{Check, first_of, refused_or}
 use Rattle.base.specs.Answer.{number, number_of, Done}
@@ -21,25 +20,13 @@ use Rattle.sheet.specs.Checks.{limit_checks, mark_checks, index_checks}
 use Rattle.sheet.specs.Document.{New, cleared_marks, new_made, new_lab, new_of}
 use Rattle.base.specs.declared.Handle.{Handle}
 use Rattle.history_ledger.specs.Handle.{fresh, dirty}
-use Rattle.panel_frames.specs.Reading.{palette_in, indices_in, index_of}
+use Rattle.panel_frames.specs.Reading.{palette_in, indices_in}
 use Rattle.panel_frames.specs.Writing.{line_of, number_line}
 use Rattle.panel_open.specs.declared.Core.{Core}
 use Rattle.panel_lines.specs.Lines.{said}
 use Rattle.panel_frames.specs.Opening.{open_sheet, open_checks}
 use Rattle.panel_calls.specs.Panel.{journal_bytes, whole_line, begun, opens_as, open_of}
 use Rattle.panel_open.specs.Memory.{panel_in}
-
--- ---- the buffers
-pub palette-filled : (bs : List ℕ) (k n : ℕ) (palette cleared palette' : List ℕ) → n ≡ 3 * k → length palette ≡ 765 → cleared ≡ replicate (length palette) 0
-    → palette' ≡ over (take n (drop 6 bs)) cleared → palette' ≡ over (palette_in k bs) (replicate storage 0)
-palette-filled bs k n palette cleared palette' e long c p = p ∙ rw (e, c, long)
-
-pub indices-filled : (bs : List ℕ) (start n m : ℕ) (indices indices' : List ℤ) → m ≡ n → start + n ≤ length bs → indices' ≡ over (map index_of (take m (drop start bs))) indices
-    → take n indices' ≡ map index_of (take n (drop start bs))
-unfolding over
-indices-filled bs start n m indices indices' e room p =
-    let long : length (map index_of (take n (drop start bs))) ≡ n = length-map (take n (drop start bs)) index_of ∙ simp (length-take, length-drop) (omega arith) in
-    rw (p, e) (take_at (map index_of (take n (drop start bs))) _ n long)
 
 -- ---- the marks
 abbrev pub unlocked : List Bool

@@ -1,7 +1,6 @@
 // The state of `panel` in lent buffers, the text of a line, and the opening.
 #![tactic(auto)]
 
-mod clear;
 mod open;
 mod text;
 

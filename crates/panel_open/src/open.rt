@@ -7,31 +7,29 @@ ghost use Rattle.panel_frames.specs.Opening.{open_sheet};
 ghost use Rattle.panel_calls.specs.Panel.{open_of};
 ghost use Rattle.panel_open.specs.Memory.{panel_in, Fits, Steps};
 
-use crate::clear::{clear_lab, clear_locks};
 use crate::text::{number, whole};
 use crate::{Core, Stepped};
 use base::{BAD_SHEET, MAX_ENTRIES};
-use edit_left::clear;
 use history::fresh;
-use panel_frames::{MAX_OPEN, take_bytes, take_indices};
+use panel_frames::{MAX_OPEN, take_indices};
 
 // The palette of an opening frame, and zeros behind it.
+#[tactic(auto, unfolding(base::specs::Lists::over))]
 fn open_palette(bytes: &[u8], k: usize, palette: &mut [u8])
     requires { (6 + 3 * k ≤ length bytes.now) × (k ≤ 255) × (length palette.old ≡ 765) }
     ensures { palette.new ≡ over (palette_in k bytes.now) (replicate storage 0) }
 {
-    let end = 6 + 3 * k;
-    clear(palette);
-    take_bytes(&bytes[6..end], palette);
+    palette.fill(0);
+    palette[..3 * k].copy_from_slice(&bytes[6..6 + 3 * k]);
 }
 
 // The n indices of an opening frame, which start at a byte.
+#[tactic(auto, unfolding(base::specs::Lists::over))]
 fn open_indices(bytes: &[u8], start: usize, n: usize, indices: &mut [i16])
     requires { (start + n ≤ length bytes.now) × (n ≤ length indices.old) }
     ensures { take n indices.new ≡ map index_of (take n (drop start bytes.now)) }
 {
-    let end = start + n;
-    take_indices(&bytes[start..end], indices);
+    take_indices(&bytes[start..start + n], indices);
 }
 
 // Opens the sheet, with zeros for what the frame leaves open and no entry locked. A failed opening prints its number only.
@@ -68,9 +66,9 @@ pub fn open_sheet(
     let n = w * h;
     open_palette(bytes, k, palette);
     open_indices(bytes, 6 + 3 * k, n, indices);
-    clear_lab(lab);
-    clear_locks(locks);
-    clear(journal);
+    lab.fill(0.0);
+    locks.fill(false);
+    journal.fill(0);
     let answer = sheet::new(w, h, k, palette, lab, &indices[..n], locks);
     let no = answer.number();
     if no != 0 {

@@ -1,12 +1,11 @@
 -- The checks of an opening and of the storage that is lent, in order. Assumes nothing.
-use mathlib.Core.Path.{◌≡◌, refl, sym, ◌∙◌}
-use mathlib.Core.Bool.{Bool, true, false, not, ◌&&◌}
+use mathlib.Core.Path.{◌≡◌, sym, ◌∙◌}
+use mathlib.Core.Bool.{Bool, true, false}
 use mathlib.Core.List.{List, ◌++◌, map}
 use Prim.Native.Nat.{ℕ, ◌+◌, ◌*◌, ◌≤◌, ◌<◌}
 use native.Mathlib.Nat.{mul-le-mul}
 use native.Mathlib.Omega.{arith}
 use borrow.Author.Tests.{lt-ltb, le-ltb, eq-eqb, ne_eqb}
-use lib.Dec.{leb, eqb}
 use lib.Ieee.{Float}
 use lib.ListN.{length, take, drop, replicate, length-map, length-take, length-drop, length-replicate}
 use Rattle.base.specs.Limits.{storage}
@@ -21,15 +20,6 @@ use Rattle.sheet.proofs.Judging.{limited-fine}
 use Rattle.panel_frames.specs.Reading.{index_of, palette_in, indices_in}
 use Rattle.panel_frames.specs.Opening.{open_sheet, open_checks}
 use Rattle.panel_read.specs.ReadSheet.{storage_checks, Openable}
-
--- the test of a byte is the definition's
-pub stray-byte : (b k : ℕ) → not (eqb b 255) && leb k b ≡ stray k (index_of b)
-unfolding stray index_of
-stray-byte b k = go (eqb b 255) refl
-  where
-    go : (t : Bool) → eqb b 255 ≡ t → not (eqb b 255) && leb k b ≡ stray k (index_of b)
-    go true e = rw e
-    go false e = rw e
 
 -- the indices as the code cuts them out of the bytes
 pub judged-indices : (w h k : ℕ) (bs : List ℕ) (m start : ℕ) (b : Bool) → m ≡ w * h → start ≡ 6 + 3 * k → b ≡ some (stray k) (map index_of (take m (drop start bs)))

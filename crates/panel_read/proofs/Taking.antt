@@ -1,12 +1,12 @@
 -- What `read_sheet` answers of an opening that was judged, and what it leaves. Assumes nothing.
 use mathlib.Core.Path.{◌≡◌, refl, sym, ◌∙◌}
-use mathlib.Core.List.{List, map}
+use mathlib.Core.List.{List}
 use Prim.Native.Nat.{ℕ, zero, suc, ◌+◌, ◌*◌, ◌≤◌, ◌<◌}
 use native.Mathlib.Omega.{arith}
 use borrow.Author.Tests.{lt-ltb, le-ltb}
 use lib.Ieee.{Float}
 use lib.IntN.{ℤ}
-use lib.ListN.{length, take, drop, length-take, length-drop}
+use lib.ListN.{length, length-take, length-drop}
 use lib.Seq.{take_at}
 use Rattle.base.specs.Checks.{Check, first_of, refused_or}
 use Rattle.base.specs.Answer.{Told, size}
@@ -14,7 +14,7 @@ use Rattle.base.specs.Answer.Told.{result, alone}
 use Rattle.base.specs.Lists.{over}
 use Rattle.sheet.specs.Sheet.{Sheet}
 use Rattle.sheet.specs.Document.{labs_of}
-use Rattle.panel_frames.specs.Reading.{told, frame_of, index_of, palette_in, indices_in}
+use Rattle.panel_frames.specs.Reading.{told, frame_of, palette_in, indices_in}
 use Rattle.panel_frames.specs.Opening.{colours_of, open_sheet, opened_or, sheet_in}
 use Rattle.panel_frames.specs.declared.Frame.{Frame}
 use Rattle.panel_frames.proofs.Opens.{sheet-take}
@@ -24,20 +24,6 @@ use Rattle.panel_read.specs.ReadSheet.{storage_checks, reading, taken_of, line_r
 pub colours-in : (w h k : ℕ) (bs : List ℕ) → 6 + 3 * k ≤ length bs → colours_of (open_sheet w h k bs) ≡ palette_in k bs
 unfolding open_sheet over
 colours-in w h k bs room = take_at (palette_in k bs) _ (3 * k) (simp (length-take, length-drop) (omega arith))
-
--- ---- the parts taken, as the code cuts them out of the bytes
-module _ (k : ℕ) (bs : List ℕ) where
-  pub taken-palette : (n : ℕ) (p p' : List ℕ) → n ≡ 3 * k → p' ≡ over (take n (drop 6 bs)) p → p' ≡ over (palette_in k bs) p
-  taken-palette n p p' e q = rw e at q
-
-  pub taken-labs : (p p' : List ℕ) (l l' : List Float) → 6 + 3 * k ≤ length bs → p' ≡ over (palette_in k bs) p → l' ≡ over (labs_of (take (3 * k) p')) l → l' ≡ over (labs_of (palette_in k bs)) l
-  unfolding over
-  taken-labs p p' l l' room e q =
-      let front : take (3 * k) p' ≡ palette_in k bs = rw e (take_at (palette_in k bs) _ (3 * k) (simp (length-take, length-drop) (omega arith))) in
-      rw front at q
-
-  pub taken-indices : (n m start : ℕ) (i i' : List ℤ) → m ≡ n → start ≡ 6 + 3 * k → i' ≡ over (map index_of (take m (drop start bs))) i → i' ≡ over (map index_of (take n (drop (6 + 3 * k) bs))) i
-  taken-indices n m start i i' e f q = rw (e, f) at q
 
 -- ---- the answer
 module _ (w h k : ℕ) (bs palette : List ℕ) (lab : List Float) (indices : List ℤ) where

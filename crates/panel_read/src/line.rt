@@ -1,28 +1,26 @@
 // A line, with its newline or without, to the frame that it is.
-ghost use Rattle.std.specs.Prelude.{◌≡◌, ◌≤◌, length, take};
+ghost use Rattle.std.specs.Prelude.{◌≡◌, ◌≤◌, length};
 ghost use Rattle.panel_frames.specs.Reading.{size_of};
 ghost use Rattle.panel_frames.specs.Opening.{sheet_in};
 ghost use Rattle.panel_read.specs.ReadSheet.{bare, storage_checks, read_made, taken_of, line_read, read_of};
 
 use crate::opening::read_open;
 use base::{Opened, UNREAD_FRAME};
-use panel_frames::{Frame, decode};
+use panel_frames::{Frame, MAX_BYTES, decode};
 
-// How much of a line stands before its newline.
-fn bare_length(line: &[u8]) -> usize
-    ensures { (take result line.now ≡ bare line.now) × (result ≤ length line.now) }
+// A line without its newline.
+#[tactic(auto, unfolding(crate::specs::ReadSheet::bare))]
+fn bare(line: &[u8]) -> &[u8]
+    ensures { result.now ≡ bare line.now }
 {
-    let n = line.len();
-    if n == 0 {
-        return 0;
+    match line {
+        [front @ .., b'\n'] => front,
+        _ => line,
     }
-    if line[n - 1] == b'\n' {
-        return n - 1;
-    }
-    n
 }
 
 // A frame: the sheet that it opens, or 22.
+#[tactic(auto, unfolding(panel_frames::specs::Opening::sheet_in, panel_frames::specs::Reading::size_of))]
 fn read_frame(
     frame: Frame,
     bytes: &[u8],
@@ -47,17 +45,17 @@ pub fn read_line(line: &[u8], palette: &mut [u8], lab: &mut [f64], indices: &mut
     ensures { read_made result palette.new lab.new indices.new
         ≡ line_read line.now palette.old lab.old indices.old }
 {
-    let mut bytes = [0u8; 8192];
+    let mut bytes = [0u8; MAX_BYTES];
     let frame = decode(line, &mut bytes);
     read_frame(frame, &bytes, palette, lab, indices)
 }
 
 // Reads the sheet of a line, whose newline may lack: its k colours, their LAB and its indices go to the front of the
 // buffers, which keep the rest. Refused, nothing is written.
+#[tactic(auto, unfolding(crate::specs::ReadSheet::read_of))]
 pub fn read_sheet(line: &[u8], palette: &mut [u8], lab: &mut [f64], indices: &mut [i16]) -> Opened
     ensures { read_made result palette.new lab.new indices.new
         ≡ read_of line.now palette.old lab.old indices.old }
 {
-    let n = bare_length(line);
-    read_line(&line[..n], palette, lab, indices)
+    read_line(bare(line), palette, lab, indices)
 }

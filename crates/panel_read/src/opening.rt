@@ -8,10 +8,11 @@ ghost use Rattle.panel_frames.specs.Opening.{open_sheet, opened_or};
 ghost use Rattle.panel_read.specs.ReadSheet.{storage_checks, read_made, taken_of, Openable};
 
 use base::{BAD_SHEET, MAX_ENTRIES, NO_SPACE, Opened, STORAGE, STRAY_INDEX, both, either};
-use panel_frames::{MAX_OPEN, take_bytes, take_indices};
+use panel_frames::{MAX_OPEN, take_indices};
 use sheet::fill_labs;
 
 // Whether the index that a byte is lies outside -1..k-1.
+#[tactic(auto, unfolding(sheet::specs::Sheet::stray, panel_frames::specs::Reading::index_of))]
 fn is_stray(b: u8, k: u8) -> bool
     ensures { result ≡ stray k (index_of b) }
 {
@@ -23,10 +24,8 @@ fn any_stray(bytes: &[u8], k: u8) -> bool
     ensures { result ≡ some (stray k) (map index_of bytes.now) }
 {
     let mut bad = false;
-    let mut i = 0;
-    while i < bytes.len() {
-        bad = either(bad, is_stray(bytes[i], k));
-        i += 1;
+    for b in bytes {
+        bad = either(bad, is_stray(*b, k));
     }
     bad
 }
@@ -60,6 +59,7 @@ fn open_no(w: usize, h: usize, k: usize, bytes: &[u8], palette: &[u8], lab: &[f6
 }
 
 // The k colours of an opening, their LAB and its n indices, to the front of the buffers.
+#[tactic(auto, unfolding(base::specs::Lists::over, base::specs::Checks::first_of))]
 fn take_sheet(
     k: usize,
     n: usize,
@@ -77,7 +77,7 @@ fn take_sheet(
 {
     let start = 6 + 3 * k;
     let end = start + n;
-    take_bytes(&bytes[6..start], palette);
+    palette[..3 * k].copy_from_slice(&bytes[6..start]);
     fill_labs(palette, lab, k, false, &[]);
     take_indices(&bytes[start..end], indices);
 }

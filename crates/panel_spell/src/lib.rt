@@ -54,6 +54,7 @@ fn spell_no(
 }
 
 // 00 w(2) h(2) k.
+#[tactic(auto, unfolding(journal_record::specs::Bytes::le, journal_record::specs::Bytes::splice))]
 fn put_open(w: usize, h: usize, k: usize, text: &mut [u8])
     requires { (k ≤ 255) × (12 ≤ length text.old) }
     ensures { text.new ≡ over (hex_of (0 ∷ le 2 w ++ (le 2 h ++ (k ∷ [])))) text.old }

@@ -10,6 +10,9 @@ use std::io;
 use std::io::{ErrorKind, Write};
 use std::thread::yield_now;
 
+// Bytes that a read asks for.
+pub const CHUNK: usize = 4_096;
+
 // What was written: how many bytes were taken, by how many calls of write, and whether to go on.
 #[derive(Clone, Copy)]
 pub struct Sent {
@@ -71,7 +74,8 @@ fn send_some<W: Write>(to: &mut W, text: &[u8], from: usize) -> Sent
     Sent { n, calls: 1, more }
 }
 
-// Writes the text, to its end or until a write fails for good.
+// Writes the text, to its end or until a write fails for good. A proved loop has to end: it counts its writes, up to a
+// number that no run reaches.
 #[tactic(auto, using(crate::proofs::Written::none_written, crate::proofs::Written::more_written))]
 pub fn send<W: Write>(to: &mut W, text: &[u8]) -> Sent
     ensures sends { Sends result (length text.now) }
@@ -80,7 +84,7 @@ pub fn send<W: Write>(to: &mut W, text: &[u8]) -> Sent
 {
     let mut n = 0;
     let mut calls = 0;
-    while calls < u64::MAX {
+    for _ in 0..u64::MAX {
         if n == text.len() {
             break;
         }

@@ -8,12 +8,12 @@ use lib.Dec.{eqb}
 use lib.IntN.{ℤ}
 use Rattle.selection_spans.specs.declared.Span.{Span}
 use Rattle.selection_spans.specs.Spans.{between, widened}
-use Rattle.selection_spans.proofs.Spans.{none_is, half-open}
+use Rattle.selection_spans.proofs.Spans.{none_is, half_open}
 use Rattle.selection.specs.Asked.{Narrow}
 use Rattle.selection.specs.Selection.{rectangle, from_corners}
 
 pub narrow : (a b : ℤ) (side : ℕ) {s : Span} → side ≤ 1024 → s ≡ between a b side → 0 < s.count → Narrow s
-narrow a b side h e = rw (e, half-open a b side) (λ k. record { start = omega arith; count = omega arith })
+narrow a b side h e = rw (e, half_open a b side) (λ k. record { start = omega arith; count = omega arith })
 
 pub clipped : (ax ay bx by : ℤ) (width height : ℕ) {x y : Span} → x ≡ between ax bx width → y ≡ between ay by height
     → cond (eqb x.count 0 || eqb y.count 0) none (some (rectangle x y)) ≡ from_corners ax ay bx by width height

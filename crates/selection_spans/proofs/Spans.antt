@@ -23,6 +23,6 @@ count-is a b side = rw (first-is a b) (sym (count-from (last a b side) (from_zer
 pub none_is : (a b : ℤ) (side : ℕ) → eqb (between a b side).count 0 ≡ lt_z (last a b side) (first a b)
 none_is a b side = rw (← count-is a b side, first-is a b) (sym (none_from (last a b side) (from_zero (min_z a b))))
 
-pub half-open : (a b : ℤ) (side : ℕ) → between a b side ≡ record { start = from_zero (min_z a b); count = min (up_to (max_z a b)) side - from_zero (min_z a b) }
+pub half_open : (a b : ℤ) (side : ℕ) → between a b side ≡ record { start = from_zero (min_z a b); count = min (up_to (max_z a b)) side - from_zero (min_z a b) }
 unfolding between last from_zero
-half-open a b side = rw (first-is a b, count-from, up-to-within)
+half_open a b side = rw (first-is a b, count-from, up-to-within)

@@ -7,7 +7,7 @@ ghost use Rattle.base.specs.Ints.{far};
 ghost use Rattle.selection_spans.specs.Spans.{between, in_span, moved, widened};
 ghost use Rattle.selection_spans.specs.Positions.{row, rows, flat, RowFits};
 
-use base::{from_zero, max_i32, min_i32, min_usize, saturating_sub, up_to};
+use base::{from_zero, up_to};
 
 // The places that a rectangle takes of one axis: count of them from start on.
 #[derive(Clone, Copy)]
@@ -17,6 +17,7 @@ pub struct Span {
 }
 
 // Whether a place is one of count from start on.
+#[tactic(auto, unfolding(crate::specs::Spans::in_span))]
 pub fn in_span(start: u16, count: u16, at: usize) -> bool
     ensures { result ≡ in_span start count at }
 {
@@ -29,11 +30,11 @@ pub fn in_span(start: u16, count: u16, at: usize) -> bool
 pub fn between(a: i32, b: i32, side: usize) -> Span
     ensures { result ≡ between a b side }
 {
-    let start = from_zero(min_i32(a, b));
-    let end = min_usize(up_to(max_i32(a, b)), side);
+    let start = from_zero(a.min(b));
+    let end = up_to(a.max(b)).min(side);
     Span {
-        start: start,
-        count: saturating_sub(end, start),
+        start,
+        count: end.saturating_sub(start),
     }
 }
 
@@ -48,15 +49,17 @@ pub fn shifted(start: u16, count: u16, d: i32, side: usize) -> Span
 }
 
 // The places of a span grown by margin on both ends that an image's side has.
+#[tactic(auto, unfolding(crate::specs::Spans::widened))]
 pub fn widened(start: u16, count: u16, margin: usize, side: usize) -> Span
     requires { margin ≤ 65536 }
     ensures { result ≡ widened start count margin side }
 {
-    let from = saturating_sub(start as usize, margin);
-    let end = min_usize(start as usize + count as usize + margin, side);
+    let start = start as usize;
+    let from = start.saturating_sub(margin);
+    let end = (start + count as usize + margin).min(side);
     Span {
         start: from,
-        count: saturating_sub(end, from),
+        count: end.saturating_sub(from),
     }
 }
 

@@ -1,20 +1,15 @@
--- The lock marks lent with a sheet: their check among the sheet's, and the marks of an opening, made false one by one. Assumes nothing.
-use mathlib.Core.Path.{◌≡◌, refl, sym, ap, ◌∙◌}
-use mathlib.Core.Bool.{Bool, false}
-use mathlib.Core.List.{List, [], ◌∷◌, ◌++◌}
-use Prim.Native.Nat.{ℕ, zero, suc, ◌+◌, ◌<◌, ◌≤◌}
-use native.Mathlib.Nat.{le_antisymm}
-use native.Mathlib.Numerals.{add-one}
+-- The lock marks lent with a sheet: their check among the sheet's. Assumes nothing.
+use mathlib.Core.Path.{◌≡◌, sym, ap, ◌∙◌}
+use mathlib.Core.Bool.{Bool}
+use mathlib.Core.List.{List, [], ◌++◌}
+use Prim.Native.Nat.{ℕ}
 use native.Mathlib.Omega.{arith}
 use borrow.Author.Tests.{eq-eqb, ne_eqb}
-use lib.ListN.{length, set, replicate, length-replicate}
+use lib.ListN.{length}
 use Rattle.base.specs.Checks.{Check, or_else, first_of}
-use Rattle.base.specs.Lists.{over}
 use Rattle.base.proofs.First.{no_zero, first-append, first_past}
-use Rattle.base.proofs.Over.{over_none, over-set}
 use Rattle.sheet.specs.Sheet.{Sheet}
-use Rattle.sheet.specs.Checks.{limit_checks, mark_checks, index_checks, lab_checks, sheet_checks, Judged, Marked, MarkedJudged}
-use Rattle.sheet.specs.Document.{cleared_marks}
+use Rattle.sheet.specs.Checks.{limit_checks, mark_checks, index_checks, lab_checks, sheet_checks, Judged, MarkedJudged}
 use Rattle.sheet.proofs.Judging.{limits-one}
 
 -- ---- number 1
@@ -54,19 +49,3 @@ module _ (s : Sheet) (locks : List Bool) where
   -- ---- a call's further checks, `ds`, after 1 to 3
   pub past-marked : (n : ℕ) → MarkedJudged s locks n → n ≡ 0 → (ds : List Check) → first_of (sheet_checks (mark_checks locks) s ++ ds) ≡ first_of ds
   past-marked n j z ds = first_past (sheet_checks (mark_checks locks) s) ds (sym j.value ∙ z)
-
--- ---- the marks of an opening
-more : (i : ℕ) → replicate i false ++ (false ∷ []) ≡ replicate (suc i) false
-more zero = refl
-more (suc i) = ap (λ (l : List Bool). false ∷ l) (more i)
-
-pub cleared-none : (locks : List Bool) → locks ≡ cleared_marks 0 locks
-unfolding cleared_marks
-cleared-none locks = over_none locks
-
-pub cleared-next : (before locks : List Bool) (i : ℕ) → locks ≡ cleared_marks i before → i < length before → set locks i false ≡ cleared_marks (i + 1) before
-unfolding cleared_marks
-cleared-next before locks i e h = rw (e, add-one i) (over-set (replicate i false) before i false (length-replicate i false) h ∙ ap (λ f. over f before) (more i))
-
-pub cleared-all : (before locks : List Bool) (i k : ℕ) → locks ≡ cleared_marks i before → i ≤ k → k ≤ i → locks ≡ cleared_marks k before
-cleared-all before locks i k e h l = e ∙ ap (λ (j : ℕ). cleared_marks j before) (le_antisymm h l)

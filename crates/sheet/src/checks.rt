@@ -23,10 +23,8 @@ pub fn any_stray_below(indices: &[i16], k: i16) -> bool
     ensures { result ≡ some (stray_z k) indices.now }
 {
     let mut bad = false;
-    let mut i = 0;
-    while i < indices.len() {
-        bad = either(bad, is_stray(indices[i], k));
-        i += 1;
+    for z in indices {
+        bad = either(bad, is_stray(*z, k));
     }
     bad
 }

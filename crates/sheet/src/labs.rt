@@ -17,9 +17,7 @@ pub fn fill_labs(palette: &[u8], lab: &mut [f64], k: usize, loaded: bool, curve:
         ≡ over (labs_by (lab_by (curve_of loaded curve.now)) (take (3 * k) palette.now)) lab.old }
 {
     let t = color_lab::table();
-    let mut i: usize = 0;
-    while i < k {
+    for i in 0..k {
         put_lab(lab, i, lab_in(&t, loaded, curve, rgb_at(palette, i)));
-        i += 1;
     }
 }

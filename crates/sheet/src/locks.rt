@@ -7,9 +7,5 @@ pub(crate) fn clear_locks(locks: &mut [bool], k: usize)
     requires { k ≤ length locks.old }
     ensures { locks.new ≡ cleared_marks k locks.old }
 {
-    let mut i: usize = 0;
-    while i < k {
-        locks[i] = false;
-        i += 1;
-    }
+    locks[..k].fill(false);
 }

@@ -11,8 +11,8 @@ use borrow.Author.Tests.{ltb-true, leb-false}
 use lib.Dec.{eqb-zero-suc, eqb-suc-zero, eqb-suc-suc}
 use lib.IntN.{ℤ, pos, negsuc, nat_abs}
 use lib.Signed.{lt_z}
-use lib.ListN.{length, take, drop, get_or, set, replicate, length-set, length-append, length-take, length-replicate, replicate-append-replicate, get_or-append}
-use lib.Seq.{take_all, drop_at, get_or_at, ext_get_or, set-append_left}
+use lib.ListN.{length, take, get_or, set, replicate, length-set, length-append, length-take, replicate-append-replicate, get_or-append}
+use lib.Seq.{take_all, get_or_at, ext_get_or, set-append_left}
 use mir.Syntax.{Width}
 use mir.Val.{to_z, of_z, SFits}
 use mir.Facts.{to_z-of_z}
@@ -110,11 +110,8 @@ pub record Counted (k : ℕ) (l : List ℤ) (rest : List ℕ) (i : ℕ) (out : L
   pub is : out ≡ counts_of k (take i l) ++ rest
 
 -- it starts from zeros
-cleared-rest : (k : ℕ) (out d : List ℕ) → out ≡ replicate k 0 ++ drop k d → drop k out ≡ drop k d
-cleared-rest k out d e = rw (e, drop_at (replicate k 0) (drop k d) k (length-replicate k 0))
-
-pub counted_none : (k : ℕ) (l : List ℤ) (out d : List ℕ) → out ≡ replicate k 0 ++ drop k d → Counted k l (drop k out) 0 out
-counted_none k l out d e = record { is = e ∙ rw (counts-none k, cleared-rest k out d e) }
+pub counted_none : (k : ℕ) (l : List ℤ) (out rest : List ℕ) → out ≡ replicate k 0 ++ rest → Counted k l rest 0 out
+counted_none k l out rest e = record { is = e ∙ rw (counts-none k) }
 
 module _ {k : ℕ} {l : List ℤ} {rest : List ℕ} {i : ℕ} {out : List ℕ} (c : Counted k l rest i out) where
   pub counted-room : length l ≤ 1048576 → (z : ℤ) → stray k z ≡ false → Room out z
@@ -136,6 +133,5 @@ module _ {k : ℕ} {l : List ℤ} {rest : List ℕ} {i : ℕ} {out : List ℕ} (
             (tally-front (counts_of k (take i l)) rest z (rw (counts-length k (take i l)) e));
       }
 
-pub counted-all : {k : ℕ} {l : List ℤ} {start : List ℕ} {i : ℕ} {out : List ℕ} (d : List ℕ)
-    → Counted k l (drop k start) i out → start ≡ replicate k 0 ++ drop k d → length l ≤ i → out ≡ counts_of k l ++ drop k d
-counted-all {k} {l} {start} {i} d c e h = c.is ∙ rw (take_all i l h, cleared-rest k start d e)
+  pub counted-all : length l ≤ i → out ≡ counts_of k l ++ rest
+  counted-all h = c.is ∙ rw (take_all i l h)

@@ -1,5 +1,5 @@
 // Pixels per palette entry.
-ghost use Rattle.std.specs.Prelude.{◌≡◌, false, ◌++◌, ◌≤◌, length, drop, replicate};
+ghost use Rattle.std.specs.Prelude.{◌≡◌, false, ◌≤◌, length};
 ghost use Rattle.base.specs.Answer.{filled};
 ghost use Rattle.base.specs.Lists.{some, over};
 ghost use Rattle.sheet.specs.Sheet.{sheet_of, stray};
@@ -8,18 +8,6 @@ ghost use Rattle.sheet_counts.specs.Tables.{tally, Room};
 
 use base::{Counted, NO_SPACE};
 use sheet::check;
-
-// Sets the first k numbers to 0. The others keep.
-fn clear(out: &mut [u32], k: usize)
-    requires { k ≤ length out.old }
-    ensures { out.new ≡ replicate k 0 ++ drop k out.old }
-{
-    let mut i: usize = 0;
-    while i < k {
-        out[i] = 0;
-        i += 1;
-    }
-}
 
 // Counts one pixel at its entry; a transparent one at none.
 fn count_one(out: &mut [u32], z: i16)
@@ -38,11 +26,9 @@ fn count_entries(indices: &[i16], k: usize, out: &mut [u32])
     requires { (length indices.now ≤ 1048576) × (some (stray k) indices.now ≡ false) × (k ≤ length out.old) }
     ensures { out.new ≡ over (counts_of k indices.now) out.old }
 {
-    clear(out, k);
-    let mut i: usize = 0;
-    while i < indices.len() {
-        count_one(out, indices[i]);
-        i += 1;
+    out[..k].fill(0);
+    for z in indices {
+        count_one(out, *z);
     }
 }
 

@@ -12,6 +12,7 @@ use lib.Dec.{eqb}
 use lib.IntN.{ℤ, pos, negsuc}
 use lib.ListN.{length, get_or, set}
 use lib.Seq.{get_or-set_same, get_or-set_other}
+use mir.Val.{bool_byte}
 use Rattle.base.specs.declared.Rgb.{Rgb}
 use Rattle.base.proofs.Back.{never}
 use Rattle.sheet.specs.Sheet.{stray}
@@ -46,12 +47,15 @@ module _ (p q : List ℕ) (hp : length p ≡ 765) (hq : length q ≡ 765) where
   shades-equal (negsuc n) (pos m) x y e f s t = rw (entry q m (within q m hq f), s) (ne_eqb 16777216 y (λ h. omega (arith, t)))
   shades-equal (negsuc n) (negsuc m) x y e f s t = rw (s, t)
 
-  -- what a comparison of two tables marks, for indices that are read back
-  pub marked : {t u : List ℕ} {a' b' a b : ℤ} {x y r : ℕ} → Shades 255 p t → Shades 255 q u → a' ≡ a → b' ≡ b → stray 255 a' ≡ false → stray 255 b' ≡ false
-      → x ≡ get_or t (slot_of a') 0 → y ≡ get_or u (slot_of b') 0 → r ≡ mark (not (eqb x y)) → r ≡ mark (differs p q a b)
+  -- what a comparison of two tables marks
+  pub marked : {t u : List ℕ} (a b : ℤ) {x y : ℕ} → Shades 255 p t → Shades 255 q u → stray 255 a ≡ false → stray 255 b ≡ false
+      → x ≡ get_or t (slot_of a) 0 → y ≡ get_or u (slot_of b) 0 → bool_byte (not (eqb x y)) ≡ mark (differs p q a b)
   unfolding differs
-  marked {a' = a'} {b' = b'} s t ra rb e f ex ey er =
-      er ∙ rw (ex, ey, ← ra, ← rb, shades-equal a' b' _ _ e f (s.shade a' e) (t.shade b' f))
+  marked a b s t e f ex ey = mark-byte _ ∙ rw (ex, ey, shades-equal a b _ _ e f (s.shade a e) (t.shade b f))
+    where
+      mark-byte : (b : Bool) → bool_byte b ≡ mark b
+      mark-byte true = refl
+      mark-byte false = refl
 
 -- ---- how a table is filled, whatever is asked of what stands for an index
 module _ {A : Type 0} (d : A) (P : ℤ → A → Type 0) where

@@ -2,14 +2,13 @@
 //
 // Each palette is turned once into a table with a number for what each index shows, equal where the
 // colours are. A pixel then costs two reads and a comparison, and no branch.
-ghost use Rattle.std.specs.Prelude.{◌≡◌, false, not, ◌≤◌, eqb, length, get_or};
+ghost use Rattle.std.specs.Prelude.{◌≡◌, false, ◌≤◌, length, get_or};
 ghost use Rattle.base.specs.Lists.{some, over};
 ghost use Rattle.sheet.specs.Sheet.{stray};
-ghost use Rattle.sheet.specs.Document.{mark};
 ghost use Rattle.sheet_diff.specs.Mask.{mask_of};
 ghost use Rattle.sheet_diff.specs.Tables.{slot_of, Numbered, Shades};
 
-use base::{Rgb, rgb_at};
+use base::{MAX_ENTRIES, Rgb, rgb_at};
 
 // The number of no colour, above every colour's.
 const NO_COLOUR: u32 = 16_777_216;
@@ -18,7 +17,7 @@ const NO_COLOUR: u32 = 16_777_216;
 fn number(c: Rgb) -> u32
     ensures { Numbered c result }
 {
-    c.r as u32 + 256 * (c.g as u32) + 65_536 * (c.b as u32)
+    u32::from_le_bytes([c.r, c.g, c.b, 0])
 }
 
 // Fills a table with the number of what each index shows: at 0 of the transparent one, at n + 1 of
@@ -28,10 +27,8 @@ pub fn fill_shades(palette: &[u8], table: &mut [u32; 256])
     ensures { Shades 255 palette.now table.new }
 {
     table[0] = NO_COLOUR;
-    let mut i: usize = 0;
-    while i < 255 {
+    for i in 0..MAX_ENTRIES {
         table[i + 1] = number(rgb_at(palette, i));
-        i += 1;
     }
 }
 
@@ -42,13 +39,6 @@ pub fn shade_of(table: &[u32; 256], z: i16) -> u32
 {
     let at = (z + 1) as usize;
     table[at]
-}
-
-// 1 for two numbers that differ, else 0.
-fn differ(x: u32, y: u32) -> u8
-    ensures { result ≡ mark (not (eqb x y)) }
-{
-    if x != y { 1 } else { 0 }
 }
 
 // Marks each pixel that differs: 1 where its colour, or that it is transparent, is not the baseline's,
@@ -71,11 +61,9 @@ pub(crate) fn mark_differences(
     fill_shades(palette, &mut shown);
     let mut base_shown: [u32; 256] = [0; 256];
     fill_shades(base, &mut base_shown);
-    let mut i: usize = 0;
-    while i < indices.len() {
-        let x = shade_of(&shown, indices[i]);
+    for (i, z) in indices.iter().enumerate() {
+        let x = shade_of(&shown, *z);
         let y = shade_of(&base_shown, base_indices[i]);
-        mask[i] = differ(x, y);
-        i += 1;
+        mask[i] = u8::from(x != y);
     }
 }

@@ -19,6 +19,7 @@ pub fn packed(c: Change) -> u64
 }
 
 // The struct of such a number.
+#[tactic(auto, unfolding(edit::specs::Change::unpacked))]
 pub fn unpacked(c: u64) -> Change
     ensures { result ≡ struct_of c }
 {

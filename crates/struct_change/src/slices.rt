@@ -1,5 +1,5 @@
 // Lists of change structs packed into numbers, as the core takes them, filled from numbers, copied, and gone through.
-ghost use Rattle.std.specs.Prelude.{◌≡◌, ◌||◌, map, ◌≤◌, length, take};
+ghost use Rattle.std.specs.Prelude.{◌≡◌, map, ◌≤◌, length, take};
 ghost use Rattle.base.specs.Answer.{counted_told};
 ghost use Rattle.base.specs.Lists.{over, some};
 ghost use Rattle.edit.specs.Change as flat;
@@ -15,10 +15,8 @@ pub fn pack(list: &[Change], n: usize, flat: &mut [u64])
     requires { (n ≤ length list.now) × (n ≤ length flat.old) }
     ensures { flat.new ≡ over (take n (map packed_of list.now)) flat.old }
 {
-    let mut i: usize = 0;
-    while i < n {
-        flat[i] = packed(list[i]);
-        i += 1;
+    for (i, c) in list[..n].iter().enumerate() {
+        flat[i] = packed(*c);
     }
 }
 
@@ -27,10 +25,8 @@ pub fn unpack(flat: &[u64], n: usize, out: &mut [Change])
     requires { (n ≤ length flat.now) × (n ≤ length out.old) }
     ensures { map packed_of out.new ≡ over (take n flat.now) (map packed_of out.old) }
 {
-    let mut filled: usize = 0;
-    while filled < n {
-        out[filled] = unpacked(flat[filled]);
-        filled += 1;
+    for (i, c) in flat[..n].iter().enumerate() {
+        out[i] = unpacked(*c);
     }
 }
 
@@ -40,18 +36,7 @@ pub fn copy_front(list: &[Change], n: usize, out: &mut [Change])
     ensures { map packed_of out.new
         ≡ over (take n (map packed_of list.now)) (map packed_of out.old) }
 {
-    let mut copied: usize = 0;
-    while copied < n {
-        out[copied] = list[copied];
-        copied += 1;
-    }
-}
-
-// Whether a change was off the sheet so far, or this one is.
-fn or_outside(off: bool, w: usize, h: usize, c: Change) -> bool
-    ensures { result ≡ off || flat.outside w h (flat.unpacked (packed_of c)) }
-{
-    either(off, is_outside(w, h, packed(c)))
+    out[..n].copy_from_slice(&list[..n]);
 }
 
 // Whether one of the first n changes of a list is off the sheet. The scan has no early exit.
@@ -60,15 +45,14 @@ pub fn any_outside(w: usize, h: usize, list: &[Change], n: usize) -> bool
     ensures { result ≡ some (flat.outside w h) (map flat.unpacked (take n (map packed_of list.now))) }
 {
     let mut off = false;
-    let mut i: usize = 0;
-    while i < n {
-        off = or_outside(off, w, h, list[i]);
-        i += 1;
+    for c in &list[..n] {
+        off = either(off, is_outside(w, h, packed(*c)));
     }
     off
 }
 
 // What a call answers that has too little scratch: 16, where nothing else refuses it.
+#[tactic(auto, unfolding(crate::specs::Scratch::no_room))]
 pub fn no_room(answer: Counted) -> Counted
     ensures { counted_told result ≡ no_room (counted_told answer) }
 {

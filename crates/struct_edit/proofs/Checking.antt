@@ -1,20 +1,19 @@
--- A list checked change by change: the loop stops where a check applies, and what is asked at first is asked at each. Assumes nothing.
+-- A list checked change by change: past the first change that a check applies to, the number and the marks stay. Assumes nothing.
 use mathlib.Core.Path.{◌≡◌, refl, sym, ap, ◌∙◌}
-use mathlib.Core.Bool.{Bool, not, ◌&&◌}
+use mathlib.Core.Bool.{Bool}
 use mathlib.Core.List.{List}
 use mathlib.Core.Logic.{◌⊎◌, inl, inr}
 use Prim.Native.Nat.{ℕ, zero, suc, ◌≤◌, ◌<◌}
-use native.Mathlib.Nat.{le_antisymm, eq-or-lt_of_le}
+use native.Mathlib.Nat.{eq-or-lt_of_le}
 use native.Mathlib.Omega.{arith}
-use lib.Dec.{T, eqb, ltb, nltb→le}
-use lib.ListN.{get_or}
+use lib.ListN.{get_or, take}
+use lib.Seq.{get_or-take}
 use Rattle.base.specs.Checks.{or_else, first_of}
 use Rattle.sheet.specs.Sheet.{Sheet}
 use Rattle.edit.specs.declared.ListKind.{ListKind}
 use Rattle.edit.specs.declared.ListKind.TheVariants.{NoList, PixelList, RemapList}
 use Rattle.edit.specs.Change as flat
 use Rattle.edit.specs.Checks.{change_checks}
-use Rattle.edit_checks.specs.Marks.{Checkable}
 use Rattle.base.specs.declared.Change.{Change}
 use Rattle.struct_edit.specs.Walk.{flat_of, none, mark_one, check_upto, mark_upto}
 
@@ -31,21 +30,9 @@ module _ (no : ℕ) (replay : Bool) (s : Sheet) (l : ListKind) (list : List Chan
   first-zero zero z = z
   first-zero (suc i) z = first-zero i (or-zero _ _ z)
 
-  pub checkable-at : (i : ℕ) {w h p m o : ℕ} → codes i ≡ 0 → o ≡ m → (no ≡ 0 → Checkable l w h p m) → Checkable l w h p o
-  checkable-at i z q fit = rw q (fit (first-zero i z))
-
   module _ (marks : List ℕ) where
     abbrev marking : ℕ → List ℕ
     marking i = mark_upto no replay s l list marks i
-
-    -- what `check_one` answers and leaves where the number so far is 0
-    pub checked-next : (i : ℕ) {r : ℕ} {after : List ℕ} → codes i ≡ 0
-        → (r ≡ first_of (change_checks replay s l (flat_of (get_or list i none)))) × (after ≡ mark_one r l s.w (flat_of (get_or list i none)) (marking i))
-        → (r ≡ codes (suc i)) × (after ≡ marking (suc i))
-    checked-next i {r} z e =
-        let c : flat.Change = flat_of (get_or list i none) in
-        let q : r ≡ codes (suc i) = e.0 ∙ sym (ap (λ (m : ℕ). or_else m (first_of (change_checks replay s l c))) z) in
-        (q, e.1 ∙ ap (λ (m : ℕ). mark_one m l s.w c (marking i)) q)
 
     abbrev Stays : ℕ → ℕ → Type 0
     Stays i n = (codes i ≡ codes n) × (marking i ≡ marking n)
@@ -70,10 +57,21 @@ module _ (no : ℕ) (replay : Bool) (s : Sheet) (l : ListKind) (list : List Chan
             let same : suc m ≡ codes (suc n) = sym (ap (λ (a : ℕ). or_else a (first_of (change_checks replay s l c))) number) in
             (e ∙ same, before.1 ∙ unmarked l s.w c m (marking n) ∙ ap (λ (a : ℕ). mark_one a l s.w c (marking n)) same)
 
-    -- the loop is left at the end, or where a check applies
-    pub stopped : (i n : ℕ) → i ≤ n → T (not (eqb (codes i) 0 && ltb i n)) → Stays i n
-    stopped i n h over = by_number (codes i) refl over
+    -- the answer is a number that is not 0
+    pub stays : (i n : ℕ) → (codes i ≡ 0 → ⊥) → i ≤ n → Stays i n
+    stays i n e h = by_number (codes i) refl
       where
-        by_number : (a : ℕ) → codes i ≡ a → T (not (eqb a 0 && ltb i n)) → Stays i n
-        by_number zero e over = let q : i ≡ n = le_antisymm h (nltb→le i n over) in (ap codes q, ap marking q)
-        by_number (suc m) e over = refused i n m e h
+        by_number : (a : ℕ) → codes i ≡ a → Stays i n
+        by_number zero q = absurd (e q)
+        by_number (suc m) q = refused i n m q h
+
+    -- that of the change at i, the first that a check applies to
+    pub stays-at : (i n : ℕ) {r : ℕ} {m after : List ℕ} → codes i ≡ 0 → m ≡ marking i → (r ≡ 0 → ⊥) → i < n
+        → (let c = flat_of (get_or (take n list) i none) in (r ≡ first_of (change_checks replay s l c)) × (after ≡ mark_one r l s.w c m)) → (r ≡ codes n) × (after ≡ marking n)
+    stays-at i n {r} {m} {after} z q e h d =
+        let c : flat.Change = flat_of (get_or list i none) in
+        let says : (r ≡ first_of (change_checks replay s l c)) × (after ≡ mark_one r l s.w c m) = rw get_or-take at d in
+        let number : r ≡ codes (suc i) = says.0 ∙ sym (ap (λ (a : ℕ). or_else a (first_of (change_checks replay s l c))) z) in
+        let marks : after ≡ marking (suc i) = says.1 ∙ ap (λ (a : ℕ). mark_one a l s.w c m) number ∙ ap (mark_one (codes (suc i)) l s.w c) q in
+        let rest : Stays (suc i) n = stays (suc i) n (λ p. e (number ∙ p)) h in
+        (number ∙ rest.0, marks ∙ rest.1)

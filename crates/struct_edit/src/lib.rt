@@ -36,6 +36,7 @@ pub fn walked(no: u8, n: usize) -> usize
 
 // The number of the first check that applies to one change of an edit's list, or 0. The olds are looked at on replay
 // alone. A removal's change to which no check applies is marked at its place.
+#[tactic(auto, unfolding(edit::specs::Checks::change_checks, crate::specs::Walk::mark_one))]
 pub fn check_one(
     kind: ListKind,
     replay: bool,
@@ -77,13 +78,16 @@ pub fn check_list(
         × (marks.new
         ≡ mark_upto no replay (bare w h k indices.now) kind list.now marks.old n) }
 {
-    let mut code = no;
-    let mut checked: usize = 0;
-    while (code == 0) & (checked < n) {
-        code = check_one(kind, replay, w, h, k, indices, marks, list[checked]);
-        checked += 1;
+    if no != 0 {
+        return no;
     }
-    code
+    for c in &list[..n] {
+        let code = check_one(kind, replay, w, h, k, indices, marks, *c);
+        if code != 0 {
+            return code;
+        }
+    }
+    0
 }
 
 // Writes a change into the part of the journal that starts at the offset, from `at` of it on.
@@ -96,6 +100,7 @@ fn put_at(form: Form, journal: &mut [u8], offset: usize, at: usize, w: usize, c:
 
 // Writes the bytes of change i of an edit's list into its record, which starts at the offset: in the part of the
 // journal that starts there. The old of a pixel is the picture's index.
+#[tactic(auto, unfolding(crate::specs::Walk::put_one, crate::specs::Walk::PutsOne))]
 pub fn put_one(
     kind: ListKind,
     form: Form,
@@ -116,14 +121,7 @@ pub fn put_one(
             let filled = filled_in(indices, w, n);
             put_at(form, journal, offset, 6 + list_bytes(form, i), w, filled)
         }
-        ListKind::RemapList { index: _ } => put_at(
-            form,
-            journal,
-            offset,
-            33 + list_bytes(form, i),
-            w,
-            n,
-        ),
+        ListKind::RemapList { .. } => put_at(form, journal, offset, 33 + list_bytes(form, i), w, n),
     }
 }
 
@@ -143,14 +141,13 @@ pub fn put_list(
     ensures { journal.new
         ≡ put_upto form kind offset w indices.now list.now journal.old n }
 {
-    let mut i: usize = 0;
-    while i < n {
-        put_one(kind, form, journal, offset, i, indices, w, list[i]);
-        i += 1;
+    for (i, c) in list[..n].iter().enumerate() {
+        put_one(kind, form, journal, offset, i, indices, w, *c);
     }
 }
 
 // Paints the new of a change of an edit's list at its place.
+#[tactic(auto, unfolding(edit::specs::List::painted_list, edit::specs::Change::painted))]
 pub fn paint_one(kind: ListKind, indices: &mut [i16], w: usize, c: Change)
     requires { Paintable kind w (length indices.old) (flat_of c ∷ []) }
     ensures { indices.new ≡ painted_list kind w (flat_of c ∷ []) indices.old }
@@ -158,8 +155,7 @@ pub fn paint_one(kind: ListKind, indices: &mut [i16], w: usize, c: Change)
     let n = packed(c);
     match kind {
         ListKind::NoList => (),
-        ListKind::PixelList => paint_new(indices, w, n),
-        ListKind::RemapList { index: _ } => paint_new(indices, w, n),
+        ListKind::PixelList | ListKind::RemapList { .. } => paint_new(indices, w, n),
     }
 }
 
@@ -168,9 +164,7 @@ pub fn paint_list(kind: ListKind, indices: &mut [i16], w: usize, list: &[Change]
     requires { (n ≤ length list.now) × (0 < n → Paintable kind w (length indices.old) (flat_all list.now)) }
     ensures { indices.new ≡ paint_upto kind w list.now indices.old n }
 {
-    let mut painted: usize = 0;
-    while painted < n {
-        paint_one(kind, indices, w, list[painted]);
-        painted += 1;
+    for change in &list[..n] {
+        paint_one(kind, indices, w, *change);
     }
 }

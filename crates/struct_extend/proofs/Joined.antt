@@ -3,10 +3,9 @@ use Prim.Native.Nat.{ℕ, ◌+◌, ◌≤◌, ◌<◌, ◌^◌, min}
 use mathlib.Core.Path.{◌≡◌, refl, ap, ◌∙◌}
 use mathlib.Core.List.{List, ◌++◌, map, map-append}
 use native.Mathlib.Omega.{arith}
-use native.Mathlib.Decide.{dec_lt}
-use borrow.Author.Tests.{lt-ltb, le-ltb}
 use lib.ListN.{length, take, drop}
 use lib.Seq.{take_all, length-take-le, take-append-le}
+use Rattle.std.proofs.lemmas.Grind.{common_steps}
 use Rattle.base.specs.Checks.{first_of}
 use Rattle.base.specs.Answer.{filled, Told, leaving}
 use Rattle.base.specs.declared.Counted.TheVariants.{Refused}
@@ -23,19 +22,6 @@ use Rattle.struct_extend.specs.Places.{room_for, extend_over}
 use Rattle.struct_change.proofs.Packing.{packed-front}
 
 module _ (flat more room count n : ℕ) where
-  pub room-flat : flat < count → 0 ≡ room_for flat more room count n
-  unfolding room_for
-  room-flat h = rw (lt-ltb flat count h)
-
-  module _ (h : count ≤ flat) where
-    pub room-more : more < n → 0 ≡ room_for flat more room count n
-    unfolding room_for
-    room-more k = rw (le-ltb flat count h, lt-ltb more n k)
-
-    pub room-all : n ≤ more → room ≡ room_for flat more room count n
-    unfolding room_for
-    room-all k = rw (le-ltb flat count h, le-ltb more n k)
-
   -- what has room for both lists has their places
   pub record Enough : Type 0 where
     pub first : count ≤ flat
@@ -43,13 +29,8 @@ module _ (flat more room count n : ℕ) where
     pub both : count + n ≤ room
 
   pub enough : count + n ≤ room_for flat more room count n → Enough
-  enough e = elim (dec_lt flat count) [
-    | yes h ↦ let z = room-flat h in absurd (omega arith)
-    | no h ↦ elim (dec_lt more n) [
-      | yes k ↦ let z = room-more (omega arith) k in absurd (omega arith)
-      | no k ↦ let z = room-all (omega arith) (omega arith) in record { first = omega arith; second = omega arith; both = omega arith }
-    ]
-  ]
+  unfolding room_for
+  enough e = record { first = grind (arith, common_steps); second = grind (arith, common_steps); both = grind (arith, common_steps) }
 
 -- what it means that no check applies
 pub record Ready (flat more room count n places : ℕ) : Type 0 where
@@ -101,6 +82,3 @@ stroke-front stroke flat zs count m q l d h k =
 
 pub list-front : (list more zs : List ℕ) (n m : ℕ) → length list ≡ n → m ≡ min n (length more) → length zs ≡ length more → zs ≡ over (take m list) more → n ≤ length zs → take n zs ≡ list
 list-front list more zs n m e q l d h = packed-front list more zs n m e q l d ∙ take_all (length zs) list (omega arith)
-
-pub three-fit : (a b c m : ℕ) → m ≡ min (min a b) c → (m ≤ b) × (m ≤ c)
-three-fit a b c m e = (omega arith, omega arith)

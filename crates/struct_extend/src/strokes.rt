@@ -1,19 +1,20 @@
 // `Stroke::extend` of tools.rs: the stroke and the list are packed into lent buffers of numbers and normalised in
 // another, and the structs are filled from there.
-ghost use Rattle.std.specs.Prelude.{◌≡◌, List, map, ℕ, ◌≤◌, min, length, take};
+ghost use Rattle.std.specs.Prelude.{◌≡◌, List, map, ℕ, ◌≤◌, length, take};
 ghost use Rattle.base.specs.Answer.{filled};
 ghost use Rattle.change_list.specs.Listed.{count_of, InScratch};
 ghost use Rattle.struct_change.specs.Struct.{packed_of};
 ghost use Rattle.change_stroke.specs.Stroke.{extend_call};
 ghost use Rattle.struct_extend.specs.Places.{room_for, extend_over};
 
-use base::{Change, Counted, min_usize};
+use base::{Change, Counted};
 use change_list::{count_of, counted};
 use change_normal::normalize_joined;
 use change_stroke::extend_no;
 use struct_change::{pack, unpack};
 
 // The scratch's places, or none where a buffer has too few for its list.
+#[tactic(auto, unfolding(crate::specs::Places::room_for))]
 fn room_for(flat: usize, more: usize, room: usize, count: usize, n: usize) -> usize
     ensures { result ≡ room_for flat more room count n }
 {
@@ -24,13 +25,6 @@ fn room_for(flat: usize, more: usize, room: usize, count: usize, n: usize) -> us
         return 0;
     }
     room
-}
-
-// The least of three numbers.
-fn least_of(a: usize, b: usize, c: usize) -> usize
-    ensures { result ≡ min (min a b) c }
-{
-    min_usize(min_usize(a, b), c)
 }
 
 // The extended stroke, left in the scratch, where flat has the stroke's first `count` changes and more the n of the
@@ -59,7 +53,8 @@ fn extend_packed(
     counted(k, places)
 }
 
-// `change_stroke::extend`. Flat has a place for each change of the stroke and more for each of the list, or the answer is 16.
+// `change_stroke::extend`. Flat has a place for each change of the stroke and more for each of the list, or the
+// answer is 16.
 pub fn extend(
     stroke: &mut [Change],
     count: usize,
@@ -77,9 +72,9 @@ pub fn extend(
         × (length scratch.new ≡ length scratch.old) }
 {
     let n = list.len();
-    let held = least_of(count, stroke.len(), flat.len());
+    let held = count.min(stroke.len()).min(flat.len());
     pack(stroke, held, flat);
-    let m = min_usize(n, more.len());
+    let m = n.min(more.len());
     pack(list, m, more);
     let r = extend_packed(flat, count, more, n, stroke.len(), scratch);
     let total = count_of(r);

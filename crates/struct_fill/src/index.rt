@@ -7,7 +7,7 @@ ghost use Rattle.struct_change.specs.Struct.{packed_of};
 ghost use Rattle.tool_fill_model.specs.Fills.{replace_color_of, fill_global_of};
 ghost use Rattle.struct_change.specs.Scratch.{needing};
 
-use base::{Change, Counted, min_usize};
+use base::{Change, Counted};
 use change_list::count_of;
 use selection::Area;
 use struct_change::{no_room, unpack};
@@ -45,7 +45,7 @@ fn replace_color_in(
         );
         return no_room(r);
     }
-    let m = min_usize(room, scratch.len());
+    let m = room.min(scratch.len());
     tool_replace::replace_color(
         w,
         h,
@@ -132,7 +132,7 @@ fn fill_global_in(
         );
         return no_room(r);
     }
-    let m = min_usize(room, scratch.len());
+    let m = room.min(scratch.len());
     tool_replace::fill_global(
         w,
         h,

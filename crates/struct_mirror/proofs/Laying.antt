@@ -63,16 +63,6 @@ module _ (s : Sheet) (a : Area) (on : Bool) (t : ℕ) (touched : Bool) (n : ℕ)
 
 -- ---- a list of structs that is read where it is touched, and packed as far as the buffer has places
 module _ (w h t : ℕ) (on : Bool) (n : ℕ) (touched : Bool) (read : ℕ) (is : touched ≡ touching on n t w h) (reads : read ≡ read_of touched n) where
-  pub read_fits : read ≤ n
-  read_fits = rw reads (some_or_none touched)
-    where
-      some_or_none : (b : Bool) → read_of b n ≤ n
-      some_or_none true = omega arith
-      some_or_none false = omega arith
-
-  pub pack-fits : (flat : List ℕ) (m : ℕ) → m ≡ min read (length flat) → (m ≤ n) × (m ≤ length flat)
-  pack-fits flat m q = let b = read_fits in (omega arith, omega arith)
-
   read_all : touching on n t w h ≡ true → read ≡ n
   read_all y = reads ∙ ap (λ (b : Bool). read_of b n) (is ∙ y)
 

@@ -1,6 +1,6 @@
-// `mirror_tiles` of tools.rs as makers hold it: the list of changes is a lent slice of structs, to read and to fill. Its
-// contract is the flat call's own definition at the numbers that the structs stand for; the one thing asked for beyond it
-// is a buffer for those numbers.
+// `mirror_tiles` of tools.rs as makers hold it: the list of changes is a lent slice of structs, to read and to
+// fill. Its contract is the flat call's own definition at the numbers that the structs stand for; the one thing
+// asked for beyond it is a buffer for those numbers.
 //
 // Two buffers of numbers are lent as scratch; what they hold after the call is free.
 #![tactic(auto)]
@@ -13,16 +13,16 @@ ghost use Rattle.sheet.specs.Sheet.{sheet_of};
 ghost use Rattle.struct_change.specs.Struct.{packed_of};
 ghost use Rattle.struct_mirror.specs.Lent.{mirror_lent};
 
-use base::{Change, Counted, min_usize};
+use base::{Change, Counted};
 use packed::mirror_packed;
 use selection::Area;
 use struct_change::{any_outside, copy_front, pack, unpack};
 use struct_mirror_list::{kept_of, made_of, read_of};
 use tile_mirror_checks::is_touching;
 
-// `tile_mirror::mirror_tiles`. The scratch has a place for each of the sheet's, as there. Flat has a place a change where the
-// list is touched; with fewer the answer is 16, where nothing else refuses the call. A list that is handed back untouched
-// needs none.
+// `tile_mirror::mirror_tiles`. The scratch has a place for each of the sheet's, as there. Flat has a place a
+// change where the list is touched; with fewer the answer is 16, where nothing else refuses the call. A list that
+// is handed back untouched needs none.
 pub fn mirror_tiles(
     w: usize,
     h: usize,
@@ -51,7 +51,7 @@ pub fn mirror_tiles(
     let touched = is_touching(on, n, t, w, h);
     let read = read_of(touched, n);
     let off = any_outside(w, h, list, read);
-    let m = min_usize(read, places);
+    let m = read.min(places);
     pack(list, m, flat);
     let r = mirror_packed(
         w, h, k, palette, lab, indices, area, on, t, off, flat, n, scratch, room,

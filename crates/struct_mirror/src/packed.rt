@@ -31,7 +31,8 @@ pub(crate) fn mirror_packed(
     scratch: &mut [u64],
     room: usize,
 ) -> Counted
-    requires { touching on n t w h ≡ true → n ≤ length flat.now → off ≡ some (outside w h) (map unpacked (take n flat.now)) }
+    requires { touching on n t w h ≡ true → n ≤ length flat.now
+        → off ≡ some (outside w h) (map unpacked (take n flat.now)) }
     ensures { (list : List ℕ) → length list ≡ n → off ≡ straying (touching on n t w h) w h list
         → (touching on n t w h ≡ true → n ≤ length flat.now → take n flat.now ≡ list)
         → Laid (made_of (touching on n t w h) result) (kept_of (touching on n t w h) result) room scratch.new list

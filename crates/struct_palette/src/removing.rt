@@ -7,7 +7,7 @@ ghost use Rattle.struct_change.specs.Struct.{packed_of};
 ghost use Rattle.palette_model.specs.Removal.{remapped, replaced, remove_entry_of, merge_entries_of};
 ghost use Rattle.struct_palette.specs.Scratch.{removal_count, removed_count, no_removal, needing_remap};
 
-use base::{Change, NO_SPACE, Removal, Removed, min_usize};
+use base::{Change, NO_SPACE, Removal, Removed};
 use struct_change::unpack;
 
 // How many changes `remove_entry` has, none where it was refused.
@@ -15,27 +15,18 @@ fn removed_count(answer: Removed) -> usize
     ensures { result ≡ removed_count answer }
 {
     match answer {
-        Removed::Made {
-            edit: _,
-            count,
-            into: _,
-            distance: _,
-        } => count,
+        Removed::Made { count, .. } => count,
         Removed::Refused(_) => 0,
     }
 }
 
 // What `remove_entry` answers with too little scratch: 16, where nothing else refuses it.
+#[tactic(auto, unfolding(crate::specs::Scratch::no_removal))]
 fn none_removed(answer: Removed) -> Removed
     ensures { removed_told result ≡ no_removal (removed_told answer) }
 {
     match answer {
-        Removed::Made {
-            edit: _,
-            count: _,
-            into: _,
-            distance: _,
-        } => Removed::Refused(NO_SPACE),
+        Removed::Made { .. } => Removed::Refused(NO_SPACE),
         Removed::Refused(no) => Removed::Refused(no),
     }
 }
@@ -71,7 +62,7 @@ fn remove_entry_in(
         );
         return none_removed(r);
     }
-    let m = min_usize(room, scratch.len());
+    let m = room.min(scratch.len());
     palette_remove::remove_entry(
         w,
         h,
@@ -126,17 +117,18 @@ fn removal_count(answer: Removal) -> usize
     ensures { result ≡ removal_count answer }
 {
     match answer {
-        Removal::Made { edit: _, count } => count,
+        Removal::Made { count, .. } => count,
         Removal::Refused(_) => 0,
     }
 }
 
 // What `merge_entries` answers with too little scratch: 16, where nothing else refuses it.
+#[tactic(auto, unfolding(crate::specs::Scratch::no_removal))]
 fn no_removal(answer: Removal) -> Removal
     ensures { removal_told result ≡ no_removal (removal_told answer) }
 {
     match answer {
-        Removal::Made { edit: _, count: _ } => Removal::Refused(NO_SPACE),
+        Removal::Made { .. } => Removal::Refused(NO_SPACE),
         Removal::Refused(no) => Removal::Refused(no),
     }
 }
@@ -174,7 +166,7 @@ fn merge_entries_in(
         );
         return no_removal(r);
     }
-    let m = min_usize(room, scratch.len());
+    let m = room.min(scratch.len());
     palette_remove::merge_entries(
         w,
         h,

@@ -6,7 +6,7 @@ ghost use Rattle.change_list.specs.Listed.{count_of, InScratch};
 ghost use Rattle.struct_change.specs.Struct.{packed_of};
 ghost use Rattle.change_op.specs.Op.{normalize_call, made, made_count, pixels_call};
 
-use base::{Change, Counted, LIST_TOO_LONG, MAX_CHANGES, MadeOp, NO_SPACE, min_usize};
+use base::{Change, Counted, LIST_TOO_LONG, MAX_CHANGES, MadeOp, NO_SPACE};
 use change_list::count_of;
 use change_op::{made_count, normalize_in, pixels_of};
 use struct_change::{pack, unpack};
@@ -50,7 +50,7 @@ pub fn normalize(
         × (length scratch.new ≡ length scratch.old) }
 {
     let n = list.len();
-    let m = min_usize(n, flat.len());
+    let m = n.min(flat.len());
     pack(list, m, flat);
     let r = normalize_packed(flat, n, scratch, out.len());
     let count = count_of(r);
@@ -73,7 +73,7 @@ pub fn pixels(
         × (length scratch.new ≡ length scratch.old) }
 {
     let n = list.len();
-    let m = min_usize(n, flat.len());
+    let m = n.min(flat.len());
     pack(list, m, flat);
     let r = pixels_packed(tool, flat, n, scratch, out.len());
     let count = made_count(r);

@@ -7,12 +7,10 @@ use base::{
     Removed, Truth,
 };
 use selection::{Chosen, Shifted};
-use test_inputs::{
-    Outcome, mix, mix_doubles, mix_edit, mix_index, mix_number, mix_part, mix_sizes, told,
-};
+use test_inputs::{Outcome, mix, mix_all, mix_number, told};
 
 // No value: "still", nothing, outside, free.
-const NONE: u8 = 255;
+pub const NONE: u8 = 255;
 
 pub const FREE: usize = 7777;
 
@@ -26,13 +24,13 @@ pub fn of_word(word: u64) -> Outcome {
 }
 
 pub fn of_flag(b: bool) -> Outcome {
-    of_word(if b { 1 } else { 0 })
+    of_word(b.into())
 }
 
 // A number, and two more.
 fn of_two(no: u8, first: usize, second: usize) -> Outcome {
     let r = [first, second, FREE, FREE, FREE];
-    told(no, mix_sizes(mix_number(no), &r))
+    told(no, mix_all(mix_number(no), &r))
 }
 
 fn of_none(no: u8) -> Outcome {
@@ -48,8 +46,7 @@ pub fn of_counted(c: Counted) -> Outcome {
 
 // The distance that is handed back beside an answer.
 fn with_distance(t: Outcome, distance: f64) -> Outcome {
-    let away = [distance];
-    told(t.number, mix_doubles(t.print, &away))
+    told(t.number, mix_all(t.print, &[distance]))
 }
 
 pub fn of_found(f: Found) -> Outcome {
@@ -83,13 +80,13 @@ pub fn of_extraction(e: Extraction) -> Outcome {
 
 pub fn of_truth(t: Truth) -> Outcome {
     match t {
-        Truth::Is(b) => of_two(0, if b { 1 } else { 0 }, FREE),
+        Truth::Is(b) => of_two(0, b.into(), FREE),
         Truth::Refused(no) => of_none(no),
     }
 }
 
 fn of_index(no: u8, index: i16) -> Outcome {
-    told(no, mix_index(mix_number(no), index))
+    told(no, mix_all(mix_number(no), &[index]))
 }
 
 pub fn of_got(g: Got) -> Outcome {
@@ -110,8 +107,8 @@ fn chosen_no(c: Chosen) -> u8 {
 
 fn mix_chosen(print: u64, c: Chosen) -> u64 {
     match c {
-        Chosen::Part(p) => mix_part(print, &[p.x, p.y, p.w, p.h]),
-        _ => mix_part(print, &[7777, 7777, 7777, 7777]),
+        Chosen::Part(p) => mix_all(print, &[p.x, p.y, p.w, p.h]),
+        _ => mix_all(print, &[FREE; 4]),
     }
 }
 
@@ -140,16 +137,12 @@ struct Plain {
     doubles: [f64; 3],
 }
 
-fn byte_of(mark: bool) -> u8 {
-    if mark { 1 } else { 0 }
-}
-
 fn numbers_of(e: Edit) -> Plain {
     match e {
         Edit::Pixels { tool } => Plain {
             index: FREE,
             bytes: [1, tool, 0x5a, 0x5a, 0x5a, 0x5a, 0x5a, 0x5a],
-            doubles: [1.5, 1.5, 1.5],
+            doubles: [1.5; 3],
         },
         Edit::PaletteSet {
             index,
@@ -164,7 +157,7 @@ fn numbers_of(e: Edit) -> Plain {
         Edit::PaletteAdd { rgb } => Plain {
             index: FREE,
             bytes: [3, 0x5a, 0x5a, 0x5a, 0x5a, rgb.r, rgb.g, rgb.b],
-            doubles: [1.5, 1.5, 1.5],
+            doubles: [1.5; 3],
         },
         Edit::PaletteRemove { index, rgb, lab } => Plain {
             index,
@@ -173,21 +166,17 @@ fn numbers_of(e: Edit) -> Plain {
         },
         Edit::PaletteLock { index, old, new } => Plain {
             index,
-            bytes: [5, 0x5a, byte_of(old), 0x5a, 0x5a, byte_of(new), 0x5a, 0x5a],
-            doubles: [1.5, 1.5, 1.5],
+            bytes: [5, 0x5a, old.into(), 0x5a, 0x5a, new.into(), 0x5a, 0x5a],
+            doubles: [1.5; 3],
         },
     }
 }
 
 // A number, an edit, and what is told beside it.
 fn of_plain(no: u8, p: Plain, beside: [usize; 4]) -> Outcome {
-    let bytes = p.bytes;
-    let doubles = p.doubles;
-    let r = [p.index, beside[0], beside[1], beside[2], beside[3]];
-    told(
-        no,
-        mix_edit(mix_sizes(mix_number(no), &r), &bytes, &doubles),
-    )
+    let index = mix_all(mix_number(no), &[p.index]);
+    let edit = mix_all(mix_all(mix_all(index, &beside), &p.bytes), &p.doubles);
+    told(no, edit)
 }
 
 fn of_edit(e: Edit, beside: [usize; 4]) -> Outcome {
@@ -198,16 +187,16 @@ fn of_edit(e: Edit, beside: [usize; 4]) -> Outcome {
 fn of_no_edit(no: u8, beside: [usize; 4]) -> Outcome {
     let p = Plain {
         index: FREE,
-        bytes: [0x5a, 0x5a, 0x5a, 0x5a, 0x5a, 0x5a, 0x5a, 0x5a],
-        doubles: [1.5, 1.5, 1.5],
+        bytes: [0x5a; 8],
+        doubles: [1.5; 3],
     };
     of_plain(no, p, beside)
 }
 
 pub fn of_made(m: MadeEdit) -> Outcome {
     match m {
-        MadeEdit::Edit(e) => of_edit(e, [FREE, FREE, FREE, FREE]),
-        MadeEdit::Refused(no) => of_no_edit(no, [FREE, FREE, FREE, FREE]),
+        MadeEdit::Edit(e) => of_edit(e, [FREE; 4]),
+        MadeEdit::Refused(no) => of_no_edit(no, [FREE; 4]),
     }
 }
 
@@ -219,14 +208,14 @@ pub fn of_removed(m: Removed) -> Outcome {
             into,
             distance,
         } => with_distance(of_edit(edit, [count, into, FREE, FREE]), distance),
-        Removed::Refused(no) => with_distance(of_no_edit(no, [FREE, FREE, FREE, FREE]), 1.5),
+        Removed::Refused(no) => with_distance(of_no_edit(no, [FREE; 4]), 1.5),
     }
 }
 
 pub fn of_removal(m: Removal) -> Outcome {
     match m {
         Removal::Made { edit, count } => of_edit(edit, [count, FREE, FREE, FREE]),
-        Removal::Refused(no) => of_no_edit(no, [FREE, FREE, FREE, FREE]),
+        Removal::Refused(no) => of_no_edit(no, [FREE; 4]),
     }
 }
 
@@ -247,7 +236,7 @@ pub fn of_next(n: Next) -> Outcome {
             list,
             count,
         } => of_edit(edit, [start, length, list, count]),
-        Next::Nothing => of_no_edit(NONE, [FREE, FREE, FREE, FREE]),
-        Next::Refused(no) => of_no_edit(no, [FREE, FREE, FREE, FREE]),
+        Next::Nothing => of_no_edit(NONE, [FREE; 4]),
+        Next::Refused(no) => of_no_edit(no, [FREE; 4]),
     }
 }

@@ -2,15 +2,15 @@
 use base::{Counted, Edit, Lab, Rgb, Root, Triple, Truth};
 use change_stroke::Stroke;
 use selection::{Chosen, Held, Selection};
-use test_answers::{FREE, of_chosen, of_counted, of_flag, of_number, of_op, of_word};
+use test_answers::{FREE, NONE, of_chosen, of_counted, of_flag, of_number, of_op, of_word};
 use test_inputs::{
-    Hand, Outcome, colour, colours, curve, fill_indices, fill_list, lent_values, mix, mix_doubles,
-    mix_indices, mix_number, mix_points, mix_words, told,
+    Hand, Outcome, colour, colours, curve, fill_indices, fill_list, lent_values, mix, mix_all,
+    mix_number, told,
 };
 use test_lists::{extend, normalize, pixels};
 
 fn of_double(x: f64) -> Outcome {
-    told(0, mix_doubles(mix_number(0), &[x]))
+    told(0, mix_all(mix_number(0), &[x]))
 }
 
 // The distance of two colours, which are now and then the same.
@@ -22,7 +22,7 @@ fn dist2(a: Hand) -> f64 {
 
 fn rgb8_to_lab(a: Hand) -> Outcome {
     let c = editor::rgb8_to_lab(colour(a.seeds.colour));
-    told(0, mix_doubles(mix_number(0), &[c.l, c.a, c.b]))
+    told(0, mix_all(mix_number(0), &[c.l, c.a, c.b]))
 }
 
 fn rgb8_to_lab_by(a: Hand) -> Outcome {
@@ -30,31 +30,22 @@ fn rgb8_to_lab_by(a: Hand) -> Outcome {
     let values = curve(a.seeds.curve, rule);
     let rgb = colour(a.seeds.colour);
     match editor::rgb8_to_lab_by(a.choice.loaded, lent_values(&values, rule), rgb) {
-        Triple::Value(c) => told(0, mix_doubles(mix_number(0), &[c.l, c.a, c.b])),
-        Triple::Refused(no) => told(no, mix_doubles(mix_number(no), &[1.5, 1.5, 1.5])),
+        Triple::Value(c) => told(0, mix_all(mix_number(0), &[c.l, c.a, c.b])),
+        Triple::Refused(no) => told(no, mix_all(mix_number(no), &[1.5; 3])),
     }
 }
 
 fn cbrt(a: Hand) -> Outcome {
     match editor::cbrt(a.choice.radicand) {
-        Root::Value(x) => told(0, mix_doubles(mix_number(0), &[x, 1.5, 1.5])),
-        Root::Refused(no) => told(no, mix_doubles(mix_number(no), &[1.5, 1.5, 1.5])),
-    }
-}
-
-// The number of the first n bytes of a list.
-fn front_no(limited: bool, list: &[u8], n: usize) -> u8 {
-    if n <= list.len() {
-        sheet::permitted_no(limited, &list[..n])
-    } else {
-        0
+        Root::Value(x) => told(0, mix_all(mix_number(0), &[x, 1.5, 1.5])),
+        Root::Refused(no) => told(no, mix_all(mix_number(no), &[1.5; 3])),
     }
 }
 
 // A list of up to 4 bytes.
 fn permitted_no(a: Hand) -> u8 {
     let list = colours(a.seeds.listed);
-    front_no(a.choice.even, &list, a.choice.size)
+    sheet::permitted_no(a.choice.even, &list[..a.choice.size.min(list.len())])
 }
 
 fn check_color(a: Hand) -> u8 {
@@ -87,22 +78,22 @@ fn chosen(c: usize, a: Hand) -> Chosen {
 fn contains_i(a: Hand) -> Outcome {
     match a.spot.part.contains_i(a.spot.x, a.spot.far_y) {
         Held::Inside => of_word(1),
-        Held::Outside => told(255, mix(mix_number(255), 255)),
-        Held::Refused(no) => told(no, mix(mix_number(no), no as u64)),
+        Held::Outside => told(NONE, mix_all(mix_number(NONE), &[NONE])),
+        Held::Refused(no) => told(no, mix_all(mix_number(no), &[no])),
     }
 }
 
 fn positions(a: Hand) -> Outcome {
     let mut out = [0x5a5a_5a5ai32; 7];
     let t = of_counted(a.spot.part.positions(&mut out));
-    told(t.number, mix_points(t.print, &out))
+    told(t.number, mix_all(t.print, &out))
 }
 
 fn bresenham(a: Hand) -> Outcome {
     let p = a.spot;
     let mut out = [0x5a5a_5a5ai32; 11];
     let t = of_counted(editor::bresenham(p.x, p.y, p.to_x, p.to_y, &mut out));
-    told(t.number, mix_points(t.print, &out))
+    told(t.number, mix_all(t.print, &out))
 }
 
 fn normalized(a: Hand) -> Outcome {
@@ -111,7 +102,7 @@ fn normalized(a: Hand) -> Outcome {
     let mut out = [0x5a5a_5a5a_5a5a_5a5au64; 4];
     fill_list(a.seeds.seed, &mut list);
     let t = of_counted(normalize(&list, &mut scratch, &mut out));
-    told(t.number, mix_words(t.print, &out))
+    told(t.number, mix_all(t.print, &out))
 }
 
 fn made(a: Hand) -> Outcome {
@@ -124,7 +115,7 @@ fn made(a: Hand) -> Outcome {
         FREE,
         FREE,
     );
-    told(t.number, mix_words(t.print, &out))
+    told(t.number, mix_all(t.print, &out))
 }
 
 // An edit of the kind, with the tool, the entry, the colours or the marks that are dealt.
@@ -168,7 +159,7 @@ pub(crate) fn edit(a: Hand) -> Edit {
 
 fn one_if(t: Truth) -> u64 {
     match t {
-        Truth::Is(b) => { if b { 1 } else { 0 } }
+        Truth::Is(b) => b.into(),
         Truth::Refused(_) => 0,
     }
 }
@@ -199,7 +190,7 @@ fn extended(a: Hand) -> Outcome {
     fill_list(a.seeds.event, &mut event);
     let count = count_or(normalize(&list, &mut scratch, &mut stroke), FREE);
     let t = of_counted(extend(&mut stroke, count, &event, &mut scratch));
-    told(t.number, mix_words(t.print, &stroke))
+    told(t.number, mix_all(t.print, &stroke))
 }
 
 // A stroke of up to four changes in normal form: at x = 0, 1, 2 and 3, from 0 to 1.
@@ -238,7 +229,7 @@ fn flip(a: Hand) -> Outcome {
         &mut out,
     );
     let t = of_counted(flipped);
-    told(t.number, mix_indices(t.print, &out))
+    told(t.number, mix_all(t.print, &out))
 }
 
 fn listed(c: usize, a: Hand) -> Outcome {
@@ -261,7 +252,7 @@ pub fn bare_answer(c: usize, a: Hand) -> Outcome {
         28 | 29 | 32 | 33 | 35 => of_chosen(chosen(c, a)),
         30 => of_flag(a.spot.part.contains(a.spot.across, a.spot.down)),
         31 => contains_i(a),
-        40 => of_word(editor::kind(edit(a)) as u64),
+        40 => of_word(editor::kind(edit(a)).into()),
         43 => of_number(check_color(a)),
         59 => of_double(editor::linear(a.choice.byte)),
         60 => of_double(dist2(a)),

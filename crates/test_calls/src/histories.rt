@@ -4,15 +4,14 @@ use crate::bare::edit;
 use base::{Form, Handle, Moved, Removal};
 use test_answers::{of_next, of_truth};
 use test_inputs::{
-    Hand, Outcome, colours, curve, fill_list, lent_values, mix_bytes, mix_doubles, mix_indices,
-    mix_locks, mix_number, mix_sizes, told,
+    Hand, Outcome, colours, curve, fill_list, lent_values, mix_all, mix_number, told,
 };
 use test_lists::{mark_saved, merge, push, redo, replay, undo};
 
 // The number, and the palette count and the handle.
 pub fn told_state(no: u8, k: usize, s: Handle) -> Outcome {
     let state = [k, s.offset, s.end, s.position, s.count, s.saved];
-    told(no, mix_sizes(mix_number(no), &state))
+    told(no, mix_all(mix_number(no), &state))
 }
 
 // The same, and but for `mark_saved` all that is lent.
@@ -25,13 +24,12 @@ pub fn told_change(
     locks: &[bool],
     journal: &[u8],
 ) -> Outcome {
-    let answer = m.answer;
-    let t = told_state(answer.number(), m.k, m.handle);
+    let t = told_state(m.answer.number(), m.k, m.handle);
     if c == 48 {
         return t;
     }
-    let sheet = mix_indices(mix_doubles(mix_bytes(t.print, palette), lab), indices);
-    told(t.number, mix_bytes(mix_locks(sheet, locks), journal))
+    let sheet = mix_all(mix_all(mix_all(t.print, palette), lab), indices);
+    told(t.number, mix_all(mix_all(sheet, locks), journal))
 }
 
 fn removal_count(r: Removal) -> usize {
@@ -62,7 +60,7 @@ fn fill_edit(
 
 // The first n changes of a list, or all of them.
 fn front(list: &[u64], n: usize) -> &[u64] {
-    if n <= list.len() { &list[..n] } else { list }
+    &list[..n.min(list.len())]
 }
 
 fn pushed(
@@ -138,12 +136,10 @@ fn redone(
 
 fn marked(m: Moved, form: Form, journal: &[u8]) -> Moved {
     let s = mark_saved(form, journal, m.handle);
-    let answer = s.answer;
-    let handle = s.handle;
     Moved {
-        answer,
+        answer: s.answer,
         k: m.k,
-        handle,
+        handle: s.handle,
     }
 }
 
@@ -180,12 +176,10 @@ fn replayed(
         &list,
         &mut scratch,
     );
-    let answer = s.answer;
-    let handle = m.handle;
     Moved {
-        answer,
+        answer: s.answer,
         k: s.k,
-        handle,
+        handle: m.handle,
     }
 }
 
@@ -224,11 +218,10 @@ fn convert(
     out: &mut [u8],
 ) -> Outcome {
     let c = editor::convert(w, h, form, journal, handle, out);
-    let answer = c.answer;
     let s = c.handle;
-    let no = answer.number();
+    let no = c.answer.number();
     let moved = [s.offset, s.end, s.position, s.count, s.saved];
-    told(no, mix_bytes(mix_sizes(mix_number(no), &moved), out))
+    told(no, mix_all(mix_all(mix_number(no), &moved), out))
 }
 
 // The same into some bytes, which may be too few.
@@ -265,9 +258,7 @@ pub fn look(
 // Changes a byte of the journal, now and then.
 pub fn damage(a: Hand, journal: &mut [u8]) {
     let at = a.seeds.place;
-    if a.seeds.hit {
-        if at < journal.len() {
-            journal[at] = a.choice.byte;
-        }
+    if a.seeds.hit && at < journal.len() {
+        journal[at] = a.choice.byte;
     }
 }

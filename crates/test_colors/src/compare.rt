@@ -14,34 +14,19 @@ pub struct Tally {
 
 // Whether x and y differ by at most `most`.
 fn close(x: f64, y: f64, most: f64) -> bool {
-    let d = x - y;
-    if d < 0.0 { -d <= most } else { d <= most }
+    (x - y).abs() <= most
 }
 
 // Whether each coordinate differs by at most `most`.
 fn all_close(ours: Lab, printed: [f64; 3], most: f64) -> bool {
-    if close(ours.l, printed[0], most) {
-        if close(ours.a, printed[1], most) {
-            return close(ours.b, printed[2], most);
-        }
-    }
-    false
-}
-
-// 1 for true, 0 for false.
-fn one_if(b: bool) -> usize
-    ensures { result ≤ 1 }
-{
-    if b { 1 } else { 0 }
+    close(ours.l, printed[0], most)
+        && close(ours.a, printed[1], most)
+        && close(ours.b, printed[2], most)
 }
 
 // The LAB of a colour's three bytes.
-fn lab_of(c: [u8; 3]) -> Lab {
-    color::rgb8_to_lab(Rgb {
-        r: c[0],
-        g: c[1],
-        b: c[2],
-    })
+fn lab_of([r, g, b]: [u8; 3]) -> Lab {
+    color::rgb8_to_lab(Rgb { r, g, b })
 }
 
 // The count of one row.
@@ -51,8 +36,8 @@ fn one_row(colour: [u8; 3], printed: [f64; 3], half: f64) -> Tally
     let ours = lab_of(colour);
     Tally {
         rows: 1,
-        agree: one_if(all_close(ours, printed, half)),
-        near: one_if(all_close(ours, printed, 0.01)),
+        agree: all_close(ours, printed, half).into(),
+        near: all_close(ours, printed, 0.01).into(),
     }
 }
 
@@ -82,10 +67,8 @@ pub fn count(colours: &[[u8; 3]], printed: &[[f64; 3]], half: f64) -> Tally
         agree: 0,
         near: 0,
     };
-    let mut i: usize = 0;
-    while i < colours.len() {
-        t = plus(t, one_row(colours[i], printed[i], half));
-        i += 1;
+    for (colour, shown) in colours.iter().zip(printed) {
+        t = plus(t, one_row(*colour, *shown, half));
     }
     t
 }

@@ -15,12 +15,10 @@ fn rise(x: u64) -> f64 {
 fn fill_rising(seed: u64, values: &mut [f64; 256]) {
     let mut x = seed;
     let mut v = 0.0;
-    let mut i: usize = 0;
-    while i < 256 {
-        values[i] = v;
+    for value in values.iter_mut() {
+        *value = v;
         x = next(x);
-        v = v + rise(x);
-        i += 1;
+        v += rise(x);
     }
 }
 
@@ -53,10 +51,5 @@ fn count(rule: usize) -> usize {
 
 // The values that are lent.
 pub fn lent_values(values: &[f64], rule: usize) -> &[f64] {
-    let n = count(rule);
-    if n <= values.len() {
-        &values[..n]
-    } else {
-        values
-    }
+    &values[..count(rule).min(values.len())]
 }

@@ -13,20 +13,26 @@ pub fn next(x: u64) -> u64 {
 
 // A word taken into a running number.
 pub fn mix(h: u64, word: u64) -> u64 {
-    next(std::num::wrapping_add_u64(h ^ word, 0x9e37_79b9_7f4a_7c15))
+    next((h ^ word).wrapping_add(0x9e37_79b9_7f4a_7c15))
 }
 
 // The numbers that a call's inputs are picked by; the first eight are not used.
 pub fn deck(seed: u64) -> [u64; 32] {
     let mut d = [0u64; 32];
-    let mut x = mix(mix(mix(0, seed), seed), seed);
-    let mut i: usize = 0;
-    while i < 32 {
-        x = next(x);
-        d[i] = x;
-        i += 1;
-    }
+    fill(mix(mix(mix(0, seed), seed), seed), &mut d, |x| x);
     d
+}
+
+// Deals each place from the next number of the sequence after the seed.
+fn fill<T: Copy, F: Fn(u64) -> T>(seed: u64, out: &mut [T], deal: F)
+    requires { F.IsAlwaysCallable deal }
+    ensures { length out.new ≡ length out.old }
+{
+    let mut x = seed;
+    for place in out.iter_mut() {
+        x = next(x);
+        *place = deal(x);
+    }
 }
 
 // One of 0 to n - 1.
@@ -86,12 +92,7 @@ fn corner(x: u64) -> u16 {
 
 // How far a selection reaches on an axis.
 fn extent(x: u64) -> u16 {
-    match pick(x, 4) {
-        0 => 0,
-        1 => 1,
-        2 => 2,
-        _ => 3,
-    }
+    pick(x, 4) as u16
 }
 
 pub fn part(d: &[u64; 32]) -> Selection {
@@ -115,25 +116,12 @@ pub fn side(x: u64) -> usize {
 
 // The kind of an edit, 1 to 5.
 pub fn kind(x: u64) -> u8 {
-    match pick(x, 5) {
-        0 => 1,
-        1 => 2,
-        2 => 3,
-        3 => 4,
-        _ => 5,
-    }
+    pick(x, 5) as u8 + 1
 }
 
 // An index from -2 to 3.
 pub fn index(x: u64) -> i16 {
-    match pick(x, 6) {
-        0 => -2,
-        1 => -1,
-        2 => 0,
-        3 => 1,
-        4 => 2,
-        _ => 3,
-    }
+    pick(x, 6) as i16 - 2
 }
 
 pub fn byte(x: u64) -> u8 {
@@ -143,34 +131,15 @@ pub fn byte(x: u64) -> u8 {
 pub fn fill_bytes(seed: u64, out: &mut [u8])
     ensures { length out.new ≡ length out.old }
 {
-    let mut x = seed;
-    let mut i: usize = 0;
-    while i < out.len() {
-        x = next(x);
-        out[i] = byte(x);
-        i += 1;
-    }
-}
-
-// The index before n, for an n up to 3.
-fn before(n: usize) -> i16 {
-    match n {
-        0 => -1,
-        1 => 0,
-        2 => 1,
-        _ => 2,
-    }
+    fill(seed, out, byte);
 }
 
 // A colour.
 pub fn colour(seed: u64) -> Rgb {
     let mut rgb = [0u8; 3];
     fill_bytes(seed, &mut rgb);
-    Rgb {
-        r: rgb[0],
-        g: rgb[1],
-        b: rgb[2],
-    }
+    let [r, g, b] = rgb;
+    Rgb { r, g, b }
 }
 
 // Two colours.
@@ -180,42 +149,18 @@ pub fn colours(seed: u64) -> [u8; 6] {
     list
 }
 
-// How many indices a palette of k entries has, for a k up to 3.
-fn values(k: usize) -> usize
-    ensures { 0 < result }
-{
-    match k {
-        0 => 1,
-        1 => 2,
-        2 => 3,
-        _ => 4,
-    }
-}
-
 // Indices from -1 to k - 1, for a k up to 3.
 pub fn fill_indices(seed: u64, k: usize, out: &mut [i16])
     ensures { length out.new ≡ length out.old }
 {
-    let mut x = seed;
-    let mut i: usize = 0;
-    while i < out.len() {
-        x = next(x);
-        out[i] = before(pick(x, values(k)));
-        i += 1;
-    }
+    fill(seed, out, |x| pick(x, k.min(3) + 1) as i16 - 1);
 }
 
 // Lock marks, half of them true.
 pub fn fill_locks(seed: u64, out: &mut [bool])
     ensures { length out.new ≡ length out.old }
 {
-    let mut x = seed;
-    let mut i: usize = 0;
-    while i < out.len() {
-        x = next(x);
-        out[i] = once_in(x, 2);
-        i += 1;
-    }
+    fill(seed, out, |x| once_in(x, 2));
 }
 
 // A change near the corner: x and y from 0 to 3, old and new from -1 to 2.
@@ -236,13 +181,7 @@ fn sign(field: u64, three: u64, minus: u64) -> u64 {
 pub fn fill_list(seed: u64, out: &mut [u64])
     ensures { length out.new ≡ length out.old }
 {
-    let mut x = seed;
-    let mut i: usize = 0;
-    while i < out.len() {
-        x = next(x);
-        out[i] = change(x);
-        i += 1;
-    }
+    fill(seed, out, change);
 }
 
 // The sides of a picture of six pixels; now and then its width is one more, which no picture of six pixels has.

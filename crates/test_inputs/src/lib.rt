@@ -14,7 +14,4 @@ pub use dealt::{
     pick, width,
 };
 pub use hands::{Hand, deal};
-pub use prints::{
-    Outcome, mix_bytes, mix_counts, mix_doubles, mix_edit, mix_index, mix_indices, mix_locks,
-    mix_number, mix_part, mix_points, mix_sizes, mix_triple, mix_words, told,
-};
+pub use prints::{Outcome, mix_all, mix_number, told};

@@ -9,6 +9,7 @@
 mod names;
 
 use base::{Form, Moved};
+use names::name;
 use std::io;
 use test_calls::{bare_answer, change, damage, fresh, look, told_change, told_state};
 use test_inputs::{Hand, Outcome, deal, deck, fill_bytes, fill_indices, fill_locks, form, pick};
@@ -23,8 +24,7 @@ const STEPS: u64 = 60;
 
 // Writes a line.
 fn print_line(rt: &impl Print, c: usize, t: Outcome) -> io::Result<()> {
-    names::print_name(rt, c)?;
-    println!(rt; " {} {:016x}", t.number, t.print)
+    println!(rt; "{} {} {:016x}", name(c), t.number, t.print)
 }
 
 // A call that is no history's, by its number, on what is dealt.
@@ -43,10 +43,8 @@ fn print_answer(rt: &impl Print, c: usize, seed: u64) -> io::Result<()> {
 
 // The lines of a call, on as many inputs as each has.
 fn print_call(rt: &impl Print, c: usize, seed: u64) -> io::Result<()> {
-    let mut i: u64 = 0;
-    while i < EACH {
-        print_answer(rt, c, std::num::wrapping_add_u64(seed, i))?;
-        i += 1;
+    for i in 0..EACH {
+        print_answer(rt, c, seed.wrapping_add(i))?;
     }
     Ok(())
 }
@@ -61,12 +59,8 @@ fn number(i: usize) -> usize {
 
 // The 53 calls that are no history's.
 fn print_calls(rt: &impl Print) -> io::Result<()> {
-    let mut c: usize = 0;
-    let mut seed: u64 = 0;
-    while c < 53 {
-        print_call(rt, number(c), seed)?;
-        seed = std::num::wrapping_add_u64(seed, 1000);
-        c += 1;
+    for c in 0..53 {
+        print_call(rt, number(c), 1000 * c as u64)?;
     }
     Ok(())
 }
@@ -91,10 +85,7 @@ fn call_of(x: u64) -> usize {
 
 // Whether a call moves nothing on: the questions, and `convert`.
 fn looks(c: usize) -> bool {
-    match c {
-        49..=54 | 65 => true,
-        _ => false,
-    }
+    matches!(c, 49..=54 | 65)
 }
 
 // A call of a history.
@@ -173,13 +164,11 @@ fn print_steps(
     journal: &mut [u8],
 ) -> io::Result<()> {
     let mut m = first;
-    let mut i: u64 = 1;
-    while i < STEPS {
-        let next = std::num::wrapping_add_u64(seed, i);
+    for i in 1..STEPS {
+        let next = seed.wrapping_add(i);
         m = print_next(
             rt, next, w, h, m, palette, lab, indices, locks, form, journal,
         )?;
-        i += 1;
     }
     Ok(())
 }
@@ -219,12 +208,8 @@ fn print_history(rt: &impl Print, seed: u64) -> io::Result<()> {
 
 fn main(rt: HostRuntime) -> io::Result<()> {
     print_calls(&rt)?;
-    let mut i: u64 = 0;
-    let mut seed: u64 = 1_000_000;
-    while i < HISTORIES {
-        print_history(&rt, seed)?;
-        seed = std::num::wrapping_add_u64(seed, 1000);
-        i += 1;
+    for i in 0..HISTORIES {
+        print_history(&rt, 1_000_000 + 1000 * i)?;
     }
     Ok(())
 }

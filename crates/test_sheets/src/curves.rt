@@ -1,9 +1,7 @@
 // The calls over a sheet that take a curve.
 use base::{Handle, NOWHERE};
 use test_answers::of_copied;
-use test_inputs::{
-    Hand, Outcome, curve, fill_bytes, lent_values, mix_doubles, mix_indices, mix_number, told,
-};
+use test_inputs::{Hand, Outcome, curve, fill_bytes, lent_values, mix_all, mix_number, told};
 
 // `snap_rgba` of six pixels.
 pub(crate) fn snap_rgba(
@@ -36,7 +34,7 @@ pub(crate) fn snap_rgba(
         s.h,
         &mut out,
     ));
-    told(t.number, mix_indices(t.print, &out))
+    told(t.number, mix_all(t.print, &out))
 }
 
 // A handle with no records, mostly; one with two or with one that is undone, or one that is not sound.
@@ -102,5 +100,5 @@ pub(crate) fn load_curve(
         lent_values(&values, rule),
     )
     .number();
-    told(no, mix_doubles(mix_number(no), lab))
+    told(no, mix_all(mix_number(no), lab))
 }

@@ -1,6 +1,6 @@
 // The calls that list changes of a sheet.
 use test_answers::{of_counted, of_removal, of_removed, of_shifted};
-use test_inputs::{Hand, Outcome, mix_words, told};
+use test_inputs::{Hand, Outcome, mix_all, told};
 use test_lists::{draw, merge, remove, shift};
 
 const FREE: u64 = 0x5a5a_5a5a_5a5a_5a5a;
@@ -19,7 +19,7 @@ fn drawn(
     let mut out = [FREE; 4];
     let counted = draw(c, a, w, h, k, palette, lab, indices, &mut scratch, &mut out);
     let t = of_counted(counted);
-    told(t.number, mix_words(t.print, &out))
+    told(t.number, mix_all(t.print, &out))
 }
 
 fn shifted(
@@ -36,7 +36,7 @@ fn shifted(
     let mut out = [FREE; 4];
     let moved = shift(c, a, w, h, k, palette, lab, indices, &mut scratch, &mut out);
     let t = of_shifted(moved);
-    told(t.number, mix_words(t.print, &out))
+    told(t.number, mix_all(t.print, &out))
 }
 
 fn removed(
@@ -51,7 +51,7 @@ fn removed(
 ) -> Outcome {
     let mut out = [FREE; 3];
     let t = of_removed(remove(a, w, h, k, palette, lab, indices, locks, &mut out));
-    told(t.number, mix_words(t.print, &out))
+    told(t.number, mix_all(t.print, &out))
 }
 
 fn merged(
@@ -66,7 +66,7 @@ fn merged(
 ) -> Outcome {
     let mut out = [FREE; 3];
     let t = of_removal(merge(a, w, h, k, palette, lab, indices, locks, &mut out));
-    told(t.number, mix_words(t.print, &out))
+    told(t.number, mix_all(t.print, &out))
 }
 
 pub(crate) fn list_answer(

@@ -6,8 +6,8 @@ use test_answers::{
     of_choices, of_copied, of_counted, of_extraction, of_found, of_got, of_made, of_number,
 };
 use test_inputs::{
-    Hand, Outcome, colour, colours, deal, fill_bytes, fill_indices, fill_locks, height, mix_bytes,
-    mix_counts, mix_doubles, mix_indices, mix_locks, mix_number, pick, told, width,
+    Hand, Outcome, colour, colours, deal, fill_bytes, fill_indices, fill_locks, height, mix_all,
+    mix_number, pick, told, width,
 };
 
 // `new`, of which callers here need no more than that it keeps the lengths.
@@ -33,7 +33,7 @@ fn with_lab(
     locks: &mut [bool],
 ) -> Outcome {
     let no = editor::with_lab(w, h, k, palette, lab, indices, locks).number();
-    told(no, mix_locks(mix_number(no), locks))
+    told(no, mix_all(mix_number(no), locks))
 }
 
 fn new_sheet(
@@ -46,13 +46,13 @@ fn new_sheet(
 ) -> Outcome {
     let mut lab = [1.5f64; 765];
     let no = open(w, h, k, palette, &mut lab, indices, locks).number();
-    told(no, mix_locks(mix_doubles(mix_number(no), &lab), locks))
+    told(no, mix_all(mix_all(mix_number(no), &lab), locks))
 }
 
 fn counts(w: usize, h: usize, k: usize, palette: &[u8], lab: &[f64], indices: &[i16]) -> Outcome {
     let mut out = [0x5a5a_5a5au32; 2];
     let t = of_counted(editor::counts(w, h, k, palette, lab, indices, &mut out));
-    told(t.number, mix_counts(t.print, &out))
+    told(t.number, mix_all(t.print, &out))
 }
 
 // A baseline of six pixels with its own size, palette count and indices. With one entry less told than dealt, some are stray.
@@ -86,7 +86,7 @@ fn diff_mask(
         &base_indices,
         &mut mask,
     ));
-    told(t.number, mix_bytes(t.print, &mask))
+    told(t.number, mix_all(t.print, &mask))
 }
 
 fn nearest_index(a: Hand, k: usize, lab: &[f64]) -> Outcome {
@@ -107,7 +107,7 @@ fn copy(
     let area = p.area;
     let mut out = [0x5a5ai16; 5];
     let t = of_copied(editor::copy(w, h, k, palette, lab, indices, area, &mut out));
-    told(t.number, mix_indices(t.print, &out))
+    told(t.number, mix_all(t.print, &out))
 }
 
 fn clip_rgba(
@@ -125,7 +125,7 @@ fn clip_rgba(
     fill_indices(a.seeds.seed, 3, &mut clip);
     let pixels = editor::clip_rgba(w, h, k, palette, lab, indices, s.w, s.h, &clip, &mut out);
     let t = of_counted(pixels);
-    told(t.number, mix_bytes(t.print, &out))
+    told(t.number, mix_all(t.print, &out))
 }
 
 fn fixed_choices(
@@ -143,7 +143,7 @@ fn fixed_choices(
     let t = of_choices(editor::fixed_choices(
         w, h, k, palette, lab, indices, free, &list, &mut used,
     ));
-    told(t.number, mix_bytes(t.print, &used))
+    told(t.number, mix_all(t.print, &used))
 }
 
 // `set_color` and `add_color`.
@@ -194,7 +194,7 @@ fn extract(
         &mut map,
         &mut scratch,
     ));
-    told(t.number, mix_counts(mix_indices(t.print, &out), &map))
+    told(t.number, mix_all(mix_all(t.print, &out), &map))
 }
 
 fn sheet_answer(
@@ -233,19 +233,15 @@ fn sheet_answer(
 
 // Makes an index stray, now and then.
 fn spoil_index(wrong: usize, indices: &mut [i16]) {
-    if wrong == 0 {
-        if 0 < indices.len() {
-            indices[0] = 3;
-        }
+    if wrong == 0 && !indices.is_empty() {
+        indices[0] = 3;
     }
 }
 
 // Makes a LAB number infinite, now and then.
 fn spoil_lab(wrong: usize, lab: &mut [f64]) {
-    if wrong == 1 {
-        if 0 < lab.len() {
-            lab[0] = 1e300 * 1e300;
-        }
+    if wrong == 1 && !lab.is_empty() {
+        lab[0] = 1e300 * 1e300;
     }
 }
 

@@ -4,7 +4,7 @@ ghost use Rattle.tile_cells.specs.Tile.{same_tile, order_to};
 ghost use Rattle.tile_cells.specs.Seen.{row_seen, tile_seen, tile_at, Lies};
 
 use crate::reading::turn;
-use base::{both, same};
+use base::both;
 
 // Whether t indices from p on, flipped, are those from q on. No early exit.
 fn same_row(src: &[i16], p: usize, q: usize, t: usize, fh: bool) -> bool
@@ -13,7 +13,7 @@ fn same_row(src: &[i16], p: usize, q: usize, t: usize, fh: bool) -> bool
 {
     let mut all = true;
     for x in 0..t {
-        all = both(all, same(src[p + turn(fh, t, x)], src[q + x]));
+        all = both(all, src[p + turn(fh, t, x)] == src[q + x]);
     }
     all
 }

@@ -11,6 +11,9 @@ use tile_cells::{corner_of, key, order_to, scale};
 // What no cell has found.
 pub const FOUND: u64 = 4_194_304;
 
+// What `order_to` answers where there is no flip.
+const NONE: u64 = 4;
+
 const HEAD: u64 = 2_097_152;
 
 const NEXT: u64 = 8_796_093_022_208;
@@ -62,20 +65,18 @@ pub fn find(
 {
     let at = corner_of(w, t, c);
     let mut p = p;
-    let mut left = most;
-    while p != 0 {
-        if left == 0 {
-            return FOUND;
+    for _ in 0..most {
+        if p == 0 {
+            break;
         }
-        left -= 1;
         let f = (p - 1) as usize;
         let order = order_to(indices, at, corner_of(w, t, f), w, t);
-        if order < 4 {
+        if order < NONE {
             return f as u64 * 4 + order;
         }
         p = next_in(s[f]);
     }
-    c as u64 * 4
+    if p == 0 { c as u64 * 4 } else { FOUND }
 }
 
 // The chain of cell c.

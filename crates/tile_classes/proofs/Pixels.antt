@@ -5,7 +5,7 @@ use Prim.Native.Nat.{ℕ, ◌+◌, ◌*◌, ◌%◌, ◌^◌, ◌<◌, ◌≤◌
 use native.Mathlib.Nat.{zero-add}
 use native.Mathlib.Omega.{arith}
 use lib.IntN.{ℤ, pos}
-use lib.ListN.{length, get_or, set}
+use lib.ListN.{length, get_or}
 use lib.Seq.{ext_get_or}
 use Rattle.tile_cells.specs.Tile.{turned_by}
 use Rattle.tile_cells.specs.Seen.{tile_at}
@@ -19,7 +19,6 @@ use Rattle.tile_classes.specs.Ranks.{Written, Ranked, Listed}
 use Rattle.tile_classes.specs.Classes.{old_in, digit_in, NumberOf, Numbered}
 use Rattle.tile_classes.specs.Pixels.{pixel_of, LeastBy, Told}
 use Rattle.tile_classes.specs.Firsts.{Grouped}
-use Rattle.tile_classes.proofs.Writing.{written_none, written_next}
 use Rattle.tile_classes.proofs.Shuffles.{Shuffled}
 use Rattle.tile_classes.proofs.Round.{listed, kept-order, classed-none, classed-next}
 
@@ -62,12 +61,6 @@ module _ (w t : ℕ) (l : List ℤ) where
   -- ---- every cell in its least order, in one class
   abbrev pub Started : List ℕ → List ℕ → ℕ → Type 0
   Started s₀ s c = Written 0 (λ d v. (class_in v ≡ 0) × LeastBy w t l d v) s₀ s c
-
-  pub started_none : (s : List ℕ) → Started s s 0
-  started_none s = written_none 0 _ s
-
-  pub started-next : {s₀ s : List ℕ} {c : ℕ} → Started s₀ s c → c < length s₀ → (v : ℕ) → (class_in v ≡ 0) × LeastBy w t l c v → Started s₀ (set s c v) (c + 1)
-  started-next {s₀} {s} {c} k h v q = rw (zero-add c) at (written_next 0 (λ d v. (class_in v ≡ 0) × LeastBy w t l d v) k (rw (zero-add c) h) v q)
 
   pub told_none : (n : ℕ) {s₀ s : List ℕ} → Started s₀ s n → n + n ≤ length s₀ → Told w t l n 0 s
   told_none n {s₀} {s} k r =

@@ -18,9 +18,7 @@ pub fn clear(n: usize, s: &mut [u64])
     requires { n + n ≤ length s.old }
     ensures { Written n (λ c v. v ≡ 0) s.old s.new n }
 {
-    for i in 0..n {
-        s[n + i] = 0;
-    }
+    s[n..n + n].fill(0);
 }
 
 // The code of cell c, where the table has f for it: one more than its first cell, or 0 where it is that itself.

@@ -4,7 +4,8 @@ ghost use Rattle.std.specs.Prelude.{◌≡◌, ◌+◌, ◌≤◌, ◌<◌, ◌^
 ghost use Rattle.tile_classes.specs.Places.{class_in, order_in, key_in, cell_in};
 ghost use Rattle.tile_classes.specs.Ranks.{fresh as fresh_of, key_at, Listed, Ranked};
 
-const KEY: u64 = 2_097_152;
+// The unit in which a number counts its key.
+pub(crate) const KEY: u64 = 2_097_152;
 
 fn key_in(v: u64) -> u64
     ensures { result ≡ key_in v }

@@ -6,14 +6,13 @@ ghost use Rattle.tile_classes.specs.Places.{class_in, order_in};
 ghost use Rattle.tile_classes.specs.Classes.{NumberOf, Numbered};
 ghost use Rattle.tile_classes.specs.Pixels.{pixel_of, LeastBy, Told};
 
-use crate::ranking::rank;
+use crate::ranking::{KEY, rank};
 use base_sort::sort;
 use tile_cells::corner_of;
 use tile_least::{digit, least_order};
 
-const OLD: u64 = 137_438_953_472;
-
-const KEY: u64 = 2_097_152;
+// The unit in which a number counts its class.
+const CLASS: u64 = 137_438_953_472;
 
 // The order in which cell c is least, in class 0.
 fn place(w: usize, h: usize, t: usize, indices: &[i16], c: usize) -> u64
@@ -46,7 +45,7 @@ fn number(w: usize, h: usize, t: usize, indices: &[i16], c: usize, p: usize, v: 
     ensures { NumberOf Digit result (class_in v) c (pixel_of w t indices.now c p) }
 {
     let d = digit(indices, corner_of(w, t, c), w, t, order_in(v), p);
-    v / 4 * OLD + d * KEY + c as u64
+    v / 4 * CLASS + d * KEY + c as u64
 }
 
 // The number of every cell, after the places.

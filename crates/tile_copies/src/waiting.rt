@@ -7,16 +7,12 @@ ghost use Rattle.change_list.specs.Between.{difference_of};
 ghost use Rattle.tile_marks.specs.Marks.{Listed};
 ghost use Rattle.tile_copies.specs.Pending.{pending_by, pending, old_in, emitted, emitted_all};
 
+use edit::{NEW, OLD, PART, ROW};
 use edit_pixels::{bits_of, place_of};
-use tile_marks::{NEW, PART, PENDING, new_bits};
+use tile_marks::{PENDING, new_bits};
 
 // The unit in which a number counts that its old is the caller's.
 const OWN: u64 = 8_796_093_022_208;
-
-// The units in which a change counts its row and its old.
-const ROW: u64 = 65_536;
-
-const OLD: u64 = 4_294_967_296;
 
 // The change c over what is pending in v: its new alone, where a change is pending.
 fn pend_by(c: u64, v: u64) -> u64
@@ -34,12 +30,9 @@ pub fn pend_all(w: usize, list: &[u64], s: &mut [u64])
     ensures { (p : ℕ) → p < length s.old
         → get_or s.new p 0 ≡ pending w list.now s.old p }
 {
-    let mut i: usize = 0;
-    while i < list.len() {
-        let q = place_of(w, list[i]);
-        let v = pend_by(list[i], s[q]);
-        s[q] = v;
-        i += 1;
+    for change in list {
+        let q = place_of(w, *change);
+        s[q] = pend_by(*change, s[q]);
     }
 }
 
@@ -87,10 +80,8 @@ pub fn emit(w: usize, indices: &[i16], s: &mut [u64]) -> usize
     ensures { Front (emitted_all w indices.now s.old) s.new result }
 {
     let mut m: usize = 0;
-    let mut p: usize = 0;
-    while p < s.len() {
+    for p in 0..s.len() {
         m = put_pending(w, indices, p, s, m);
-        p += 1;
     }
     m
 }

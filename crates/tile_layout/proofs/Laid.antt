@@ -122,9 +122,6 @@ module _ (w h t : ℕ) (l : List ℤ) where
   unfolding firsts_below flat_map
   copying-none tiles = record { long = refl; count = refl; few = omega arith; written = over_none tiles }
 
-  pub copying-all : {tiles₀ tiles : List ℤ} {k c : ℕ} → Copying tiles₀ tiles k c → c ≡ n → tiles ≡ over (flat_map cell (firsts n)) tiles₀
-  copying-all {tiles₀} p e = p.written ∙ ap (λ (m : ℕ). over (flat_map cell (firsts m)) tiles₀) e
-
   module _ {tiles₀ tiles : List ℤ} {k c : ℕ} (p : Copying tiles₀ tiles k c) (b : c < n) {v : ℕ} (e : v ≡ id_of w t l c) where
     tile-in : v / 4 ≡ tile_id w t l c
     unfolding id_of

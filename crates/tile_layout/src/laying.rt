@@ -38,8 +38,8 @@ pub fn copy_tiles(w: usize, h: usize, t: usize, indices: &[i16], s: &[u64], tile
         tiles.old }
 {
     let mut k: usize = 0;
-    for c in 0..s.len() {
-        if s[c] / 4 == k as u64 {
+    for (c, v) in s.iter().enumerate() {
+        if *v / 4 == k as u64 {
             let to = k * t * t;
             copy_tile(
                 indices,
@@ -72,8 +72,8 @@ pub fn put_map(s: &[u64], map: &mut [u32])
         ≡ over (flat_map (λ i. flat_id (get_or s.now i 0)) (range 0 (length s.now)))
         map.old }
 {
-    for i in 0..s.len() {
+    for (i, v) in s.iter().enumerate() {
         let to = i * 3;
-        put_entry(s[i], &mut map[to..]);
+        put_entry(*v, &mut map[to..]);
     }
 }

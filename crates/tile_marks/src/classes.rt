@@ -31,9 +31,7 @@ pub fn spread(w: usize, t: usize, s: &mut [u64])
     ensures { (p : ℕ) → p < length s.old
         → get_or s.new p 0 ≡ class_by w t (get_or s.old (cell_of_place w t p) 0) p }
 {
-    let mut p = s.len();
-    while 0 < p {
-        p -= 1;
+    for p in (0..s.len()).rev() {
         let code = s[cell_of(w, t, p)];
         s[p] = class_by(w, t, code, p) as u64;
     }

@@ -6,4 +6,4 @@ mod classes;
 mod marks;
 
 pub use classes::spread;
-pub use marks::{NEW, PART, PENDING, land_all, mark_all, new_bits};
+pub use marks::{PENDING, land_all, mark_all, new_bits};

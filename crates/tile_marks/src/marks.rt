@@ -2,17 +2,14 @@
 ghost use Rattle.std.specs.Prelude.{◌≡◌, cond, ℕ, ◌+◌, ◌*◌, ◌/◌, ◌%◌, ◌≤◌, ◌<◌, ◌^◌, length, get_or};
 ghost use Rattle.tile_marks.specs.Marks.{place_at, new_bits, elsewhere, marked_by, marked, land_by, landed, Listed, Classes, Marks};
 
+use edit::{NEW, PART};
 use edit_pixels::place_of;
 use selection::Selection;
 
-// The units in which a number counts its mark and what is pending, and a change its new; and the values of one part.
+// The units in which a number counts its mark and what is pending.
 const MARK: u64 = 1_048_576;
 
 pub const PENDING: u64 = 4_398_046_511_104;
-
-pub const NEW: u64 = 281_474_976_710_656;
-
-pub const PART: u64 = 65_536;
 
 // The bits of a change's new.
 pub fn new_bits(c: u64) -> u64
@@ -59,12 +56,10 @@ pub fn mark_all(w: usize, list: &[u64], s: &mut [u64])
     ensures { (p : ℕ) → p < length s.old
         → get_or s.new p 0 ≡ marked w list.now s.old p }
 {
-    let mut i: usize = 0;
-    while i < list.len() {
-        let class = (s[place_of(w, list[i])] % MARK) as usize;
+    for (i, change) in list.iter().enumerate() {
+        let class = (s[place_of(w, *change)] % MARK) as usize;
         let v = mark_by(w, list, i, s[class]);
         s[class] = v;
-        i += 1;
     }
 }
 
@@ -89,11 +84,9 @@ pub fn land_all(w: usize, region: Selection, list: &[u64], s: &mut [u64])
     ensures { (p : ℕ) → p < length s.old
         → get_or s.new p 0 ≡ landed w region list.now s.old p }
 {
-    let mut p: usize = 0;
-    while p < s.len() {
+    for p in 0..s.len() {
         let class = (s[p] % MARK) as usize;
         let v = land_by(w, region, list, p, s[class] % PENDING / MARK);
-        s[p] = s[p] + v * PENDING;
-        p += 1;
+        s[p] += v * PENDING;
     }
 }

@@ -5,7 +5,6 @@ ghost use Rattle.base.specs.Lists.{range};
 ghost use Rattle.tile_cells.specs.Cells.{Tiled, cell_count, first_cells};
 ghost use Rattle.tile_chain.specs.Table.{found_in, Chained};
 
-use base::clear;
 use tile_chain::{FOUND, bucket, find, head_in, with_found, with_head};
 
 // Cell c, after those before it: what is found for it, and where that is the cell itself, its chain begins with it.
@@ -59,8 +58,8 @@ fn enter_all(w: usize, h: usize, t: usize, indices: &[i16], most: usize, s: &mut
 fn bare(s: &mut [u64])
     ensures { s.new ≡ map (λ i. found_in (get_or s.old i 0)) (range 0 (length s.old)) }
 {
-    for i in 0..s.len() {
-        s[i] = s[i] % FOUND;
+    for v in s.iter_mut() {
+        *v %= FOUND;
     }
 }
 
@@ -71,7 +70,7 @@ pub fn fill(w: usize, h: usize, t: usize, indices: &[i16], most: usize, s: &mut 
     ensures s_after { result ≡ true → s.new ≡ first_cells w h t indices.now }
     ensures most_bound { result ≡ false → most < cell_count w h t }
 {
-    clear(s);
+    s.fill(0);
     if !enter_all(w, h, t, indices, most, s) {
         return false;
     }

@@ -48,10 +48,8 @@ fn any_outside(w: usize, h: usize, list: &[u64]) -> bool
     ensures { result ≡ some (outside w h) (map unpacked list.now) }
 {
     let mut off = false;
-    let mut i: usize = 0;
-    while i < list.len() {
-        off = either(off, is_outside(w, h, list[i]));
-        i += 1;
+    for change in list {
+        off = either(off, is_outside(w, h, *change));
     }
     off
 }

@@ -8,7 +8,7 @@ ghost use Rattle.edit.specs.Change.{painted, new_of};
 ghost use Rattle.change_list.specs.Between.{laid_out};
 ghost use Rattle.tool_paste_model.specs.Blocks.{written, block, source_at, landing, Lying, Rows, Lands, landed};
 
-use base::{MAX_DISTANCE, from_zero, min_usize, saturating_sub};
+use base::{MAX_DISTANCE, from_zero};
 use change_list::paint;
 use selection::Selection;
 use selection_spans::Span;
@@ -89,12 +89,12 @@ pub fn landing_on(start: usize, count: usize, d: i32, side: usize) -> Landing
     ensures { result ≡ landing start count (from_zero (d +ℤ pos 65536)) side }
 {
     let first = start + offset(d);
-    let to = saturating_sub(first, LEAST);
-    let end = min_usize(saturating_sub(first + count, LEAST), side);
+    let to = first.saturating_sub(LEAST);
+    let end = (first + count).saturating_sub(LEAST).min(side);
     Landing {
-        from: start + saturating_sub(LEAST, first),
+        from: start + LEAST.saturating_sub(first),
         to,
-        count: saturating_sub(end, to),
+        count: end.saturating_sub(to),
     }
 }
 

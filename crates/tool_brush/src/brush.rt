@@ -80,8 +80,7 @@ pub fn paint_path(
         return;
     }
     paint_stamp(scratch, w, region, n, points[0], points[1], v);
-    let mut i: usize = 2;
-    while i < points.len() {
+    for i in (2..points.len()).step_by(2) {
         paint_line(
             scratch,
             w,
@@ -93,6 +92,5 @@ pub fn paint_path(
             points[i + 1],
             v,
         );
-        i += 2;
     }
 }

@@ -39,11 +39,9 @@ fn put_clip(k: usize, palette: &[u8], clip: &[i16], out: &mut [u8])
     requires { (k ≤ 255) × (length palette.now ≡ 765) × (4 * length clip.now ≤ length out.old) }
     ensures { out.new ≡ over (flat_map (rgba_of k palette.now) clip.now) out.old }
 {
-    let mut i: usize = 0;
-    while i < clip.len() {
+    for (i, index) in clip.iter().enumerate() {
         let at = 4 * i;
-        put_rgba(k, palette, clip[i], &mut out[at..]);
-        i += 1;
+        put_rgba(k, palette, *index, &mut out[at..]);
     }
 }
 

@@ -87,10 +87,8 @@ fn any_far(points: &[i32]) -> bool
     ensures { result ≡ some far points.now }
 {
     let mut bad = false;
-    let mut i: usize = 0;
-    while i < points.len() {
-        bad = either(bad, is_far(points[i]));
-        i += 1;
+    for z in points {
+        bad = either(bad, is_far(*z));
     }
     bad
 }

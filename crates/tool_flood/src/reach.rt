@@ -3,7 +3,6 @@ ghost use Rattle.std.specs.Prelude.{◌≡◌, ◌/◌, ◌%◌, ◌≤◌, ◌<
 ghost use Rattle.tool_fill_model.specs.Flood.{neighbour, passable};
 ghost use Rattle.tool_fill_model.specs.Cells.{Ground, odds, marked, queued, Stepped, Fills};
 
-use base::{clear, same};
 use selection::Selection;
 
 // The neighbour of p, of n places in rows of w, on side d (left, right, above, below), or n.
@@ -40,7 +39,7 @@ fn passes(w: usize, indices: &[i16], region: Selection, start: usize, p: usize) 
     requires { (0 < w) × (start < length indices.now) × (p < length indices.now) }
     ensures { result ≡ passable w indices.now region start p }
 {
-    if !same(indices[p], indices[start]) {
+    if indices[p] != indices[start] {
         return false;
     }
     region.contains(p % w, p / w)
@@ -51,7 +50,7 @@ fn push(s: &mut [u64], tail: usize, q: usize)
     requires { (q < length s.old) × (tail < length s.old) × (length s.old ≤ 1048576) × (get_or s.old q 0 % 2 ≡ 1 → ⊥) }
     ensures { s.new ≡ queued (marked s.old q) tail q }
 {
-    s[q] = s[q] + 1;
+    s[q] += 1;
     s[tail] = s[tail] % 2 + 2 * (q as u64);
 }
 
@@ -93,18 +92,16 @@ pub(crate) fn reach(w: usize, indices: &[i16], region: Selection, start: usize, 
     requires { Ground w indices.now start s.old }
     ensures { Fills w indices.now region start s.new }
 {
-    clear(s);
+    s.fill(0);
     push(s, 0, start);
     let n = indices.len();
     let mut head: usize = 0;
     let mut tail: usize = 1;
     while head < tail {
         let p = place_in(s[head]);
-        let mut d: usize = 0;
-        while d < 4 {
+        for d in 0..4 {
             let q = neighbour(w, n, p, d);
             tail = step(w, indices, region, start, s, tail, q);
-            d += 1;
         }
         head += 1;
     }

@@ -3,14 +3,8 @@ ghost use Rattle.std.specs.Prelude.{◌≡◌, ◌*◌, ◌%◌, ◌≤◌, ◌<
 ghost use Rattle.change_list.specs.Fronts.{Front};
 ghost use Rattle.tool_fill_model.specs.Cells.{pair_of, placed, emitted};
 
+use edit::{NEW, OLD, ROW};
 use edit_pixels::bits_of;
-
-// The units in which a change counts its row, its old and its new.
-const ROW: u64 = 65_536;
-
-const OLD: u64 = 4_294_967_296;
-
-const NEW: u64 = 281_474_976_710_656;
 
 // A change's two indices, above its place.
 pub(crate) fn pair_of(old: i16, new: i16) -> u64
@@ -35,13 +29,11 @@ pub(crate) fn emit(w: usize, pair: u64, s: &mut [u64]) -> usize
     ensures { Front (emitted w pair s.old) s.new result }
 {
     let mut m: usize = 0;
-    let mut p: usize = 0;
-    while p < s.len() {
+    for p in 0..s.len() {
         if s[p] % 2 == 1 {
             s[m] = change_at(w, pair, p);
             m += 1;
         }
-        p += 1;
     }
     m
 }

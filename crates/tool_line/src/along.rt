@@ -5,7 +5,6 @@ ghost use Rattle.tool_line.specs.Line.{Point, point, Near, side, longer};
 ghost use Rattle.tool_line.specs.Walk.{direction, half, axis_at, StandsAt, Walking, Fit};
 
 use crate::{Axis, Walk};
-use base::{max_usize, saturating_sub};
 
 // At the first point of the line from a to b.
 pub fn begin(ax: i32, ay: i32, bx: i32, by: i32) -> Walk
@@ -75,7 +74,7 @@ fn begin_axis(a: i32, b: i32, m: usize) -> Axis
 pub(crate) fn half(a: i32, b: i32, m: usize) -> usize
     ensures { result ≡ half a b m }
 {
-    if a < b { saturating_sub(m, 1) } else { m }
+    if a < b { m.saturating_sub(1) } else { m }
 }
 
 // How many steps the line from a to b has: its longer side.
@@ -83,7 +82,7 @@ pub fn longer(ax: i32, ay: i32, bx: i32, by: i32) -> usize
     requires { Near (point ax ay) × Near (point bx by) }
     ensures { result ≡ longer (point ax ay) (point bx by) }
 {
-    max_usize(side(ax, bx), side(ay, by))
+    side(ax, bx).max(side(ay, by))
 }
 
 // How far it is from a to b.

@@ -13,7 +13,7 @@ ghost use Rattle.tool_paste_model.specs.Blocks.{landing};
 ghost use Rattle.tool_paste_model.specs.Pasting.{left, shifted_count};
 ghost use Rattle.tool_paste_model.specs.Moves.{Movable, MoveRows, unmoved, move_changes, moved_list, moved_selection, move_checks, move_call};
 
-use base::{NO_SPACE, max_usize, min_usize};
+use base::NO_SPACE;
 use change_list::{copy_out, counted, differences, lay_rows};
 use selection::{Chosen, Selection, Shifted};
 use selection_spans::Span;
@@ -79,8 +79,8 @@ fn move_rows(s: Selection, dy: i32, h: usize) -> Span
     let top = s.y as usize;
     let rows = s.h as usize;
     let to = landed_rows(landing_on(top, rows, dy, h), top);
-    let first = min_usize(top, to.start);
-    let end = max_usize(top + rows, to.start + to.count);
+    let first = top.min(to.start);
+    let end = (top + rows).max(to.start + to.count);
     Span {
         start: first,
         count: end - first,

@@ -10,7 +10,7 @@ use lib.IntN.{ℤ, pos, negsuc, pred_ℤ, ◌+ℤ◌, ◌-ℤ◌, +ℤ-suc_ℤ, 
 use lib.Signed.{lt_z}
 use Rattle.base.specs.Ints.{far, min_z, max_z, from_zero, up_to}
 use Rattle.selection_spans.specs.Spans.{between}
-use Rattle.selection_spans.proofs.Spans.{half-open}
+use Rattle.selection_spans.proofs.Spans.{half_open}
 use mathlib.Core.Option.{Option}
 use Rattle.base.specs.Answer.{Told}
 use Rattle.base.specs.Answer.Told.{result}
@@ -96,7 +96,7 @@ module _ (count : ℕ) (d : ℤ) (side : ℕ) (near : far d ≡ false) where
 
     pub start_is : (between d (d +ℤ pos count -ℤ pos 1) side).start ≡ (landing 0 count (offset_of d) side).to
     unfolding landing
-    start_is = rw (half-open d (d +ℤ pos count -ℤ pos 1) side, low) (omega arith)
+    start_is = rw (half_open d (d +ℤ pos count -ℤ pos 1) side, low) (omega arith)
 
     pub count-is : (between d (d +ℤ pos count -ℤ pos 1) side).count ≡ (landing 0 count (offset_of d) side).count
     unfolding landing c
@@ -104,7 +104,7 @@ module _ (count : ℕ) (d : ℤ) (side : ℕ) (near : far d ≡ false) where
         let o : ℕ = offset_of d in
         let past : suc (count - 1 + o) ≡ 0 + o + count = omega arith in
         let from : o ≡ 0 + o = omega arith in
-        rw (half-open d (d +ℤ pos count -ℤ pos 1) side, low, high)
+        rw (half_open d (d +ℤ pos count -ℤ pos 1) side, low, high)
         (ap (λ (k : ℕ). min (k - 65536) side - (o - 65536)) past ∙ ap (λ (k : ℕ). min (0 + o + count - 65536) side - (k - 65536)) from)
 
   pub span_none : count ≡ 0 → (landing 0 count (offset_of d) side).count ≡ 0

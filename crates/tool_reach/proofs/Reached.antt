@@ -1,14 +1,15 @@
 -- The rows that a tool's points reach inside the region: points from one row to another lie in those two clipped to the region. Assumes nothing.
 use mathlib.Core.Path.{◌≡◌, refl, sym, ap, ◌∙◌}
 use mathlib.Core.Bool.{Bool, true, false, cond, ◌||◌}
-use mathlib.Core.List.{List, [], ◌∷◌, map, flat_map}
+use mathlib.Core.List.{List, [], ◌∷◌, ◌++◌, map, flat_map}
 use Prim.Native.Nat.{ℕ, zero, suc, ◌+◌, ◌-◌, ◌/◌, ◌%◌, ◌<◌, ◌≤◌, min, max}
 use native.Mathlib.Omega.{arith}
 use native.Mathlib.Decide.{dec_lt}
 use borrow.Author.Tests.{leb-true, ltb-true}
 use lib.Dec.{leb, ltb}
 use lib.IntN.{ℤ, pos, negsuc, nat_abs, ◌+ℤ◌, ◌-ℤ◌, +ℤ_comm, +ℤ-neg_ℤ_cancel}
-use lib.ListN.{length, get_or}
+use lib.ListN.{length, get_or, drop, get_or-append, length-append, length-drop}
+use lib.Seq.{get_or-drop, drop-drop, drop-append_seam}
 use lib.Signed.{lt_z}
 use Rattle.base.specs.Lists.{range, some, All}
 use Rattle.base.proofs.Bools.{and_left, and_right}
@@ -193,6 +194,44 @@ module _ (l : List ℤ) where
     pub reaching-end : {r : Reach} {i : ℕ} → Reaching r i → length l ≤ i → Spans (points_of l) r
     reaching-end {r} g h =
         record { low-close = g.low-close; high-close = g.high-close; each = points-each (Spanned r.low r.high) l (λ k a b. g.each k (omega arith) b) }
+
+  -- as many numbers are passed as the list is longer than what is left of it
+  pub record Passed (r : Reach) (left : List ℤ) : Type 0 where
+    pub reached : Reaching r (length l - length left + 1)
+    pub ahead : left ≡ drop (length l - length left) l
+
+  pub passed-none : {r : Reach} (left : List ℤ) → left ≡ l → Reaching r 1 → Passed r left
+  passed-none left e g =
+      let z : length l - length left ≡ 0 = omega (arith, ap (λ (m : List ℤ). length m) e) in
+      record { reached = rw z g; ahead = rw z e }
+
+  module _ {r : Reach} {left : List ℤ} (g : Passed r left) (pair after : List ℤ) (e : left ≡ pair ++ after) (n : length pair ≡ 2) where
+    -- the row of the pair after those passed
+    pub passed-row : get_or pair 1 (pos 0) ≡ get_or l (length l - length left + 1) (pos 0)
+    passed-row =
+        sym (get_or-append pair after (pos 0) 1 (omega arith)) ∙ ap (λ (m : List ℤ). get_or m 1 (pos 0)) (sym e ∙ g.ahead)
+        ∙ get_or-drop (length l - length left) l 1 (pos 0)
+
+    two-less : length left ≡ length after + 2
+    two-less = ap (λ (m : List ℤ). length m) e ∙ omega (arith, length-append pair after)
+
+    within : length left ≤ length l
+    within = let a = ap (λ (m : List ℤ). length m) g.ahead ∙ length-drop (length l - length left) l in omega arith
+
+    pub row-within : length l - length left + 1 < length l
+    row-within = omega (arith, two-less, within)
+
+    pub passed-next : some far l ≡ false → {s : Reach} → s ≡ wider r (get_or pair 1 (pos 0)) → Passed s after
+    passed-next near q =
+        let k : length l - length after ≡ length l - length left + 2 = omega (arith, two-less, within) in
+        let two : drop 2 left ≡ after = rw (← n, e) (drop-append_seam pair after) in
+        record {
+          reached = (let z : length l - length after + 1 ≡ length l - length left + 1 + 2 = omega (arith, k) in rw z (reaching-next near g.reached row-within (q ∙ ap (wider r) passed-row)));
+          ahead = rw k (sym two ∙ ap (drop 2) g.ahead ∙ drop-drop 2 (length l - length left) l);
+        }
+
+  pub passed-end : some far l ≡ false → {r : Reach} {left : List ℤ} → Passed r left → length left < 2 → Spans (points_of l) r
+  passed-end near g h = reaching-end near g.reached (omega arith)
 
 -- a brush that was clamped
 pub stamped-again : (size : ℕ) (ps : List Point) → stamped (clamped size) ps ≡ stamped size ps

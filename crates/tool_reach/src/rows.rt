@@ -11,7 +11,7 @@ ghost use Rattle.tool_stamp.specs.Given.{points_of};
 ghost use Rattle.tool_reach.specs.Reached.{Holds, Spans, wider};
 
 use crate::Reach;
-use base::{max_i32, min_i32, saturating_sub};
+use base::{max_i32, min_i32};
 use selection::Selection;
 use tool_stamp::{Run, clip, stamp_run};
 
@@ -39,7 +39,7 @@ fn stroke_rows(region: Selection, n: usize, low: i32, high: i32) -> Run
     let last = stamp_run(high, n, above, end);
     Run {
         start: first.start,
-        count: saturating_sub(last.start + last.count, first.start),
+        count: (last.start + last.count).saturating_sub(first.start),
     }
 }
 
@@ -68,10 +68,8 @@ fn reach_of(points: &[i32]) -> Reach
 {
     let y = points[1];
     let mut r = Reach { low: y, high: y };
-    let mut i: usize = 1;
-    while i < points.len() {
-        r = widen(r, points[i]);
-        i += 2;
+    for point in points.chunks_exact(2) {
+        r = widen(r, point[1]);
     }
     r
 }

@@ -13,7 +13,7 @@ ghost use Rattle.tool_snap.specs.Clipped.{clipped, from_rows};
 ghost use Rattle.tool_snap.specs.Snap.{entry_of, snapped, snap_at, snap_rgba_of};
 ghost use Rattle.tool_snap.specs.Cache.{rgb_of, Numbered, all_ok, Snapping};
 
-use base::{BAD_CLIP, Copied, MAX_SIDE, NO_SPACE, Rgb, SHORT_PIXELS, min_usize};
+use base::{BAD_CLIP, Copied, MAX_SIDE, NO_SPACE, Rgb, SHORT_PIXELS};
 use color_curve::{curve_no, lab_in};
 use color_nearest::nearest_in;
 use sheet::check;
@@ -197,8 +197,8 @@ pub fn snap_rgba(
     if rgba.len() < 4 * (image_w * image_h) {
         return Copied::Refused(SHORT_PIXELS);
     }
-    let cw = min_usize(image_w, w);
-    let ch = min_usize(image_h, h);
+    let cw = image_w.min(w);
+    let ch = image_h.min(h);
     if out.len() < cw * ch {
         return Copied::Refused(NO_SPACE);
     }

@@ -4,17 +4,17 @@ ghost use Rattle.base.specs.Lists.{range};
 ghost use Rattle.tool_stamp.specs.Places.{set_all, clipped, box_places, Rows, Ends};
 
 use crate::Run;
-use base::{from_zero, max_usize, min_usize, saturating_sub, up_to};
+use base::{from_zero, up_to};
 
 // What lies of `a..=b` from `from` on and below `end`.
 pub fn clip(a: i32, b: i32, from: usize, end: usize) -> Run
     ensures { result ≡ clipped a b from end }
 {
-    let start = min_usize(max_usize(from_zero(a), from), end);
-    let stop = min_usize(up_to(b), end);
+    let start = from_zero(a).max(from).min(end);
+    let stop = up_to(b).min(end);
     Run {
         start,
-        count: saturating_sub(stop, start),
+        count: stop.saturating_sub(start),
     }
 }
 

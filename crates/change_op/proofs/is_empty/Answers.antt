@@ -1,16 +1,14 @@
 -- `is_empty`: 21, then that of the edit's list, at the list's length. Assumes nothing.
-use mathlib.Core.Path.{ap, ◌∙◌}
-use lib.ListN.{length}
-use Rattle.edit.specs.declared.ListKind.{ListKind}
-use Rattle.edit.specs.List.{empty_pixels}
-use Rattle.change_op.proofs.Normalizing.{empty-long, empty-told}
-use borrow.Author.Rules.{rules}
+use native.Mathlib.Omega.{arith}
+use Rattle.std.proofs.lemmas.Grind.{common_steps}
+use Rattle.base.specs.Checks.{first_of, refused_or}
+use Rattle.change_op.specs.Op.{is_empty_of}
 use Rattle.change_op.proofs.is_empty.Goals as goal
 
 pub returns-then-list-gt-MAX_CHANGES : goal.returns-then-list-gt-MAX_CHANGES
-returns-then-list-gt-MAX_CHANGES c = empty-long _ _ c.if-list-gt-MAX_CHANGES.true
+unfolding is_empty_of first_of refused_or
+returns-then-list-gt-MAX_CHANGES c = grind (arith, common_steps)
 
 pub returns : goal.returns
-returns c =
-    let n = length c.args.list.now in
-    empty-told _ _ c.if-list-gt-MAX_CHANGES.false (c.is_empty.ensures ∙ ap (λ (l : ListKind). empty_pixels l n) c.list_of.ensures)
+unfolding is_empty_of first_of refused_or
+returns c = grind (arith, common_steps)

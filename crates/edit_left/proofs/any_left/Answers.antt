@@ -1,5 +1,5 @@
 -- `any_left`: no pixel so far is left; the one that ends the scan is. Assumes nothing.
-use mathlib.Core.Path.{◌≡◌, sym, ◌∙◌}
+use mathlib.Core.Path.{◌≡◌, refl, sym, ◌∙◌}
 use mathlib.Core.Bool.{false}
 use Prim.Native.Nat.{ℕ, ◌≤◌, ◌<◌, ◌-◌, ◌+◌, ◌*◌}
 use native.Mathlib.Omega.{arith}
@@ -23,7 +23,7 @@ here c = place c.rows-test.true c.loop-x-test.true
 
 -- what the test says of it
 tested : (c : After-is_left) → let a = c.args in left_at a.index a.indices.now a.marks.now (c.rows.y * a.w + c.loop-x.x) ≡ c.is_left.result
-tested c = let a = c.args in left-read a.index a.indices.now a.marks.now (c.rows.y * a.w + c.loop-x.x) c.is_left-arg-1.given c.is_left.ensures
+tested c = let a = c.args in left-read a.index a.indices.now a.marks.now (c.rows.y * a.w + c.loop-x.x) refl refl c.is_left.ensures (search rules)
 
 -- after a row, with one or without: none of it is left
 cleared : (c : Joined-row_left) → let a = c.args in (c.if-row_left.left ≡ false) × NoneLeft a.index a.indices.now a.marks.now ((c.rows.y + 1) * a.w)
@@ -32,12 +32,12 @@ cleared c =
     let a = c.args in
     let at = c.rows.y * a.w in
     elim c.if-row_left.branch [
-      | then-row_left+else-loop-x-test w ↦ (w.left-is ∙ w.loop-x.invariant.1, none_row _ _ _ w.loop-x.invariant.2 w.loop-x.invariant.0 w.loop-x-test.false)
-      | else-row_left w ↦ (w.left-is ∙ c.rows.invariant.1, row-clear c.rows.y a.w (at + a.w - at) (omega arith) (omega (arith, on)) c.rows.invariant.2 (sym c.row_left.ensures ∙ w.if-row_left.false))
+      | then-row_left+else-loop-x-test w ↦ (w.left-is ∙ w.loop-x.invariant.0, none_row _ _ _ w.loop-x.invariant.1 w.loop-x.auto.x-end w.loop-x-test.false)
+      | else-row_left w ↦ (w.left-is ∙ c.rows.invariant.0, row-clear _ _ _ c.rows.y a.w (at + a.w - at) (omega arith) (omega (arith, on)) c.rows.invariant.1 (sym c.row_left.ensures ∙ w.if-row_left.false))
     ]
 
 pub rows-init : goal.rows-init
-rows-init c = (search rules, search rules, none_yet _)
+rows-init c = (search rules, none_yet _)
 
 pub overflow_mul-at : goal.overflow_mul-at
 overflow_mul-at c = omega (arith, ends c)
@@ -54,7 +54,7 @@ row_left-requires c =
     (search rules, parts_same at (at + c.args.w - at) c.args.indices.now c.args.marks.now (c.requires.2 ∙ sym c.requires.1))
 
 pub loop-x-init : goal.loop-x-init
-loop-x-init c = (search rules, search rules, none-start _ _ c.rows.invariant.2)
+loop-x-init c = (search rules, none-start _ _ c.rows.invariant.1)
 
 pub overflow_add-p : goal.overflow_add-p
 overflow_add-p c = omega (arith, here c)
@@ -69,13 +69,13 @@ pub bounds-marks-p : goal.bounds-marks-p
 bounds-marks-p c = omega (arith, here (goal.at.bounds-marks-p c).In-loop-x)
 
 pub loop-x-preserved : goal.loop-x-preserved
-loop-x-preserved c = (search rules, search rules, none-column _ _ c.loop-x.invariant.2 (tested (goal.at.loop-x-preserved c).After-is_left ∙ c.if-is_left.false))
+loop-x-preserved c = (search rules, none-column _ _ c.loop-x.invariant.1 (tested (goal.at.loop-x-preserved c).After-is_left ∙ c.if-is_left.false))
 
 pub rows-preserved : goal.rows-preserved
-rows-preserved c = (search rules, (cleared c).0, (cleared c).1)
+rows-preserved c = cleared c
 
 pub returns-after-rows : goal.returns-after-rows
-returns-after-rows c = λ cs m. c.rows.invariant.1 ∙ none_rows _ _ _ c.rows.invariant.2 c.rows.invariant.0 c.rows-test.false c.requires.1 c.requires.2 m
+returns-after-rows c = λ cs m. c.rows.invariant.0 ∙ none_rows _ _ _ c.rows.invariant.1 c.rows.auto.y-end c.rows-test.false c.requires.1 c.requires.2 m
 
 pub returns-then-is_left : goal.returns-then-is_left
 returns-then-is_left c = λ cs m. left-hit _ _ _ m _ (omega (arith, here (goal.at.returns-then-is_left c).In-loop-x)) (omega (arith, here (goal.at.returns-then-is_left c).In-loop-x)) (tested (goal.at.returns-then-is_left c).After-is_left ∙ c.if-is_left.true)

@@ -1,11 +1,8 @@
 -- `check_list`: by kinds of list. Assumes nothing.
-use mathlib.Core.Path.{◌≡◌, sym, ◌∙◌}
-use mathlib.Core.List.{List, flat_map}
-use Rattle.base.specs.Checks.{first_of}
+use mathlib.Core.Path.{sym}
 use Rattle.edit.specs.Checks.{change_checks}
 use Rattle.edit_checks.specs.Marks.{Markable, ClearFor, MarksFor}
 use Rattle.edit_list.proofs.NoChecks.{no-checks}
-use borrow.Author.Rules.{rules}
 use Rattle.edit_list.proofs.check_list.Goals as goal
 
 pub mark_remap-requires : goal.mark_remap-requires

@@ -1,15 +1,7 @@
--- `layers_no`: those before s are well-formed. Assumes nothing.
-use Prim.Native.Nat.{◌+◌, ◌*◌, ◌-◌, ◌≤◌}
-use native.Mathlib.Omega.{arith}
-use borrow.Author.Rules.{rules}
-use lib.ListN.{length, get_or, drop, length-take, length-drop}
-use Rattle.sheet.specs.Checks.{Judged}
-use Rattle.layer_checks.specs.Judged.{bottom}
-use Rattle.layer_checks.proofs.Judging.{Rest, rest_all, rest-three, rest-none, rest-refused, rest-lent, rest-cells, rest-next}
+-- `layers_no`: the first i are well-formed. Assumes nothing.
+use Prim.Native.Nat.{◌*◌}
+use Rattle.layer_checks.proofs.Judging.{Rest}
 use Rattle.layer_checks.proofs.layers_no.Given as goal
 
-abbrev pub invariant-loop-s : goal.invariant-loop-s
-invariant-loop-s l = Rest l.sizes l.palettes l.labs l.indices l.s l.p l.at
-
-abbrev pub decreases-loop-s : goal.decreases-loop-s
-decreases-loop-s l = length l.sizes - l.s
+abbrev pub invariant-loop-i : goal.invariant-loop-i
+invariant-loop-i l = Rest l.sizes l.palettes l.labs l.indices (3 * l.i) (765 * l.i) l.at

@@ -1,42 +1,29 @@
--- `sizes_differ`: those before s do not. Assumes nothing.
-use Prim.Native.Nat.{◌+◌, ◌-◌, ◌≤◌}
+-- `sizes_differ`: what is said of all layers is said of those that are left. Assumes nothing.
+use mathlib.Core.Path.{sym, ◌∙◌}
 use native.Mathlib.Omega.{arith}
-use borrow.Author.Rules.{rules}
-use lib.ListN.{length}
-use Rattle.layer_checks.proofs.Judging.{Sized, sized-all, sized-three, sized-none, sized-wide, sized-high, sized-next}
+use Rattle.std.specs.Slice.Iter.{chunks_exact_rest}
+use Rattle.layer_checks.proofs.Judging.{sizes-short, sizes-wide, sizes-high, sizes-next}
 use Rattle.layer_checks.proofs.sizes_differ.Goals as goal
-use Rattle.layer_checks.proofs.sizes_differ.Goals.{In-loop-s}
+use Rattle.layer_checks.proofs.sizes_differ.Goals.{then-size-w-via-then-size-w, then-size-w-via-else-size-w+then-size-h}
 
--- a layer's three sizes are there
-three : (c : In-loop-s) → c.loop-s.s + 3 ≤ length c.args.sizes.now
-three c = sized-three _ _ _ c.loop-s.invariant c.loop-s-test.true
+pub returns-then-size-w : goal.returns-then-size-w
+returns-then-size-w c =
+    let i = c.loop-size.invariant in
+    let s = c.in-Some.ensures.steps.1 in
+    let size = c.in-Some.size.now in
+    let rest = chunks_exact_rest c.next.new.self in
+    elim c.then-size-w.branch [
+      | then-size-w-via-then-size-w w ↦ sizes-wide c.args.w c.args.h size rest s.0 (s.1 ∙ i.0) w.if-size-w.true ∙ sym i.1
+      | then-size-w-via-else-size-w+then-size-h w ↦ sizes-high c.args.w c.args.h size rest s.0 (s.1 ∙ i.0) w.if-size-w.false w.if-size-h.true ∙ sym i.1
+    ]
 
-pub loop-s-init : goal.loop-s-init
-loop-s-init c = sized-all _ _ _ c.requires
-
-pub returns-then-sizes-s : goal.returns-then-sizes-s
-returns-then-sizes-s c = sized-wide _ _ _ c.loop-s.invariant c.loop-s-test.true c.if-sizes-s.true
-
-pub overflow_add-s : goal.overflow_add-s
-overflow_add-s c = let h = three (goal.at.overflow_add-s c).In-loop-s in search rules
-
-pub offset_bounds-sizes-s-in-loop-s : goal.offset_bounds-sizes-s-in-loop-s
-offset_bounds-sizes-s-in-loop-s c = let h = three (goal.at.offset_bounds-sizes-s-in-loop-s c).In-loop-s in search rules
-
-pub bounds-sizes-s-in-loop-s : goal.bounds-sizes-s-in-loop-s
-bounds-sizes-s-in-loop-s c = omega (arith, three (goal.at.bounds-sizes-s-in-loop-s c).In-loop-s)
-
-pub returns-then-sizes-s-2 : goal.returns-then-sizes-s-2
-returns-then-sizes-s-2 c = sized-high _ _ _ c.loop-s.invariant c.loop-s-test.true c.if-sizes-s.false c.if-sizes-s-2.true
-
-pub overflow_add-s-in-loop-s : goal.overflow_add-s-in-loop-s
-overflow_add-s-in-loop-s c = let h = three (goal.at.overflow_add-s-in-loop-s c).In-loop-s in search rules
-
-pub loop-s-smaller : goal.loop-s-smaller
-loop-s-smaller c = omega (arith, three (goal.at.loop-s-smaller c).In-loop-s)
-
-pub loop-s-preserved : goal.loop-s-preserved
-loop-s-preserved c = sized-next _ _ _ c.loop-s.invariant c.loop-s-test.true c.if-sizes-s.false c.if-sizes-s-2.false
+pub loop-size-preserved : goal.loop-size-preserved
+loop-size-preserved c =
+    let i = c.loop-size.invariant in
+    let s = c.in-Some.ensures.steps in
+    (s.0 ∙ i.0, i.1 ∙ sizes-next c.args.w c.args.h c.in-Some.size.now _ s.1.0 (s.1.1 ∙ i.0) c.if-size-w.false c.if-size-h.false)
 
 pub returns : goal.returns
-returns c = sized-none _ _ _ c.loop-s.invariant c.loop-s-test.false
+returns c =
+    let i = c.loop-size.invariant in
+    sizes-short c.args.w c.args.h _ (omega (arith, c.in-None.ensures.steps.1.0, i.0)) ∙ sym i.1

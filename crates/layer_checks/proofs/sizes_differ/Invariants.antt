@@ -1,13 +1,9 @@
--- `sizes_differ`: those before s do not. Assumes nothing.
-use Prim.Native.Nat.{◌+◌, ◌-◌, ◌≤◌}
-use native.Mathlib.Omega.{arith}
-use borrow.Author.Rules.{rules}
-use lib.ListN.{length}
-use Rattle.layer_checks.proofs.Judging.{Sized, sized-all, sized-three, sized-none, sized-wide, sized-high, sized-next}
+-- `sizes_differ`: what is said of all layers is said of those that are left. Assumes nothing.
+use mathlib.Core.Path.{◌≡◌}
+use Rattle.std.specs.Slice.Iter.{chunks_exact_rest, chunks_exact_size}
+use Rattle.layer_checks.specs.Judged.{sizes_differ}
 use Rattle.layer_checks.proofs.sizes_differ.Given as goal
 
-abbrev pub invariant-loop-s : goal.invariant-loop-s
-invariant-loop-s l = Sized l.w l.h l.sizes l.s
-
-abbrev pub decreases-loop-s : goal.decreases-loop-s
-decreases-loop-s l = length l.sizes - l.s
+abbrev pub invariant-loop-size : goal.invariant-loop-size
+invariant-loop-size l =
+    (chunks_exact_size l.size-iterator ≡ 3) × (sizes_differ l.w l.h l.sizes ≡ sizes_differ l.w l.h (chunks_exact_rest l.size-iterator))

@@ -1,7 +1,6 @@
 -- `stack_no`: the count, then the layers. Assumes nothing.
 use mathlib.Core.Path.{sym, ◌∙◌}
 use Rattle.layer_checks.proofs.Judging.{count-thirds, stack-count, stack-layers}
-use borrow.Author.Rules.{rules}
 use Rattle.layer_checks.proofs.stack_no.Goals as goal
 
 pub returns-then-bad_count : goal.returns-then-bad_count

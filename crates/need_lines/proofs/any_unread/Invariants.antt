@@ -1,15 +1,12 @@
 -- `any_unread`: no line before this place is an opening or malformed. Assumes nothing.
-use Rattle.need_model.specs.Asked.{unread}
-use Rattle.need_lines.proofs.Cut.{Searching, searching-none, searching-met, searching-next, searching-end}
-use mathlib.Core.Path.{sym, ◌∙◌}
-use Prim.Native.Nat.{◌≤◌, ◌-◌}
-use native.Mathlib.Omega.{arith}
-use borrow.Author.Rules.{rules}
+use Prim.Native.Nat.{◌-◌}
 use lib.ListN.{length}
+use Rattle.need_model.specs.Asked.{unread}
+use Rattle.need_lines.proofs.Cut.{Searching}
 use Rattle.need_lines.proofs.any_unread.Given as goal
 
 abbrev pub invariant-loop-at : goal.invariant-loop-at
-invariant-loop-at l = (l.at ≤ length l.text) × Searching unread l.text l.at
+invariant-loop-at l = Searching unread l.text l.at
 
 abbrev pub decreases-loop-at : goal.decreases-loop-at
 decreases-loop-at l = length l.text - l.at

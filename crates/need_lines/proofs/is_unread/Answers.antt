@@ -2,7 +2,6 @@
 use Rattle.panel_frames.specs.Reading.{Told}
 use Rattle.need_model.specs.Asked.{no_call, unread}
 use mathlib.Core.Path.{ap, ◌∙◌}
-use borrow.Author.Rules.{rules}
 use Rattle.need_lines.proofs.is_unread.Goals as goal
 
 pub returns : goal.returns

@@ -1,18 +1,8 @@
 -- `answer_held`: a line is held, or none. Assumes nothing.
 use Rattle.panel_ends.proofs.Held.{some-held, none-held}
 use Rattle.panel_open.specs.Memory.{panel_in}
-use lib.Seq.{length-take-le}
 use native.Mathlib.Omega.{arith}
-use mathlib.Core.Path.{sym}
-use borrow.Author.Rules.{rules}
-use Rattle.panel_ends.proofs.answer_held.Reads as reads
-use Rattle.panel_ends.proofs.answer_held.Lts as lts
-use Rattle.panel_session.proofs.step.Reads as step-reads
 use Rattle.panel_ends.proofs.answer_held.Goals as goal
-
-pub slice_bounds-step-end : goal.slice_bounds-step-end
-slice_bounds-step-end c =
-    sym (length-take-le _ _ (omega (arith, c.requires.holds.0.line-length, c.requires.holds.0.within)))
 
 pub returns-then-len-gt0 : goal.returns-then-len-gt0
 returns-then-len-gt0 c =

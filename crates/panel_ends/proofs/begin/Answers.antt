@@ -2,7 +2,6 @@
 use Rattle.panel_open.specs.Memory.{panel_in}
 use mathlib.Core.Path.{refl}
 use native.Mathlib.Omega.{arith}
-use borrow.Author.Rules.{rules}
 use Rattle.panel_ends.proofs.begin.Goals as goal
 
 pub returns : goal.returns

@@ -1,9 +1,6 @@
 -- `put_bytes`: the digits of the first i bytes stand. Assumes nothing.
-use Rattle.panel_hex.proofs.Digits.{Hexing, hexing-none, hexing-next, hexing-all}
+use Rattle.panel_hex.proofs.Digits.{hexing-none, hexing-next}
 use mathlib.Core.Path.{refl}
-use lib.ListN.{length}
-use Prim.Native.Nat.{◌-◌}
-use borrow.Author.Rules.{rules}
 use Rattle.panel_hex.proofs.put_bytes.Goals as goal
 
 pub loop-i-init : goal.loop-i-init
@@ -12,9 +9,3 @@ loop-i-init c = hexing-none _ _ _
 pub loop-i-preserved : goal.loop-i-preserved
 loop-i-preserved c =
     hexing-next _ _ _ c.requires _ c.loop-i.i c.loop-i.invariant _ _ c.loop-i-test.true refl c.put_byte.ensures
-
-pub shape_of-out : goal.shape_of-out
-shape_of-out c = c.loop-i.invariant.long
-
-pub returns : goal.returns
-returns c = hexing-all _ _ _ c.requires _ c.loop-i.i c.loop-i.invariant c.loop-i-test.false

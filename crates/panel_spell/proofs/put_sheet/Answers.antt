@@ -1,19 +1,10 @@
 -- `put_sheet`: head, colours, indices, newline. Assumes nothing.
-use mathlib.Core.Path.{sym}
 use Prim.Native.Nat.{◌*◌}
 use native.Mathlib.Omega.{arith}
 use lib.ListN.{take}
 use lib.Seq.{length-take-le}
 use Rattle.panel_spell.proofs.Written.{length-line, line-written}
-use borrow.Author.Rules.{rules}
 use Rattle.panel_spell.proofs.put_sheet.Goals as goal
-
-pub slice_bounds-put_bytes-end : goal.slice_bounds-put_bytes-end
-slice_bounds-put_bytes-end c = sym (length-take-le _ _ c.requires.k_bound.1)
-
-pub put_bytes-requires : goal.put_bytes-requires
-put_bytes-requires c =
-    omega (arith, length-take-le (3 * c.args.k) c.args.palette.now c.requires.k_bound.1, c.requires.indices_in_bounds)
 
 pub returns : goal.returns
 returns c =

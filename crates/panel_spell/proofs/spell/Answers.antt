@@ -2,7 +2,6 @@
 use native.Mathlib.Omega.{arith}
 use Rattle.panel_spell.specs.Spelling.{spelt}
 use Rattle.panel_spell.proofs.Judging.{length-spelt, spell-refused, spell-done}
-use borrow.Author.Rules.{rules}
 use Rattle.panel_spell.proofs.spell.Goals as goal
 
 pub returns-then-no-ne0 : goal.returns-then-no-ne0

@@ -1,5 +1,4 @@
 -- `spell_no`: the sides, 1 to 3, then the room. Assumes nothing.
-use borrow.Author.Rules.{rules}
 use native.Mathlib.Omega.{arith}
 use Rattle.sheet.specs.Checks.{WellFormed}
 use Rattle.sheet.specs.Sheet.{sheet_of}
@@ -19,12 +18,6 @@ returns-then-h-gt-MAX_OPEN c = too-tall _ _ c.if-w-gt-MAX_OPEN.false c.if-h-gt-M
 
 pub returns-then-no-ne0 : goal.returns-then-no-ne0
 returns-then-no-ne0 c = no-sheet _ _ c.if-w-gt-MAX_OPEN.false c.if-h-gt-MAX_OPEN.false _ c.check-no.ensures c.if-no-ne0.true
-
-pub overflow_mul-w : goal.overflow_mul-w
-overflow_mul-w c = let f = past c in omega (arith, f.limits.cells)
-
-pub line_length-requires : goal.line_length-requires
-line_length-requires c = let f = past c in (f.limits.k-small, f.limits.cells)
 
 pub returns-then-room-line_length : goal.returns-then-room-line_length
 returns-then-room-line_length c =

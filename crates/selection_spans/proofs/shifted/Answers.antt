@@ -1,6 +1,5 @@
 -- `shifted`: the corners fit, so they read back as themselves. Assumes nothing.
 use native.Mathlib.Omega.{arith}
-use borrow.Author.Rules.{rules}
 use mir.Facts.{to_z-of_z}
 use Rattle.selection_spans.specs.Spans.{moved_first, moved_last}
 use Rattle.selection_spans.proofs.Moved.{Corners, corners}

@@ -1,13 +1,12 @@
 -- `write_rows`: so far the front of the buffer is the first j rows. Assumes nothing.
 use mathlib.Core.Path.{◌≡◌}
 use mathlib.Core.List.{flat_map}
-use Prim.Native.Nat.{◌≤◌, ◌-◌, ◌+◌, ◌*◌}
+use Prim.Native.Nat.{◌≤◌, ◌+◌, ◌*◌}
 use native.Mathlib.Omega.{arith}
-use borrow.Author.Rules.{rules}
 use lib.ListN.{length, length-take, length-drop}
-use Rattle.base.specs.Lists.{range, over}
+use Rattle.base.specs.Lists.{range}
 use Rattle.base.proofs.Over.{over_none}
-use Rattle.selection_spans.specs.Positions.{flat, rows}
+use Rattle.selection_spans.specs.Positions.{flat}
 use Rattle.selection_spans.proofs.Rows.{rows_step, room}
 use Rattle.selection_spans.proofs.write_rows.Goals as goal
 use Rattle.selection_spans.proofs.write_rows.Goals.{In-loop-j}
@@ -17,7 +16,7 @@ here c = omega (arith, room c.before.before.args.w c.loop-j-test.true)
 
 pub loop-j-init : goal.loop-j-init
 unfolding flat range flat_map
-loop-j-init c = (search rules, search rules, over_none _)
+loop-j-init c = over_none _
 
 pub overflow_mul-at : goal.overflow_mul-at
 overflow_mul-at c = omega (arith, here c)
@@ -31,14 +30,11 @@ offset_bounds-out-at c = omega (arith, here c)
 pub slice_bounds-write_row-count : goal.slice_bounds-write_row-count
 slice_bounds-write_row-count c = omega (arith, here c)
 
--- LEFT part-write-row-start : tie.Need-slice-bounds-write-row-start invariant-loop decreases-loop
--- LEFT part-write-row-start c = omega (arith, here c)
-
 pub write_row-requires : goal.write_row-requires
 write_row-requires c = record { room = simp (length-take, length-drop) (omega (arith, here c.before)); right = omega arith; below = omega arith }
 
 pub loop-j-preserved : goal.loop-j-preserved
-loop-j-preserved c = (search rules, search rules, rows_step _ _ _ _ _ _ _ c.loop-j.invariant.2 c.write_row.ensures)
+loop-j-preserved c = rows_step _ _ _ _ _ _ _ c.loop-j.invariant c.write_row.ensures
 
 pub returns : goal.returns
-returns c = let all : c.loop-j.j ≡ c.args.h = omega arith in rw all at c.loop-j.invariant.2
+returns c = let all : c.loop-j.j ≡ c.args.h = omega arith in rw all at c.loop-j.invariant

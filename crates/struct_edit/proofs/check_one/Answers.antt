@@ -4,7 +4,6 @@ use Rattle.base.specs.Checks.{first_of}
 use Rattle.edit.specs.Checks.{change_checks}
 use Rattle.edit_checks.specs.Marks.{Markable}
 use Rattle.struct_edit.specs.Walk.{mark_one}
-use borrow.Author.Rules.{rules}
 use Rattle.struct_edit.proofs.check_one.Goals as goal
 
 pub mark_move-requires : goal.mark_move-requires
@@ -14,11 +13,3 @@ mark_move-requires c = let p = c.requires in let m = rw c.in-RemapList.is at p.m
 pub returns-in-NoList : goal.returns-in-NoList
 unfolding change_checks mark_one first_of
 returns-in-NoList c = let e = c.in-NoList.is in (rw e refl, rw e refl)
-
-pub returns-in-PixelList : goal.returns-in-PixelList
-unfolding change_checks mark_one
-returns-in-PixelList c = let e = c.in-PixelList.is in (rw e (rw c.packed-n.ensures at c.pixel_no.ensures), rw e refl)
-
-pub returns-in-RemapList : goal.returns-in-RemapList
-unfolding change_checks mark_one
-returns-in-RemapList c = let e = c.in-RemapList.is in let q = rw c.packed-n.ensures at c.mark_move.ensures in (rw e q.0, rw e q.1)

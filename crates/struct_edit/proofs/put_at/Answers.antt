@@ -1,6 +1,5 @@
 -- `put_at`: the part is lent from the offset on. Assumes nothing.
 use Rattle.struct_edit.proofs.Putting.{spliced-within}
-use borrow.Author.Rules.{rules}
 use Rattle.struct_edit.proofs.put_at.Goals as goal
 
 pub returns : goal.returns

@@ -1,11 +1,7 @@
 -- `put_list`: the journal after the changes so far. Assumes nothing.
 use mathlib.Core.Path.{◌≡◌}
-use Prim.Native.Nat.{◌≤◌, ◌-◌}
 use Rattle.struct_edit.specs.Walk.{put_upto}
 use Rattle.struct_edit.proofs.put_list.Given as goal
 
 abbrev pub invariant-loop-i : goal.invariant-loop-i
-invariant-loop-i l = (l.i ≤ l.n) × (l.journal ≡ put_upto l.form l.kind l.offset l.w l.indices l.list l.initial.journal l.i)
-
-abbrev pub decreases-loop-i : goal.decreases-loop-i
-decreases-loop-i l = l.n - l.i
+invariant-loop-i l = l.journal ≡ put_upto l.form l.kind l.offset l.w l.indices l.list l.initial.journal l.i

@@ -1,11 +1,9 @@
 -- `mirror_tiles`: the list is packed into flat where it is read, `mirror_packed` leaves its answer in the scratch, and what is made is
 -- unpacked into out, or the list copied there. Assumes nothing.
-use Rattle.std.proofs.Common.{◌≡◌, true, Bool, List, map, ℕ, ◌≤◌, length, arith}
-use lib.ListN.{length-map, take}
+use Rattle.std.proofs.Common.{map, length, arith}
+use lib.ListN.{length-map}
 use Rattle.base.specs.Answer.{filled}
-use Rattle.base.specs.Lists.{some}
 use Rattle.sheet.specs.Sheet.{sheet_of}
-use Rattle.edit.specs.Change.{outside, unpacked}
 use Rattle.struct_change.specs.Struct.{packed_of}
 use Rattle.tile_mirror_checks.specs.Calls.{touching}
 use Rattle.struct_mirror_list.specs.Laid.{made_of, kept_of, Laid}
@@ -26,12 +24,12 @@ left c =
     rw c.pack.auto.flat at
     (c.mirror_packed-r.ensures (map packed_of a.list.now) e
     (read_off a.w a.h a.t a.on _ _ _ i r (map packed_of a.list.now) e _ c.any_outside-off.ensures)
-    (λ y enough. read-front a.w a.h a.t a.on _ _ _ i r (map packed_of a.list.now) e a.flat.now _ _ c.min_usize-m.ensures c.pack.auto.flat c.pack.ensures y enough))
+    (λ y enough. read-front a.w a.h a.t a.on _ _ _ i r (map packed_of a.list.now) e a.flat.now _ _ c.min-m.ensures c.pack.auto.flat c.pack.ensures y enough))
 
 pub mirror_packed-r-requires : goal.mirror_packed-r-requires
 mirror_packed-r-requires c y enough =
     let a = c.args in
-    read-judged a.w a.h a.t a.on _ _ _ c.is_touching-touched.ensures c.read_of-read.ensures (map packed_of a.list.now) (length-map a.list.now packed_of) _ c.any_outside-off.ensures a.flat.now _ _ c.min_usize-m.ensures c.pack.auto.flat c.pack.ensures y enough
+    read-judged a.w a.h a.t a.on _ _ _ c.is_touching-touched.ensures c.read_of-read.ensures (map packed_of a.list.now) (length-map a.list.now packed_of) _ c.any_outside-off.ensures a.flat.now _ _ c.min-m.ensures c.pack.auto.flat c.pack.ensures y enough
 
 pub unpack-requires : goal.unpack-requires
 unpack-requires c = unpack-fits _ _ c.is_touching-touched.ensures c.mirror_packed-r.result (left (goal.at.unpack-requires c).After-mirror_packed-r) _ c.made_of-made.ensures

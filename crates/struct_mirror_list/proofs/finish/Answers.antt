@@ -1,10 +1,6 @@
 -- `finish`: by the tests. Assumes nothing.
-use mathlib.Core.Path.{sym}
-use borrow.Author.Tests.{not-true, not-false}
-use lib.Seq.{length-take-le}
 use Rattle.change_list.proofs.Fronts.{front-within}
 use Rattle.struct_mirror_list.proofs.Laying.{finish-kept, finish-short, finish-made}
-use borrow.Author.Rules.{rules}
 use Rattle.struct_mirror_list.proofs.finish.Goals as goal
 
 pub returns-then-not-touched : goal.returns-then-not-touched
@@ -12,12 +8,6 @@ returns-then-not-touched c list e q = let a = c.args in finish-kept a.w a.h a.t 
 
 pub returns-then-flat-n : goal.returns-then-flat-n
 returns-then-flat-n c list e q = let a = c.args in finish-short a.w a.h a.t a.indices.now a.s a.touched a.flat.now list a.n e a.room _ (c.if-not-touched.false) c.if-flat-n.true
-
-pub slice_bounds-mirror_in-end : goal.slice_bounds-mirror_in-end
-slice_bounds-mirror_in-end c = sym (length-take-le _ _ c.if-flat-n.false)
-
-pub mirror_in-c-requires : goal.mirror_in-c-requires
-mirror_in-c-requires c = (c.requires.0 (c.if-not-touched.false) c.if-flat-n.false, c.requires.1)
 
 pub returns : goal.returns
 returns c list e q =

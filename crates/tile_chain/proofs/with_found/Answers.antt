@@ -1,6 +1,5 @@
 -- `with_found`: the lower and the upper number of a place. Assumes nothing.
 use native.Mathlib.Omega.{arith}
-use borrow.Author.Rules.{rules}
 use Rattle.tile_chain.specs.Table.{found_in, head_in, next_in}
 use Rattle.tile_chain.proofs.with_found.Goals as goal
 

@@ -1,23 +1,13 @@
 -- `first_cells_sorted`: the classes, an empty table, and the first cell of each class. Assumes nothing.
 use mathlib.Core.Path.{refl}
-use native.Mathlib.Omega.{arith}
 use Rattle.tile_cells.specs.Cells.{cell_count}
-use Rattle.tile_cells.proofs.Corners.{count_small, area}
 use Rattle.tile_classes.proofs.Pixels.{told-all}
 use Rattle.tile_classes.proofs.Entering.{entered-none}
-use borrow.Author.Rules.{rules}
 use Rattle.tile_classes.proofs.first_cells_sorted.Goals as goal
-
-pub overflow_mul-n : goal.overflow_mul-n
-unfolding cell_count
-overflow_mul-n c = let d = c.requires.0 in omega (arith, count_small d, area d)
 
 pub tell_apart-requires : goal.tell_apart-requires
 unfolding cell_count
 tell_apart-requires c = let q = c.requires in (q.0, refl, q.2, q.1)
-
-pub clear-requires : goal.clear-requires
-clear-requires c = c.tell_apart.ensures.classed.room
 
 pub enter_all-requires : goal.enter_all-requires
 unfolding cell_count

@@ -5,9 +5,7 @@ use native.Mathlib.Omega.{arith}
 use lib.ListN.{length}
 use lib.Seq.{length-take-le, length_front, take_at}
 use Rattle.tile_cells.specs.Cells.{cell_count, first_cells}
-use Rattle.tile_cells.proofs.Corners.{count_small, area}
 use Rattle.tile_match.proofs.Entering.{length-first-cells}
-use borrow.Author.Rules.{rules}
 use Rattle.tile_match.proofs.first_cells.Goals as goal
 use Rattle.tile_match.proofs.first_cells.Goals.{Else-done, Then-done}
 
@@ -18,10 +16,6 @@ filled c = c.fill-done.ensures.s_after c.if-done.true
 few : (c : Else-done) → let a = c.args in
     c.longest-most.result < cell_count a.w a.h a.t
 few c = c.fill-done.ensures.most_bound c.if-done.false
-
-pub overflow_mul-n : goal.overflow_mul-n
-unfolding cell_count
-overflow_mul-n c = let d = c.requires.0 in omega (arith, count_small d, area d)
 
 pub longest-most-requires : goal.longest-most-requires
 unfolding cell_count

@@ -8,8 +8,8 @@ use Rattle.base.proofs.Nowhere.{some-map}
 use borrow.Author.Rules.{rules}
 use Rattle.tile_mirror_checks.proofs.any_outside.Goals as goal
 
-pub loop-i-preserved : goal.loop-i-preserved
-loop-i-preserved c = (search rules, flag-step 0 c.loop-i.invariant.1 c.loop-i-test.true c.is_outside.ensures c.either-off.ensures)
+pub loop-change-preserved : goal.loop-change-preserved
+loop-change-preserved c = flag-step 0 c.loop-change.invariant c.loop-change-test.true c.is_outside.ensures c.either-off.ensures
 
 pub returns : goal.returns
-returns c = flag-end c.loop-i.invariant.1 c.loop-i-test.false ∙ sym (some-map unpacked _ _)
+returns c = flag-end c.loop-change.invariant c.loop-change-test.false ∙ sym (some-map unpacked _ _)

@@ -8,8 +8,5 @@ use Rattle.base.proofs.Nowhere.{some-map}
 use borrow.Author.Rules.{rules}
 use Rattle.tile_mirror_checks.proofs.any_outside.Given as goal
 
-abbrev pub invariant-loop-i : goal.invariant-loop-i
-invariant-loop-i l = (l.i ≤ length l.list) × Flagged (λ c. outside l.w l.h (unpacked c)) l.list l.i l.off
-
-abbrev pub decreases-loop-i : goal.decreases-loop-i
-decreases-loop-i l = length l.list - l.i
+abbrev pub invariant-loop-change : goal.invariant-loop-change
+invariant-loop-change l = Flagged (λ c. outside l.w l.h (unpacked c)) l.list l.change-index l.off

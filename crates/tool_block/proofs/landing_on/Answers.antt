@@ -19,4 +19,4 @@ overflow_add-first-2 c = let o = value (goal.at.overflow_add-first-2 c).After-of
 
 pub returns : goal.returns
 unfolding landing
-returns c = rw (← value (goal.at.returns c).After-offset, c.saturating_sub-3.ensures, c.saturating_sub-2.ensures, c.min_usize-end.ensures, c.saturating_sub.ensures, c.saturating_sub-to.ensures)
+returns c = rw (← value (goal.at.returns c).After-offset, c.saturating_sub-3.ensures, c.saturating_sub-2.ensures, c.min-end.ensures, c.saturating_sub.ensures, c.saturating_sub-to.ensures)

@@ -4,7 +4,6 @@ use native.Mathlib.Numerals.{add-one}
 use lib.ListN.{length-set}
 use Rattle.journal_record.specs.Bytes.{le}
 use Rattle.journal_record.proofs.Splice.{splice-sets}
-use borrow.Author.Rules.{rules}
 use Rattle.c_bytes.proofs.number.put_u16.Goals as goal
 
 pub bounds-dst-at-2 : goal.bounds-dst-at-2

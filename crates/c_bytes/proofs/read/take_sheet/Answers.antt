@@ -1,15 +1,8 @@
 -- `take_sheet`: part by part. Assumes nothing.
-use Rattle.c_form.proofs.Fields.{length-read}
-use mathlib.Core.Path.{refl, ap, ◌∙◌}
-use lib.ListN.{length}
-use Rattle.c_form.specs.Fields.{read_from}
-use borrow.Author.Rules.{rules}
+use native.Mathlib.Omega.{arith}
+use mathlib.Core.Path.{◌∙◌}
+use Rattle.c_bytes.proofs.Copies.{bytes-read}
 use Rattle.c_bytes.proofs.read.take_sheet.Goals as goal
 
-pub returns : goal.returns
-returns c = record {
-  palette_after = rw c.requires.1 at c.take_palette.ensures;
-  lab_after = rw c.requires.2 at c.take_lab.ensures;
-  indices_after = c.take_indices.ensures;
-  locks_after = rw (c.requires.3, ap length c.take_indices.ensures ∙ length-read 2 _ _ 6891 _) at c.take_locks.ensures;
-}
+pub returns-clause-palette_after : goal.returns-clause-palette_after
+returns-clause-palette_after c = c.copy_from_slice.ensures.after ∙ bytes-read c.args.src.now 6 765 (omega (arith, c.requires))

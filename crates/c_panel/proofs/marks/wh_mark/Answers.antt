@@ -1,9 +1,8 @@
 -- `wh_mark`: 28, then the core's mark. Assumes nothing.
-use mathlib.Core.Path.{◌≡◌, refl, sym, ap, ◌∙◌}
+use mathlib.Core.Path.{sym, ap, ◌∙◌}
 use native.Mathlib.Omega.{arith}
 use Rattle.history_ledger.specs.Journal.{mark_of}
 use Rattle.c_panel.proofs.Large.{fits-forty, both-fit, mark-no-sheet, mark-no-handle, mark-leaves}
-use borrow.Author.Rules.{rules}
 use Rattle.c_panel.proofs.marks.wh_mark.Goals as goal
 
 pub returns-then-sheet_misfits : goal.returns-then-sheet_misfits

@@ -1,7 +1,6 @@
 -- `push_changes`: the list read, then the core's push. Assumes nothing.
-use mathlib.Core.Path.{◌≡◌, refl, sym, ap, ◌∙◌}
+use mathlib.Core.Path.{◌∙◌}
 use Rattle.c_panel.proofs.Limits.{changes-are}
-use borrow.Author.Rules.{rules}
 use Rattle.c_panel.proofs.pushes.push_changes.Goals as goal
 
 pub returns : goal.returns

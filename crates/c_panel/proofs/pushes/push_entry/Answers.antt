@@ -1,8 +1,7 @@
 -- `push_entry`: 28, then the core's push. Assumes nothing.
-use mathlib.Core.Path.{◌≡◌, refl, sym, ap, ◌∙◌}
+use mathlib.Core.Path.{sym, ◌∙◌}
 use Rattle.c_panel.proofs.Large.{both-fit, sheet-misfit, handle-misfit, numbered}
 use Rattle.c_panel.specs.Lent.{list_fit}
-use borrow.Author.Rules.{rules}
 use Rattle.c_panel.proofs.pushes.push_entry.Goals as goal
 
 pub returns-then-sheet_misfits : goal.returns-then-sheet_misfits
@@ -12,9 +11,6 @@ returns-then-sheet_misfits c = sheet-misfit _ _ (sym c.sheet_misfits.ensures ∙
 pub returns-then-handle_misfits : goal.returns-then-handle_misfits
 unfolding list_fit
 returns-then-handle_misfits c = handle-misfit _ _ (sym c.handle_misfits.ensures ∙ c.if-handle_misfits.true)
-
-pub push_fit-answer-requires : goal.push_fit-answer-requires
-push_fit-answer-requires c = both-fit _ _ (sym c.sheet_misfits.ensures ∙ c.if-sheet_misfits.false) (sym c.handle_misfits.ensures ∙ c.if-handle_misfits.false)
 
 pub returns : goal.returns
 unfolding list_fit

@@ -1,12 +1,11 @@
 -- `push_fit`: 1 for a side over 64. Assumes nothing.
-use mathlib.Core.Path.{◌≡◌, refl, sym, ap, ◌∙◌}
+use mathlib.Core.Path.{ap, ◌∙◌}
 use native.Mathlib.Omega.{arith}
 use lib.Seq.{length-take-le}
 use Rattle.c_model.specs.Step.{flattened}
 use Rattle.c_panel.proofs.Large.{fits-handle, fits-suits, few, sized, over-width, over-height, sides-fit}
 use Rattle.c_panel.proofs.Limits.{large-push, small-push}
 use Rattle.c_panel.proofs.Settled.{push-settled}
-use borrow.Author.Rules.{rules}
 use Rattle.c_panel.proofs.pushes.push_fit.Goals as goal
 
 pub pair_at-w-requires : goal.pair_at-w-requires
@@ -24,17 +23,8 @@ returns-then-w-gt64 c = large-push _ _ (over-width _ _ c.pair_at-w.ensures.0 c.i
 pub returns-then-h-gt64 : goal.returns-then-h-gt64
 returns-then-h-gt64 c = large-push _ _ (over-height _ _ c.pair_at-h.ensures.0 c.if-h-gt64.true)
 
-pub overflow_mul-n : goal.overflow_mul-n
-overflow_mul-n c = omega (arith, few _ _ c.if-w-gt64.false c.if-h-gt64.false)
-
 pub take_handle-before-requires : goal.take_handle-before-requires
 take_handle-before-requires c = omega (arith, fits-handle _ _ c.requires)
-
-pub slice_bounds-indices-end : goal.slice_bounds-indices-end
-slice_bounds-indices-end c = omega (arith, few _ _ c.if-w-gt64.false c.if-h-gt64.false)
-
-pub slice_bounds-push_sized-end : goal.slice_bounds-push_sized-end
-slice_bounds-push_sized-end c = sym (length-take-le _ _ (omega (arith, few _ _ c.if-w-gt64.false c.if-h-gt64.false)))
 
 pub push_sized-moved-requires : goal.push_sized-moved-requires
 push_sized-moved-requires c =

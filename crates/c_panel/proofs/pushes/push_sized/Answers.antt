@@ -1,16 +1,7 @@
 -- `push_sized`: taken apart, the core's push, put back. Assumes nothing.
-use mathlib.Core.Path.{◌≡◌, refl, sym, ap, ◌∙◌}
-use native.Mathlib.Omega.{arith}
-use Prim.Native.Nat.{ℕ, ◌+◌, ◌*◌}
+use mathlib.Core.Path.{refl}
 use Rattle.c_panel.proofs.Settled.{taken, settles, pushed-by}
-use borrow.Author.Rules.{rules}
 use Rattle.c_panel.proofs.pushes.push_sized.Goals as goal
-
-pub settle_sheet-requires : goal.settle_sheet-requires
-settle_sheet-requires c = (
-  record { palette-length = omega arith; lab-length = omega arith; locks-length = omega arith },
-  c.requires.suits ∙ ap (λ (n : ℕ). 7146 + 2 * n) (sym (c.push-moved.auto.indices ∙ c.take_sheet.auto.indices)),
-)
 
 pub returns : goal.returns
 returns c =

@@ -1,8 +1,7 @@
 -- `wh_push_lock`: 28 of the mark, then the edit. Assumes nothing.
-use mathlib.Core.Path.{◌≡◌, refl, sym, ap, ◌∙◌}
-use Rattle.c_model.specs.Asked.{given_by, misfit_of, is_longer}
+use mathlib.Core.Path.{refl}
+use Rattle.c_model.specs.Asked.{given_by, is_longer}
 use Rattle.c_panel.proofs.Limits.{entered, misfit-asked, lock-misfit, lock-fits}
-use borrow.Author.Rules.{rules}
 use Rattle.c_panel.proofs.pushes.wh_push_lock.Goals as goal
 
 pub returns-then-mark-gt1 : goal.returns-then-mark-gt1

@@ -1,7 +1,6 @@
 -- `wh_push_pixels`: the edit. Assumes nothing.
-use mathlib.Core.Path.{◌≡◌, refl, sym, ap, ◌∙◌}
+use mathlib.Core.Path.{refl}
 use Rattle.c_model.specs.Asked.{given_by, misfit_of, is_longer}
-use borrow.Author.Rules.{rules}
 use Rattle.c_panel.proofs.pushes.wh_push_pixels.Goals as goal
 
 pub returns : goal.returns

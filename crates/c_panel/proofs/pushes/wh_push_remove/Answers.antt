@@ -1,5 +1,5 @@
 -- `wh_push_remove`: the edit, unfilled. Assumes nothing.
-use mathlib.Core.Path.{◌≡◌, refl, sym, ap, ◌∙◌}
+use mathlib.Core.Path.{refl, ap}
 use mathlib.Core.Bool.{false}
 use mathlib.Core.List.{[]}
 use Rattle.base.specs.declared.Lab.{Lab}
@@ -7,7 +7,6 @@ use Rattle.base.specs.declared.Edit.TheVariants.{PaletteRemove}
 use Rattle.c_form.specs.Flat.{numbers_in}
 use Rattle.history_model.specs.Editing.{given_of}
 use Rattle.c_model.specs.Asked.{unfilled, given_by, misfit_of, is_longer}
-use borrow.Author.Rules.{rules}
 use Rattle.c_panel.proofs.pushes.wh_push_remove.Goals as goal
 
 pub returns : goal.returns

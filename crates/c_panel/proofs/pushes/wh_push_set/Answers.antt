@@ -1,14 +1,12 @@
 -- `wh_push_set`: the edit, unfilled. Assumes nothing.
-use mathlib.Core.Path.{◌≡◌, refl, sym, ap, ◌∙◌}
+use mathlib.Core.Path.{refl, ap}
 use mathlib.Core.Bool.{false}
 use mathlib.Core.List.{[]}
 use Rattle.base.specs.declared.Lab.{Lab}
-use Rattle.base.specs.declared.Rgb.{Rgb}
 use Rattle.base.specs.declared.Edit.TheVariants.{PaletteSet}
 use Rattle.history_model.specs.Editing.{given_of}
 use Rattle.c_model.specs.Asked.{Asked, given_by, misfit_of, is_longer}
 use Rattle.c_panel.proofs.Limits.{entered}
-use borrow.Author.Rules.{rules}
 use Rattle.c_panel.proofs.pushes.wh_push_set.Goals as goal
 
 pub returns : goal.returns

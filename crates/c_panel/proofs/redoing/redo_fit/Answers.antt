@@ -1,11 +1,10 @@
 -- `redo_fit`: 1 for a side over 64. Assumes nothing.
-use mathlib.Core.Path.{◌≡◌, refl, sym, ap, ◌∙◌}
+use mathlib.Core.Path.{ap, ◌∙◌}
 use native.Mathlib.Omega.{arith}
 use lib.Seq.{length-take-le}
 use Rattle.c_model.specs.Step.{flattened}
 use Rattle.c_panel.proofs.Large.{fits-handle, fits-suits, few, sized, over-width, over-height, sides-fit, large-redo, small-redo}
 use Rattle.c_panel.proofs.Settled.{redo-settled}
-use borrow.Author.Rules.{rules}
 use Rattle.c_panel.proofs.redoing.redo_fit.Goals as goal
 
 pub pair_at-w-requires : goal.pair_at-w-requires
@@ -23,17 +22,8 @@ returns-then-w-gt64 c = large-redo _ _ (over-width _ _ c.pair_at-w.ensures.0 c.i
 pub returns-then-h-gt64 : goal.returns-then-h-gt64
 returns-then-h-gt64 c = large-redo _ _ (over-height _ _ c.pair_at-h.ensures.0 c.if-h-gt64.true)
 
-pub overflow_mul-n : goal.overflow_mul-n
-overflow_mul-n c = omega (arith, few _ _ c.if-w-gt64.false c.if-h-gt64.false)
-
 pub take_handle-before-requires : goal.take_handle-before-requires
 take_handle-before-requires c = omega (arith, fits-handle _ _ c.requires)
-
-pub slice_bounds-indices-end : goal.slice_bounds-indices-end
-slice_bounds-indices-end c = omega (arith, few _ _ c.if-w-gt64.false c.if-h-gt64.false)
-
-pub slice_bounds-redo_sized-end : goal.slice_bounds-redo_sized-end
-slice_bounds-redo_sized-end c = sym (length-take-le _ _ (omega (arith, few _ _ c.if-w-gt64.false c.if-h-gt64.false)))
 
 pub redo_sized-moved-requires : goal.redo_sized-moved-requires
 redo_sized-moved-requires c =

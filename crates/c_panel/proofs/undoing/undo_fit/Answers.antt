@@ -1,11 +1,10 @@
 -- `undo_fit`: 1 for a side over 64. Assumes nothing.
-use mathlib.Core.Path.{◌≡◌, refl, sym, ap, ◌∙◌}
+use mathlib.Core.Path.{ap, ◌∙◌}
 use native.Mathlib.Omega.{arith}
 use lib.Seq.{length-take-le}
 use Rattle.c_model.specs.Step.{flattened}
 use Rattle.c_panel.proofs.Large.{fits-handle, fits-suits, few, sized, over-width, over-height, sides-fit, large-undo, small-undo}
 use Rattle.c_panel.proofs.Settled.{undo-settled}
-use borrow.Author.Rules.{rules}
 use Rattle.c_panel.proofs.undoing.undo_fit.Goals as goal
 
 pub pair_at-w-requires : goal.pair_at-w-requires
@@ -23,17 +22,8 @@ returns-then-w-gt64 c = large-undo _ (over-width _ _ c.pair_at-w.ensures.0 c.if-
 pub returns-then-h-gt64 : goal.returns-then-h-gt64
 returns-then-h-gt64 c = large-undo _ (over-height _ _ c.pair_at-h.ensures.0 c.if-h-gt64.true)
 
-pub overflow_mul-n : goal.overflow_mul-n
-overflow_mul-n c = omega (arith, few _ _ c.if-w-gt64.false c.if-h-gt64.false)
-
 pub take_handle-before-requires : goal.take_handle-before-requires
 take_handle-before-requires c = omega (arith, fits-handle _ _ c.requires)
-
-pub slice_bounds-indices-end : goal.slice_bounds-indices-end
-slice_bounds-indices-end c = omega (arith, few _ _ c.if-w-gt64.false c.if-h-gt64.false)
-
-pub slice_bounds-undo_sized-end : goal.slice_bounds-undo_sized-end
-slice_bounds-undo_sized-end c = sym (length-take-le _ _ (omega (arith, few _ _ c.if-w-gt64.false c.if-h-gt64.false)))
 
 pub undo_sized-moved-requires : goal.undo_sized-moved-requires
 undo_sized-moved-requires c =

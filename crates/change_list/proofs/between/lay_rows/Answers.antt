@@ -1,6 +1,5 @@
 -- `lay_rows`: the part that is lent holds the rows. Assumes nothing.
 use Rattle.change_list.proofs.Parts.{rows-laid}
-use borrow.Author.Rules.{rules}
 use Rattle.change_list.proofs.between.lay_rows.Goals as goal
 
 pub returns : goal.returns

@@ -1,9 +1,9 @@
 -- `paint`: the bits are the index. Assumes nothing.
-use Rattle.change_list.proofs.Copying.{painted-laid}
-use borrow.Author.Rules.{rules}
+use Rattle.base.proofs.Back.{by_value}
+use Rattle.change_list.proofs.Copying.{laid-set}
+use mir.Syntax.{w16}
+use mir.Val.{of_z}
 use Rattle.change_list.proofs.between.paint.Goals as goal
 
-pub returns : goal.returns
-returns c =
-    let p = painted-laid c.args.scratch.now c.args.p c.args.index c.ranges.index c.bits_of-bits.ensures in
-    record { scratch_after = p.0; by_index = p.1 }
+pub returns-clause-by_index : goal.returns-clause-by_index
+returns-clause-by_index c n = rw (by_value (of_z w16) c.ranges.index c.bits_of.ensures) (laid-set n _ _ _ c.ranges.index)

@@ -1,6 +1,5 @@
 -- `put_difference`: by the test. Assumes nothing.
 use Rattle.change_list.proofs.Rows.{put-alike, put_other}
-use borrow.Author.Rules.{rules}
 use Rattle.change_list.proofs.between.put_difference.Goals as goal
 
 pub returns-then-old-new : goal.returns-then-old-new

@@ -1,14 +1,10 @@
--- `finite::any_unfit` meets its contract. The loop's invariant: the flag and what is left say what the whole list says. Assumes nothing.
-use Prim.Native.Nat.{◌≤◌, ◌-◌}
-use borrow.Author.Rules.{rules}
-use lib.ListN.{length}
+-- `finite::any_unfit` meets its contract: a number more, and the end. Assumes nothing.
 use lib.Ieee.{nan}
-use Rattle.base.proofs.Scan.{Flagged, flag-step, flag-end}
-use Rattle.color_doubles.specs.Finite.{unfit}
+use Rattle.base.proofs.Scan.{flag-step, flag-end}
 use Rattle.color_doubles.proofs.finite.any_unfit.Goals as goal
 
-pub loop-i-preserved : goal.loop-i-preserved
-loop-i-preserved c = (search rules, flag-step nan c.loop-i.invariant.1 c.loop-i-test.true c.is_unfit.ensures c.either-bad.ensures)
+pub loop-x-preserved : goal.loop-x-preserved
+loop-x-preserved c = flag-step nan c.loop-x.invariant c.loop-x-test.true c.is_unfit.ensures c.either-bad.ensures
 
 pub returns : goal.returns
-returns c = flag-end c.loop-i.invariant.1 c.loop-i-test.false
+returns c = flag-end c.loop-x.invariant c.loop-x-test.false

@@ -1,5 +1,4 @@
 -- `nearest::distance_to` meets its contract, by those of the two that it calls. Assumes nothing.
-use borrow.Author.Rules.{rules}
 use Rattle.color_nearest.proofs.nearest.distance_to.Goals as goal
 
 pub returns : goal.returns

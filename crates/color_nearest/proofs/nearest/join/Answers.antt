@@ -1,5 +1,4 @@
 -- `nearest::join` meets its contract: the nearer of the two, and the sum. Assumes nothing.
-use borrow.Author.Rules.{rules}
 use Rattle.color_nearest.specs.Nearest.{joined}
 use Rattle.color_nearest.proofs.nearest.join.Goals as goal
 

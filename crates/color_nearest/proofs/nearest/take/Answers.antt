@@ -1,5 +1,4 @@
 -- `nearest::take` meets its contract: the nearer of what was found and entry i, and the sum. Assumes nothing.
-use borrow.Author.Rules.{rules}
 use Rattle.color_nearest.specs.Nearest.{closer, searched}
 use Rattle.color_nearest.proofs.nearest.take.Goals as goal
 

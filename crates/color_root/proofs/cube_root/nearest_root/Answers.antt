@@ -1,5 +1,4 @@
 -- `nearest_root`: the guess where it is settled, else what the two corrections find. Assumes nothing.
-use borrow.Author.Rules.{rules}
 use Rattle.color_root.proofs.cube_root.nearest_root.Goals as goal
 
 pub returns-then-settled : goal.returns-then-settled

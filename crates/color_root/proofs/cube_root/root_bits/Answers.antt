@@ -2,7 +2,6 @@
 use mathlib.Core.Path.{subst}
 use Prim.Native.Nat.{ℕ}
 use native.Mathlib.Omega.{arith}
-use borrow.Author.Rules.{rules}
 use Rattle.color_root.specs.Cubes.{NearestRoot}
 use Rattle.color_root.proofs.RootPattern.{root-found}
 use Rattle.color_root.proofs.cube_root.root_bits.Goals as goal

@@ -4,7 +4,6 @@ use Prim.Native.Nat.{ℕ, ◌+◌, ◌*◌, ◌/◌, ◌^◌, ◌≤◌, ◌<◌
 use native.Mathlib.Omega.{arith}
 use mathlib.Core.Bool.{true, false}
 use Rattle.color_root.proofs.Cubes.{top_small, half-square, reach, up-settled, down-settled}
-use borrow.Author.Rules.{rules}
 use Rattle.color_root.proofs.cube_root.settled.Goals as goal
 use Rattle.color_root.proofs.cube_root.settled.Goals.{After-cube_top-c}
 

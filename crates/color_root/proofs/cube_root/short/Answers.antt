@@ -1,7 +1,6 @@
 -- `short`: below 2 the pattern is that of a number, and stays one. Assumes nothing.
 use native.Mathlib.Omega.{arith}
 use Rattle.color_doubles.proofs.Floats.{no-nan-bits, lt-no-nan}
-use borrow.Author.Rules.{rules}
 use Rattle.color_root.proofs.cube_root.short.Goals as goal
 
 pub float_to_bits-p : goal.float_to_bits-p

@@ -1,7 +1,6 @@
 -- `start`: a third of the pattern and the constant are the pattern of a number. Assumes nothing.
 use native.Mathlib.Omega.{arith}
 use Rattle.color_doubles.proofs.Floats.{no-nan-bits}
-use borrow.Author.Rules.{rules}
 use Rattle.color_root.proofs.cube_root.start.Goals as goal
 
 pub float_from_bits-y : goal.float_from_bits-y

@@ -2,15 +2,9 @@
 use mathlib.Core.Path.{refl}
 use mathlib.Core.Bool.{false}
 use mathlib.Core.List.{[]}
-use Rattle.base.specs.Checks.{first_of}
 use Rattle.edit.specs.Checks.{head_checks}
 use Rattle.edit.specs.Checks.{head_checks}
-use borrow.Author.Rules.{rules}
 use Rattle.edit_checks.proofs.head.head_no.Goals as goal
-
-pub returns-in-Pixels : goal.returns-in-Pixels
-unfolding head_checks first_of
-returns-in-Pixels c w h lab indices = rw c.in-Pixels.is
 
 pub returns-in-PaletteSet : goal.returns-in-PaletteSet
 returns-in-PaletteSet c w h lab indices = rw c.in-PaletteSet.is (c.set_no.ensures w h lab indices _)

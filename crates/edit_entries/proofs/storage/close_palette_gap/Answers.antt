@@ -1,11 +1,9 @@
--- `close_palette_gap`: the part from the entry on. Assumes nothing.
+-- `close_palette_gap`: the later entries moved down. Assumes nothing.
+use mathlib.Core.Path.{◌∙◌}
 use Prim.Native.Nat.{◌*◌}
 use native.Mathlib.Omega.{arith}
-use borrow.Author.Rules.{rules}
-use Rattle.edit_entries.proofs.Entries.{closed-part}
+use Rattle.edit_entries.proofs.Gaps.{copied-closed}
 use Rattle.edit_entries.proofs.storage.close_palette_gap.Goals as goal
 
 pub returns : goal.returns
-returns c =
-    let a = c.args in
-    closed-part a.palette.now (3 * a.i) (omega arith) 3 (3 * a.k) _ (omega arith) c.bytes_down.ensures
+returns c = let a = c.args in c.copy_within.ensures.after ∙ copied-closed 3 (3 * a.i) a.palette.now (3 * a.k) (omega arith)

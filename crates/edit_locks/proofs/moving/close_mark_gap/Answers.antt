@@ -1,10 +1,8 @@
--- `close_mark_gap`: the part from the entry on. Assumes nothing.
+-- `close_mark_gap`: the later marks moved down. Assumes nothing.
+use mathlib.Core.Path.{◌∙◌}
 use native.Mathlib.Omega.{arith}
-use Rattle.edit_entries.proofs.Entries.{closed-part}
-use borrow.Author.Rules.{rules}
+use Rattle.edit_entries.proofs.Gaps.{copied-closed}
 use Rattle.edit_locks.proofs.moving.close_mark_gap.Goals as goal
 
 pub returns : goal.returns
-returns c =
-    let a = c.args in
-    closed-part a.locks.now a.i (omega (arith, c.requires)) 1 a.k _ (omega (arith, c.requires)) c.marks_down.ensures
+returns c = let a = c.args in c.copy_within.ensures.after ∙ copied-closed 1 a.i a.locks.now a.k (omega arith)

@@ -1,6 +1,5 @@
 -- `put_mark`: one store. Assumes nothing.
 use Rattle.edit.proofs.Locks.{mark-stored}
-use borrow.Author.Rules.{rules}
 use Rattle.edit_locks.proofs.moving.put_mark.Goals as goal
 
 pub returns : goal.returns

@@ -2,7 +2,6 @@
 use mathlib.Core.Path.{◌≡◌, ap}
 use Prim.Native.Nat.{ℕ, ◌*◌}
 use native.Mathlib.Omega.{arith}
-use borrow.Author.Rules.{rules}
 use Rattle.edit.specs.Change.{unpacked, place}
 use Rattle.edit_pixels.proofs.change.place_of.Goals as goal
 use Rattle.edit_pixels.proofs.change.place_of.Goals.{After-row-y}

@@ -11,4 +11,4 @@ pub returns : goal.returns
 unfolding misdirected
 returns c =
     λ h.
-    cc (back w16 (get_or c.args.indices.now c.place_of-p.result (pos 0)) c.is_entry-arg-1.given, back w16 c.old_of.result c.old_of.type_inv, back w16 c.new_of.result c.new_of.type_inv)
+    cc (back w16 (get_or c.args.indices.now c.place_of-p.result (pos 0)) (search rules), back w16 c.old_of.result c.old_of.type_inv, back w16 c.new_of.result c.new_of.type_inv)

@@ -1,28 +1,20 @@
--- `lower_above`: the indices below i are done. Assumes nothing.
+-- `lower_above`: the indices so far are done, and the others as they were. Assumes nothing.
 use mathlib.Core.Path.{◌≡◌}
-use Prim.Native.Nat.{◌-◌}
 use native.Mathlib.Omega.{arith}
 use borrow.Author.Rules.{rules}
-use lib.IntN.{pos}
-use lib.ListN.{length}
+use lib.IntN.{ℤ, pos}
+use lib.ListN.{get_or}
 use mir.Syntax.{w16}
-use mir.Val.{to_z}
-use mir.Facts.{to_z_pos}
+use mir.Facts.{to_z-of_z, to_z_pos}
+use Rattle.std.proofs.lemmas.List.Edits.{map_over_more}
+use Rattle.base.proofs.Back.{by_value}
 use Rattle.edit.specs.Storage.{lowered}
-use Rattle.edit_renumber.proofs.Mapped.{Mapping, mapping-none, mapping-next, mapping-all}
 use Rattle.edit_renumber.proofs.indices.lower_above.Goals as goal
-use Rattle.edit_renumber.proofs.indices.lower_above.Goals.{Start}
 
--- the entry as a signed number
-bound : (c : Start) → to_z w16 c.args.index ≡ pos c.args.index
-bound c = to_z_pos w16 (omega arith)
-
-pub loop-i-init : goal.loop-i-init
-loop-i-init c = mapping-none _ _
-
-pub loop-i-preserved : goal.loop-i-preserved
-loop-i-preserved c =
-    mapping-next c.loop-i.invariant c.lower_one-z.result (omega arith) c.lower_one-arg-1.given c.lower_one-z.type_inv (c.lower_one-z.ensures _ (bound (goal.at.loop-i-preserved c).Start))
-
-pub returns : goal.returns
-returns c = mapping-all c.loop-i.invariant (omega arith)
+pub loop-z-preserved : goal.loop-z-preserved
+loop-z-preserved c =
+    let f = lowered c.args.index in
+    let z : ℤ = get_or c.loop-z.indices c.loop-z.z-index (pos 0) in
+    let e : c.lower_one.result ≡ f z = by_value {w = w16} f (search rules) (c.lower_one.ensures _ (to_z_pos w16 (omega arith))) in
+    rw (to_z-of_z (record { sfits = c.lower_one.type_inv }), e)
+    (map_over_more f c.args.indices.now c.loop-z.indices c.loop-z.z-index z c.loop-z-test.true c.loop-z.invariant (search rules))

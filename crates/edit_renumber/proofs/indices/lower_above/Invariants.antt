@@ -1,19 +1,9 @@
--- `lower_above`: the indices below i are done. Assumes nothing.
+-- `lower_above`: the indices so far are done, and the others as they were. Assumes nothing.
 use mathlib.Core.Path.{◌≡◌}
-use Prim.Native.Nat.{◌-◌}
-use native.Mathlib.Omega.{arith}
-use borrow.Author.Rules.{rules}
-use lib.IntN.{pos}
-use lib.ListN.{length}
-use mir.Syntax.{w16}
-use mir.Val.{to_z}
-use mir.Facts.{to_z_pos}
+use mathlib.Core.List.{◌++◌, map}
+use lib.ListN.{take, drop}
 use Rattle.edit.specs.Storage.{lowered}
-use Rattle.edit_renumber.proofs.Mapped.{Mapping, mapping-none, mapping-next, mapping-all}
 use Rattle.edit_renumber.proofs.indices.lower_above.Given as goal
 
-abbrev pub invariant-loop-i : goal.invariant-loop-i
-invariant-loop-i l = Mapping (lowered l.index) l.initial.indices l.i l.indices
-
-abbrev pub decreases-loop-i : goal.decreases-loop-i
-decreases-loop-i l = length l.initial.indices - l.i
+abbrev pub invariant-loop-z : goal.invariant-loop-z
+invariant-loop-z l = l.indices ≡ map (lowered l.index) (take l.z-index l.initial.indices) ++ drop l.z-index l.initial.indices

@@ -1,7 +1,6 @@
 -- `call::entry_no`: the tests are those of the checks, in their order. Assumes nothing.
 use borrow.Author.Tests.{lt-ltb, le-ltb}
 use Rattle.base.specs.Checks.{first_of}
-use borrow.Author.Rules.{rules}
 use Rattle.history_convert.proofs.call.entry_no.Goals as goal
 use mathlib.Core.Path.{ap}
 use mathlib.Core.Bool.{not}

@@ -1,21 +1,15 @@
 -- `measure::measure_used`: both parts, each measured. Assumes nothing.
 use native.Mathlib.Omega.{arith}
-use lib.ListN.{length, length-take, length-drop}
+use lib.ListN.{length}
 use Rattle.history_ledger.proofs.Soundness.{sound-facts}
 use Rattle.journal_raw.specs.Raw.{other}
 use Rattle.history_convert.proofs.Both.{used-measured}
-use borrow.Author.Rules.{rules}
 use Rattle.history_convert.proofs.measure.measure_used.Goals as goal
 
 pub slice_bounds-measure-end : goal.slice_bounds-measure-end
 slice_bounds-measure-end c =
     let s = sound-facts (length c.args.journal.now) c.args.handle c.requires.handle_value in
     omega (arith, s.ends, s.fits)
-
-pub measure-past-requires : goal.measure-past-requires
-measure-past-requires c =
-    let s = sound-facts (length c.args.journal.now) c.args.handle c.requires.handle_value in
-    (c.requires.w_bound.0, c.requires.w_bound.1, simp length-take (omega (arith, c.requires.w_bound.2)))
 
 pub slice_bounds-measure-count-2 : goal.slice_bounds-measure-count-2
 slice_bounds-measure-count-2 c =
@@ -36,11 +30,6 @@ pub overflow_sub-count : goal.overflow_sub-count
 overflow_sub-count c =
     let s = sound-facts (length c.args.journal.now) c.args.handle c.requires.handle_value in
     omega (arith, s.stands)
-
-pub measure-future-requires : goal.measure-future-requires
-measure-future-requires c =
-    let s = sound-facts (length c.args.journal.now) c.args.handle c.requires.handle_value in
-    (c.requires.w_bound.0, c.requires.w_bound.1, simp (length-take, length-drop) (omega (arith, c.requires.w_bound.2)))
 
 pub returns : goal.returns
 returns c = let a = c.args in

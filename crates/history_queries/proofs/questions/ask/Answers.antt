@@ -3,7 +3,6 @@ use mathlib.Core.Path.{sym, ◌∙◌}
 use Rattle.base.proofs.First.{refused-first, result-first}
 use Rattle.base.specs.Answer.Told.{alone}
 use Rattle.history_queries.specs.Looks.{asked}
-use borrow.Author.Rules.{rules}
 use Rattle.history_queries.proofs.questions.ask.Goals as goal
 
 pub returns-then-no-ne0 : goal.returns-then-no-ne0

@@ -6,7 +6,6 @@ use Rattle.base.specs.Checks.{first_of}
 use Rattle.history_model.specs.Calls.{handle_checks}
 use Rattle.history_queries.specs.Looks.{shown_after}
 use Rattle.history_queries.proofs.NextShown.{applied-refused, applied-nothing, applied-after}
-use borrow.Author.Rules.{rules}
 use Rattle.history_queries.proofs.shown.applied.Goals as goal
 use Rattle.history_queries.proofs.shown.applied.Goals.{Else-no-ne0}
 

@@ -1,7 +1,6 @@
 -- `next_redo`: 1 and 4, then the record that starts at the standing offset. Assumes nothing.
 use mathlib.Core.Path.{◌≡◌, sym, ◌∙◌}
 use native.Mathlib.Omega.{arith}
-use borrow.Author.Tests.{not-true, not-false}
 use lib.ListN.{length}
 use Rattle.base.specs.Checks.{first_of}
 use Rattle.history_ledger.specs.Handle.{sound, stepped_forth}
@@ -10,7 +9,6 @@ use Rattle.history_model.specs.Calls.{handle_checks}
 use Rattle.history_queries.proofs.NextFound.{handle-sound, SeenForth, seen-forth}
 use Rattle.journal_read.proofs.Searched.{unread-at}
 use Rattle.history_queries.proofs.NextShown.{redo-refused, redo-nothing, redo-unread, redo-unsound, redo-shown}
-use borrow.Author.Rules.{rules}
 use Rattle.history_queries.proofs.shown.next_redo.Goals as goal
 use Rattle.history_queries.proofs.shown.next_redo.Goals.{After-sound, Else-no-ne0, In-Record}
 

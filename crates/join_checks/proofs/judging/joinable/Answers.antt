@@ -1,9 +1,6 @@
 -- `joinable`: the sheets, the lent ones, the length of the joined palette. Assumes nothing.
-use lib.Seq.{length-take-le}
 use Rattle.join_model.proofs.Judging.{join_first, join-second, join-lent, join-lent2, join-long, join-short, listed-few}
-use mathlib.Core.Path.{sym}
 use native.Mathlib.Omega.{arith}
-use borrow.Author.Rules.{rules}
 use Rattle.join_checks.proofs.judging.joinable.Goals as goal
 
 pub returns-then-no-ne0 : goal.returns-then-no-ne0
@@ -12,33 +9,11 @@ returns-then-no-ne0 c = join_first _ _ _ _ _ _ _ c.check_marked-no.ensures c.if-
 pub returns-then-no2-ne0 : goal.returns-then-no2-ne0
 returns-then-no2-ne0 c = join-second _ _ _ _ _ _ c.check_marked-no.ensures c.if-no-ne0.false _ c.check_marked-no2.ensures c.if-no2-ne0.true
 
-pub lent_no-lent-requires : goal.lent_no-lent-requires
-lent_no-lent-requires c = (c.check_marked-no.ensures.fine c.if-no-ne0.false).formed.limits.cells
-
 pub returns-then-lent-ne0 : goal.returns-then-lent-ne0
 returns-then-lent-ne0 c = join-lent _ _ _ _ _ _ c.check_marked-no.ensures c.if-no-ne0.false c.check_marked-no2.ensures c.if-no2-ne0.false _ c.lent_no-lent.ensures c.if-lent-ne0.true
 
-pub lent_no-lent2-requires : goal.lent_no-lent2-requires
-lent_no-lent2-requires c = (c.check_marked-no2.ensures.fine c.if-no2-ne0.false).formed.limits.cells
-
 pub returns-then-lent2-ne0 : goal.returns-then-lent2-ne0
 returns-then-lent2-ne0 c = join-lent2 _ _ _ _ _ _ c.check_marked-no.ensures c.if-no-ne0.false c.check_marked-no2.ensures c.if-no2-ne0.false c.lent_no-lent.ensures c.if-lent-ne0.false _ c.lent_no-lent2.ensures c.if-lent2-ne0.true
-
-pub overflow_mul-own : goal.overflow_mul-own
-overflow_mul-own c = omega (arith, (c.check_marked-no.ensures.fine c.if-no-ne0.false).formed.limits.k-small)
-
-pub slice_bounds-find_news-end : goal.slice_bounds-find_news-end
-slice_bounds-find_news-end c =
-    let f = (c.check_marked-no.ensures.fine c.if-no-ne0.false).formed.limits in
-    sym (length-take-le _ _ (omega (arith, f.k-small, f.palette-length)))
-
-pub find_news-n-requires : goal.find_news-n-requires
-find_news-n-requires c = (
-  length-take-le _ _ (omega (arith, (c.check_marked-no.ensures.fine c.if-no-ne0.false).formed.limits.k-small, (c.check_marked-no.ensures.fine c.if-no-ne0.false).formed.limits.palette-length)),
-  omega (arith, (c.check_marked-no2.ensures.fine c.if-no2-ne0.false).formed.limits.k-small, (c.check_marked-no2.ensures.fine c.if-no2-ne0.false).formed.limits.palette-length),
-  (c.check_marked-no2.ensures.fine c.if-no2-ne0.false).formed.limits.k-small,
-  search rules,
-)
 
 pub overflow_add-k : goal.overflow_add-k
 overflow_add-k c =

@@ -5,7 +5,6 @@ use Prim.Native.Nat.{ℕ}
 use lib.ListN.{get_or}
 use lib.IntN.{pos}
 use mathlib.Core.Path.{ap, ◌∙◌}
-use native.Mathlib.Omega.{arith}
 use Rattle.sheet_diff.proofs.Slots.{slot-fits, slot-wide, slot_at, slot-below}
 use Rattle.join_palette.proofs.places.place_of.Goals as goal
 
@@ -14,9 +13,6 @@ overflow_add-at c = slot-fits c.ranges.z c.requires
 
 pub overflow_cast-at : goal.overflow_cast-at
 overflow_cast-at c = slot-wide c.ranges.z c.requires
-
-pub offset_bounds-table-at : goal.offset_bounds-table-at
-offset_bounds-table-at c = omega (arith, slot-below c.ranges.z c.requires)
 
 pub bounds-table-at : goal.bounds-table-at
 bounds-table-at c = slot-below c.ranges.z c.requires

@@ -4,7 +4,6 @@ use lib.Ieee.Bits.{nan_bits_above}
 use borrow.Author.Tests.{lt-ltb, le-ltb}
 use Rattle.journal_record.specs.Found.{real_of}
 use Rattle.journal_record.specs.Record.{double_in}
-use borrow.Author.Rules.{rules}
 use Rattle.journal_bytes.proofs.bytes.get_f64.Goals as goal
 
 pub returns-then-bits-gt9218868437227405312 : goal.returns-then-bits-gt9218868437227405312

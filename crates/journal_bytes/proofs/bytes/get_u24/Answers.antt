@@ -1,10 +1,9 @@
 -- `bytes::get_u24` meets its contract: the number is made of its bytes, the lowest first. Assumes nothing.
-use native.Mathlib.Omega.{arith}
+use Rattle.std.proofs.Common.{◌+◌, arith}
 use Rattle.journal_record.proofs.LittleEndian.{le_at-three}
-use borrow.Author.Rules.{rules}
 use Rattle.journal_bytes.proofs.bytes.get_u24.Goals as goal
 
 pub returns : goal.returns
 returns c =
-    let a = c.args in
-    ((cc (le_at-three a.src.now a.at (omega arith))), omega arith)
+    let at = c.args.at in
+    (omega (arith, le_at-three c.args.src.now at (omega arith)), omega (arith, c.type_inv.src at, c.type_inv.src (at + 1), c.type_inv.src (at + 2)))

@@ -1,18 +1,7 @@
--- `bytes::put_u24` meets its contract: three stores in a row are the number's three lowest bytes. Assumes nothing.
-use native.Mathlib.Omega.{arith}
-use native.Mathlib.Numerals.{add-one, add-two}
-use lib.ListN.{length-set}
-use Rattle.journal_record.specs.Bytes.{le}
-use Rattle.journal_record.proofs.Splice.{splice-sets}
-use borrow.Author.Rules.{rules}
+-- `bytes::put_u24` meets its contract: std's bytes of a number are its three lowest, the lowest first. Assumes nothing.
+use Rattle.std.proofs.Common.{arith}
+use Rattle.journal_bytes.proofs.Written.{splice-low_first}
 use Rattle.journal_bytes.proofs.bytes.put_u24.Goals as goal
 
-pub bounds-dst-at-2 : goal.bounds-dst-at-2
-bounds-dst-at-2 c = simp length-set (omega arith)
-
-pub bounds-dst-at-3 : goal.bounds-dst-at-3
-bounds-dst-at-3 c = simp length-set (omega arith)
-
 pub returns : goal.returns
-unfolding le
-returns c = rw (add-one, add-two) (splice-sets (le 3 c.args.v) c.args.dst.now c.args.at (omega arith))
+returns c = splice-low_first _ _ _ 3 _ c.args.v (cc) (omega arith)

@@ -2,7 +2,6 @@
 use mathlib.Core.Path.{◌∙◌}
 use native.Mathlib.Omega.{arith}
 use Rattle.journal_record.proofs.Finding.{back_none, back-short, back_is}
-use borrow.Author.Rules.{rules}
 use Rattle.journal_find.proofs.find.find_back.Goals as goal
 
 pub returns-then-offset-lt-LEAST : goal.returns-then-offset-lt-LEAST

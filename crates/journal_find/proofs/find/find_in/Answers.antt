@@ -1,7 +1,6 @@
 -- `find::find_in` meets its contract: by kinds, in the order of the definition. Assumes nothing.
 use mathlib.Core.Path.{sym, ◌∙◌}
 use Rattle.journal_record.proofs.Finding.{found_none, found-pixels, found-set, found_add, found-remove, found-lock, found-other}
-use borrow.Author.Rules.{rules}
 use Rattle.journal_find.proofs.find.find_in.Goals as goal
 
 pub returns-then-bytes-lt-LEAST : goal.returns-then-bytes-lt-LEAST

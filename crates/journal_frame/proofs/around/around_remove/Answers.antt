@@ -1,12 +1,6 @@
 -- `around_remove`: kind and index, colour, LAB, count and length. Assumes nothing.
-use native.Mathlib.Omega.{arith}
-use Rattle.journal_record.proofs.Strides.{stride-least}
 use Rattle.journal_frame.proofs.Framing.{remove-around}
-use borrow.Author.Rules.{rules}
 use Rattle.journal_frame.proofs.around.around_remove.Goals as goal
-
-pub overflow_cast-n : goal.overflow_cast-n
-overflow_cast-n c = omega (arith, c.requires.n_in_bounds, c.requires.n_bound, stride-least c.args.form c.args.n)
 
 pub returns : goal.returns
 returns c =

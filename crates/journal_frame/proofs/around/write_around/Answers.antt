@@ -1,7 +1,6 @@
 -- `write_around`: by kinds. Assumes nothing.
 use Rattle.journal_record.specs.Record.{record_length}
 use Rattle.journal_frame.specs.Frame.{around, Framed}
-use borrow.Author.Rules.{rules}
 use Rattle.journal_frame.proofs.around.write_around.Goals as goal
 
 pub around_pixels-requires : goal.around_pixels-requires
@@ -26,9 +25,6 @@ pub write_lock-requires : goal.write_lock-requires
 unfolding record_length Framed
 write_lock-requires c = let h = rw c.in-PaletteLock.is at c.requires in record { in_bounds = h.n_in_bounds; index_bound = h.framed }
 
-pub returns-in-Pixels : goal.returns-in-Pixels
-returns-in-Pixels c = rw c.in-Pixels.is c.around_pixels.ensures
-
 pub returns-in-PaletteSet : goal.returns-in-PaletteSet
 unfolding around
 returns-in-PaletteSet c = rw c.in-PaletteSet.is (c.write_set.ensures _ 0)
@@ -36,9 +32,6 @@ returns-in-PaletteSet c = rw c.in-PaletteSet.is (c.write_set.ensures _ 0)
 pub returns-in-PaletteAdd : goal.returns-in-PaletteAdd
 unfolding around
 returns-in-PaletteAdd c = rw c.in-PaletteAdd.is (c.write_add.ensures _ 0)
-
-pub returns-in-PaletteRemove : goal.returns-in-PaletteRemove
-returns-in-PaletteRemove c = rw c.in-PaletteRemove.is c.around_remove.ensures
 
 pub returns-in-PaletteLock : goal.returns-in-PaletteLock
 unfolding around

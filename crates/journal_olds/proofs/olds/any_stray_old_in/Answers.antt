@@ -1,19 +1,15 @@
 -- `any_stray_old_in`: the flag and what is left say what the whole list says. Assumes nothing.
-use mathlib.Core.Path.{◌≡◌, refl}
-use Prim.Native.Nat.{ℕ, ◌-◌}
+use Prim.Native.Nat.{ℕ}
 use mir.Syntax.{w16}
 use Rattle.base.proofs.Back.{by_result}
-use Rattle.base.proofs.Scan.{Flagged, flag-end}
+use Rattle.base.proofs.Scan.{flag-end}
 use Rattle.sheet.specs.Sheet.{stray}
 use Rattle.edit.specs.Change.{old_of}
 use Rattle.edit_pixels.proofs.Nth.{Nth, nth-flag}
 use Rattle.journal_read.proofs.Placed.{old-of}
 use Rattle.journal_read.proofs.Read.{nth_read, all_read}
-use native.Mathlib.Omega.{arith}
 use Rattle.journal_record.specs.Record.{changes_in}
-use Rattle.journal_record.proofs.Strides.{change-fits}
 use Rattle.journal_read.specs.Number.{change_of}
-use borrow.Author.Rules.{rules}
 use Rattle.journal_olds.proofs.olds.any_stray_old_in.Goals as goal
 use Rattle.journal_olds.proofs.olds.any_stray_old_in.Goals.{After-change_at}
 
@@ -21,12 +17,6 @@ use Rattle.journal_olds.proofs.olds.any_stray_old_in.Goals.{After-change_at}
 nth : (c : After-change_at) (w : ℕ) → let a = c.args in
     Nth (changes_in a.form (w) a.journal.now a.at a.n) c.loop-i.i (change_of a.form (w) c.change_at.result)
 nth c w = nth_read _ _ _ _ _ _ _ c.loop-i-test.true c.change_at.ensures
-
-pub loop-i-init : goal.loop-i-init
-loop-i-init c w = record { says = refl }
-
-pub change_at-requires : goal.change_at-requires
-change_at-requires c = let a = c.args in omega (arith, change-fits a.form a.at a.n _ _ c.loop-i-test.true c.requires)
 
 pub loop-i-preserved : goal.loop-i-preserved
 loop-i-preserved c w =

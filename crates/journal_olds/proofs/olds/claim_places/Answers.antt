@@ -1,6 +1,5 @@
 -- `claim_places`: what is behind is claimed and judged. Assumes nothing.
-use mathlib.Core.Path.{◌∙◌}
-use Prim.Native.Nat.{◌-◌, ◌<◌, ◌≤◌}
+use Prim.Native.Nat.{◌-◌, ◌<◌}
 use native.Mathlib.Omega.{arith}
 use lib.ListN.{length}
 use Rattle.edit.specs.Change.{place}
@@ -9,11 +8,9 @@ use Rattle.edit_pixels.proofs.Inside.{inside-at}
 use Rattle.journal_record.proofs.Finding.{length-in}
 use Rattle.journal_read.proofs.Placed.{place_of, old-of}
 use Rattle.journal_read.proofs.Read.{nth_read}
-use Rattle.journal_olds.proofs.Claims.{Claiming, claiming-none, claiming-next, claiming-all}
+use Rattle.journal_olds.proofs.Claims.{claiming-none, claiming-next}
 use Rattle.journal_record.specs.Record.{changes_in}
-use Rattle.journal_record.proofs.Strides.{change-fits}
 use Rattle.journal_read.specs.Number.{change_of}
-use borrow.Author.Rules.{rules}
 use Rattle.journal_olds.proofs.olds.claim_places.Goals as goal
 use Rattle.journal_olds.proofs.olds.claim_places.Goals.{After-change_at, In-loop-i}
 
@@ -33,9 +30,6 @@ here c = inside-at c.args.w (length c.args.indices.now) c.requires.n_value (nth 
 pub loop-i-init : goal.loop-i-init
 loop-i-init c = let p = c.requires in claiming-none _ _ _ _ _ (length-in _ _ _ _ _) p.n_in_bounds.1 p.indices_value
 
-pub change_at-requires : goal.change_at-requires
-change_at-requires c = let a = c.args in omega (arith, change-fits a.form a.at a.n _ _ (less (goal.at.change_at-requires c).In-loop-i) c.requires.n_in_bounds.0)
-
 pub claim_place-hit-requires : goal.claim_place-hit-requires
 claim_place-hit-requires c =
     let a = c.args in
@@ -49,9 +43,3 @@ loop-i-preserved c =
     let claim = rw (row, ← place_of a.w v a.form) at c.claim_place-hit.ensures.indices_after in
     let hit = rw (row, ← place_of a.w v a.form, ← old-of a.w v a.form) at c.claim_place-hit.ensures.value in
     claiming-next c.loop-i.invariant (nth (goal.at.loop-i-preserved c).After-change_at) (omega (arith, c.loop-i-test.true)) (here (goal.at.loop-i-preserved c).After-change_at) claim hit c.either-bad.ensures
-
-pub shape_of-indices : goal.shape_of-indices
-shape_of-indices c = c.loop-i.invariant.claims.long
-
-pub returns : goal.returns
-returns c = let e = claiming-all c.loop-i.invariant (omega arith) in record { claims = e.0; value = e.1 }

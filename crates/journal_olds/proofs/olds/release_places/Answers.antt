@@ -1,17 +1,14 @@
 -- `release_places`: what is passed has its indices back. Assumes nothing.
-use Prim.Native.Nat.{◌-◌, ◌<◌}
+use Prim.Native.Nat.{◌<◌}
 use lib.ListN.{length}
 use Rattle.edit.specs.Change.{place}
 use Rattle.edit_pixels.proofs.Nth.{Nth}
 use Rattle.edit_pixels.proofs.Inside.{inside-at}
 use Rattle.journal_read.proofs.Placed.{place_of}
 use Rattle.journal_read.proofs.Read.{nth_read, all_read}
-use Rattle.journal_olds.proofs.Claims.{Releasing, releasing-none, releasing-next, releasing-all}
-use native.Mathlib.Omega.{arith}
+use Rattle.journal_olds.proofs.Claims.{releasing-none, releasing-next, releasing-all}
 use Rattle.journal_record.specs.Record.{changes_in}
-use Rattle.journal_record.proofs.Strides.{change-fits}
 use Rattle.journal_read.specs.Number.{change_of}
-use borrow.Author.Rules.{rules}
 use Rattle.journal_olds.proofs.olds.release_places.Goals as goal
 use Rattle.journal_olds.proofs.olds.release_places.Goals.{After-change_at}
 
@@ -27,9 +24,6 @@ here c = inside-at c.args.w (length c.args.indices.now) c.requires.n_value (nth 
 pub loop-i-init : goal.loop-i-init
 loop-i-init c = releasing-none _ _ _
 
-pub change_at-requires : goal.change_at-requires
-change_at-requires c = let a = c.args in omega (arith, change-fits a.form a.at a.n _ _ c.loop-i-test.true c.requires.n_in_bounds)
-
 pub release_place-requires : goal.release_place-requires
 release_place-requires c =
     let a = c.args in
@@ -40,9 +34,6 @@ loop-i-preserved c =
     let a = c.args in
     let release = rw (c.row_width-row.ensures, ← place_of a.w c.change_at.result a.form) at c.release_place.ensures in
     releasing-next c.loop-i.invariant (nth (goal.at.loop-i-preserved c).After-change_at) (here (goal.at.loop-i-preserved c).After-change_at) release
-
-pub shape_of-indices : goal.shape_of-indices
-shape_of-indices c = c.loop-i.invariant.long
 
 pub returns : goal.returns
 returns c = let a = c.args in releasing-all c.loop-i.invariant (all_read a.form a.w a.journal.now a.at a.n _ c.loop-i-test.false)

@@ -1,6 +1,5 @@
 -- `rewrite::put_byte`: one store. Assumes nothing.
 use native.Mathlib.Omega.{arith}
-use borrow.Author.Rules.{rules}
 use Rattle.journal_raw.proofs.Rewriting.{set-put}
 use Rattle.journal_raw.proofs.rewrite.put_byte.Goals as goal
 

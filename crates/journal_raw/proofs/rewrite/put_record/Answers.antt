@@ -2,18 +2,7 @@
 use Rattle.journal_raw.proofs.Rewriting.{put-at}
 use Rattle.journal_raw.specs.Raw.{other}
 use native.Mathlib.Omega.{arith}
-use borrow.Author.Rules.{rules}
 use Rattle.journal_raw.proofs.rewrite.put_record.Goals as goal
-
-pub overflow_cast-size : goal.overflow_cast-size
-overflow_cast-size c =
-    let long = rw c.other-into.ensures at c.record_size-size.ensures.0 in
-    omega (arith, c.requires.count_bound)
-
-pub put_u32-requires : goal.put_u32-requires
-put_u32-requires c =
-    let long = rw c.other-into.ensures at c.record_size-size.ensures.0 in
-    omega (arith, c.requires.count_in_bounds_2, c.out-3-1.given, c.out-2-1.given, c.out-1.given)
 
 pub returns : goal.returns
 returns c =

@@ -1,15 +1,7 @@
 -- `rewrite::put_spot`: column and row, and then old and new. Assumes nothing.
 use Rattle.journal_raw.proofs.Rewriting.{put-as-spot}
-use native.Mathlib.Nat.{mod-lt}
 use native.Mathlib.Omega.{arith}
-use borrow.Author.Rules.{rules}
 use Rattle.journal_raw.proofs.rewrite.put_spot.Goals as goal
-
-pub overflow_add-place : goal.overflow_add-place
-overflow_add-place c = omega (arith, mod-lt c.get_u24-place.result c.requires.w_nonzero.0)
-
-pub overflow_cast-place-2 : goal.overflow_cast-place-2
-overflow_cast-place-2 c = omega (arith, mod-lt c.get_u24-place.result c.requires.w_nonzero.0)
 
 pub returns : goal.returns
 returns c =

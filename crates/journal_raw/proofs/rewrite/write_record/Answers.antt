@@ -3,7 +3,6 @@ use Rattle.journal_raw.proofs.Laying.{lies, unfound, ready, wrote, not-both}
 use Rattle.journal_raw.specs.Raw.{other}
 use lib.ListN.{length}
 use mathlib.Core.Path.{sym, ◌∙◌}
-use borrow.Author.Rules.{rules}
 use Rattle.journal_raw.proofs.rewrite.write_record.Goals as goal
 
 pub put_record-size-requires : goal.put_record-size-requires

@@ -9,7 +9,6 @@ use Rattle.edit.specs.Change.{outside}
 use Rattle.edit.specs.Checks.{pixel_checks}
 use Rattle.journal_read.specs.Number.{change_of}
 use Rattle.journal_read.proofs.Placed.{new-of}
-use borrow.Author.Rules.{rules}
 use Rattle.journal_read.proofs.change.change_no.Goals as goal
 use Rattle.journal_read.proofs.change.change_no.Goals.{After-is_stray, Else-is_off}
 

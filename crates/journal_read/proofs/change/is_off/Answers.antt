@@ -1,10 +1,8 @@
 -- `is_off`: by forms; a place is compared with the pixels of the sheet. Assumes nothing.
-use mathlib.Core.Path.{sym, ap, ◌∙◌}
 use native.Mathlib.Omega.{arith}
 use Rattle.edit.specs.Change.{unpacked, place}
 use Rattle.journal_read.specs.Number.{change_of}
 use Rattle.journal_read.proofs.Placed.{off_of}
-use borrow.Author.Rules.{rules}
 use Rattle.journal_read.proofs.change.is_off.Goals as goal
 
 pub place_of-requires : goal.place_of-requires

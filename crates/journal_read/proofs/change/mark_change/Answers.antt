@@ -8,7 +8,6 @@ use Rattle.edit.specs.Checks.{remap_checks}
 use Rattle.edit_pixels.proofs.Inside.{inside}
 use Rattle.journal_read.specs.Number.{change_of}
 use Rattle.journal_read.proofs.Placed.{place_of, misdirected-of}
-use borrow.Author.Rules.{rules}
 use Rattle.journal_read.proofs.change.mark_change.Goals as goal
 use Rattle.journal_read.proofs.change.mark_change.Goals.{Else-is_off}
 

@@ -2,13 +2,12 @@
 use Rattle.journal_read.proofs.Placed.{placed-is}
 use mathlib.Core.Path.{◌∙◌}
 use native.Mathlib.Omega.{arith}
-use borrow.Author.Rules.{rules}
 use Rattle.journal_read.proofs.change.placed_at.Goals as goal
 
 pub returns : goal.returns
 returns c w =
-    let placed = c.get_u24.ensures in
-    let olds = c.get_u16.ensures in
-    let news = c.get_u16-2.ensures in
-    placed-is c.args.journal.now _ _ _ _ (c.wide-p.ensures.0 ∙ placed.0) (c.wide-old.ensures.0 ∙ olds.0) (c.wide-new.ensures.0 ∙ news.0)
-    (omega (arith, c.wide-p.ensures.0, placed.1)) (omega (arith, c.wide-old.ensures.0, olds.1)) (omega (arith, c.wide-new.ensures.0, news.1)) w
+    let p = c.from-p.ensures in
+    let old = c.from-old.ensures in
+    let new = c.from-new.ensures in
+    placed-is c.args.journal.now _ _ _ _ (p ∙ c.get_u24.ensures.0) (old ∙ c.get_u16.ensures.0) (new ∙ c.get_u16-2.ensures.0)
+    (omega (arith, p, c.get_u24.ensures.1)) (omega (arith, old, c.get_u16.ensures.1)) (omega (arith, new, c.get_u16-2.ensures.1)) w

@@ -1,5 +1,4 @@
 -- `double_in`: a NaN for a NaN. Assumes nothing.
-use borrow.Author.Rules.{rules}
 use mathlib.Core.Path.{ap, ◌∙◌}
 use Rattle.journal_read.specs.LabRead.{double_of}
 use Rattle.journal_read.proofs.LabBytes.{double-of}

@@ -1,5 +1,4 @@
 -- `double_of`: by cases. Assumes nothing.
-use borrow.Author.Rules.{rules}
 use Rattle.journal_read.specs.LabRead.{double_of}
 use Rattle.journal_read.proofs.LabBytes.{no_number}
 use Rattle.journal_read.proofs.lab.double_of.Goals as goal

@@ -1,15 +1,10 @@
 -- `any_outside_in`: the flag and what is left say what the whole list says. Assumes nothing.
-use mathlib.Core.Path.{refl}
-use Prim.Native.Nat.{◌-◌}
-use native.Mathlib.Omega.{arith}
-use Rattle.base.proofs.Scan.{Flagged, flag-end}
+use Rattle.base.proofs.Scan.{flag-end}
 use Rattle.edit.specs.Change.{outside}
 use Rattle.edit_pixels.proofs.Nth.{Nth, nth-flag}
 use Rattle.journal_record.specs.Record.{changes_in}
-use Rattle.journal_record.proofs.Strides.{change-fits}
 use Rattle.journal_read.specs.Number.{change_of}
 use Rattle.journal_read.proofs.Read.{nth_read, all_read}
-use borrow.Author.Rules.{rules}
 use Rattle.journal_read.proofs.list.any_outside_in.Goals as goal
 use Rattle.journal_read.proofs.list.any_outside_in.Goals.{After-change_at}
 
@@ -17,12 +12,6 @@ use Rattle.journal_read.proofs.list.any_outside_in.Goals.{After-change_at}
 nth : (c : After-change_at) → let a = c.args in
     Nth (changes_in a.form a.w a.journal.now a.at a.n) c.loop-i.i (change_of a.form a.w c.change_at.result)
 nth c = nth_read _ _ _ _ _ _ _ c.loop-i-test.true c.change_at.ensures
-
-pub loop-i-init : goal.loop-i-init
-loop-i-init c = record { says = refl }
-
-pub change_at-requires : goal.change_at-requires
-change_at-requires c = let a = c.args in omega (arith, change-fits a.form a.at a.n _ _ c.loop-i-test.true c.requires.1)
 
 pub loop-i-preserved : goal.loop-i-preserved
 loop-i-preserved c = nth-flag (nth (goal.at.loop-i-preserved c).After-change_at) (outside _ _) c.loop-i.invariant c.is_off.ensures c.either-bad.ensures

@@ -3,7 +3,6 @@ use mathlib.Core.Path.{sym}
 use Rattle.edit.specs.Checks.{change_checks}
 use Rattle.edit_checks.specs.Marks.{Markable, ClearFor, MarksFor}
 use Rattle.edit_list.proofs.NoChecks.{no-checks}
-use borrow.Author.Rules.{rules}
 use Rattle.journal_read.proofs.list.check_list_in.Goals as goal
 
 pub mark_remap_in-requires : goal.mark_remap_in-requires

@@ -1,14 +1,9 @@
 -- `mark_remap_in`: what is left says what the whole list says, and the places met are marked. Assumes nothing.
-use Prim.Native.Nat.{◌-◌}
-use native.Mathlib.Omega.{arith}
-use Rattle.edit_pixels.specs.Inside.{bare}
-use Rattle.edit_remap.proofs.Remapping.{Remapping, remap-none, remap-hit, remap-next, remap-all}
+use Rattle.edit_remap.proofs.Remapping.{remap-none, remap-hit, remap-next, remap-all}
 use Rattle.edit_pixels.proofs.Nth.{Nth}
 use Rattle.journal_record.specs.Record.{changes_in}
-use Rattle.journal_record.proofs.Strides.{change-fits}
 use Rattle.journal_read.specs.Number.{change_of}
 use Rattle.journal_read.proofs.Read.{nth_read, all_read}
-use borrow.Author.Rules.{rules}
 use Rattle.journal_read.proofs.list.mark_remap_in.Goals as goal
 use Rattle.journal_read.proofs.list.mark_remap_in.Goals.{After-change_at-c}
 
@@ -19,9 +14,6 @@ nth c = nth_read _ _ _ _ _ _ _ c.loop-i-test.true c.change_at-c.ensures
 
 pub loop-i-init : goal.loop-i-init
 loop-i-init c = remap-none _ _ _ _ c.requires.2
-
-pub change_at-c-requires : goal.change_at-c-requires
-change_at-c-requires c = let a = c.args in omega (arith, change-fits a.form a.at a.n _ _ c.loop-i-test.true c.requires.3)
 
 pub returns-then-no-ne0 : goal.returns-then-no-ne0
 returns-then-no-ne0 c =

@@ -1,18 +1,8 @@
 -- `mark_remap_in`: what is left says what the whole list says, and the places met are marked. Assumes nothing.
-use Prim.Native.Nat.{◌-◌}
-use native.Mathlib.Omega.{arith}
 use Rattle.edit_pixels.specs.Inside.{bare}
-use Rattle.edit_remap.proofs.Remapping.{Remapping, remap-none, remap-hit, remap-next, remap-all}
-use Rattle.edit_pixels.proofs.Nth.{Nth}
+use Rattle.edit_remap.proofs.Remapping.{Remapping}
 use Rattle.journal_record.specs.Record.{changes_in}
-use Rattle.journal_record.proofs.Strides.{change-fits}
-use Rattle.journal_read.specs.Number.{change_of}
-use Rattle.journal_read.proofs.Read.{nth_read, all_read}
-use borrow.Author.Rules.{rules}
 use Rattle.journal_read.proofs.list.mark_remap_in.Given as goal
 
 abbrev pub invariant-loop-i : goal.invariant-loop-i
 invariant-loop-i l = Remapping (bare l.w l.h l.k l.indices) l.index (changes_in l.form l.w l.journal l.at l.n) l.initial.marks l.i l.marks
-
-abbrev pub decreases-loop-i : goal.decreases-loop-i
-decreases-loop-i l = l.n - l.i

@@ -1,15 +1,10 @@
 -- `paint_news_in`: what is left, painted over the present picture, gives the whole. Assumes nothing.
-use Prim.Native.Nat.{◌-◌}
-use native.Mathlib.Omega.{arith}
-use Rattle.edit.specs.Change.{new_of}
-use Rattle.edit_pixels.proofs.Painting.{Painting, painting-none, painting-inside, painting-next, painting-all}
+use Rattle.edit_pixels.proofs.Painting.{painting-inside, painting-next, painting-all}
 use Rattle.journal_read.proofs.Placed.{place_of, new-of}
 use Rattle.edit_pixels.proofs.Nth.{Nth}
 use Rattle.journal_record.specs.Record.{changes_in}
-use Rattle.journal_record.proofs.Strides.{change-fits}
 use Rattle.journal_read.specs.Number.{change_of}
 use Rattle.journal_read.proofs.Read.{nth_read, all_read}
-use borrow.Author.Rules.{rules}
 use Rattle.journal_read.proofs.list.paint_news_in.Goals as goal
 use Rattle.journal_read.proofs.list.paint_news_in.Goals.{After-change_at}
 
@@ -17,12 +12,6 @@ use Rattle.journal_read.proofs.list.paint_news_in.Goals.{After-change_at}
 nth : (c : After-change_at) → let a = c.args in
     Nth (changes_in a.form a.w a.journal.now a.at a.n) c.loop-i.i (change_of a.form a.w c.change_at.result)
 nth c = nth_read _ _ _ _ _ _ _ c.loop-i-test.true c.change_at.ensures
-
-pub loop-i-init : goal.loop-i-init
-loop-i-init c = painting-none _ _ _ _
-
-pub change_at-requires : goal.change_at-requires
-change_at-requires c = let a = c.args in omega (arith, change-fits a.form a.at a.n _ _ c.loop-i-test.true c.requires.0)
 
 pub paint_new-requires : goal.paint_new-requires
 paint_new-requires c =
@@ -35,9 +24,6 @@ loop-i-preserved c =
     let v = c.change_at.result in
     let put = rw (c.row_width-row.ensures, ← place_of a.w v a.form, ← new-of a.w v a.form) at c.paint_new.ensures in
     painting-next c.loop-i.invariant (nth (goal.at.loop-i-preserved c).After-change_at) put
-
-pub shape_of-indices : goal.shape_of-indices
-shape_of-indices c = c.loop-i.invariant.long
 
 pub returns : goal.returns
 returns c = let a = c.args in painting-all c.loop-i.invariant (all_read a.form a.w a.journal.now a.at a.n _ c.loop-i-test.false)

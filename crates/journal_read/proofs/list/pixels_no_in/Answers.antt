@@ -1,18 +1,9 @@
 -- `pixels_no_in`: what is left says what the whole list says. Assumes nothing.
-use Prim.Native.Nat.{◌-◌}
-use native.Mathlib.Omega.{arith}
-use mathlib.Core.Bool.{false}
-use mathlib.Core.List.{List}
-use lib.IntN.{ℤ}
-use Rattle.edit.specs.Checks.{pixel_checks}
-use Rattle.edit_pixels.specs.Inside.{bare}
-use Rattle.edit_pixels.proofs.Passing.{Passing, passing-none, passing-hit, passing-next, passing-all}
+use Rattle.edit_pixels.proofs.Passing.{passing-none, passing-hit, passing-next, passing-all}
 use Rattle.edit_pixels.proofs.Nth.{Nth}
 use Rattle.journal_record.specs.Record.{changes_in}
-use Rattle.journal_record.proofs.Strides.{change-fits}
 use Rattle.journal_read.specs.Number.{change_of}
 use Rattle.journal_read.proofs.Read.{nth_read, all_read}
-use borrow.Author.Rules.{rules}
 use Rattle.journal_read.proofs.list.pixels_no_in.Goals as goal
 use Rattle.journal_read.proofs.list.pixels_no_in.Goals.{After-change_at}
 
@@ -23,9 +14,6 @@ nth c = nth_read _ _ _ _ _ _ _ c.loop-i-test.true c.change_at.ensures
 
 pub loop-i-init : goal.loop-i-init
 loop-i-init c indices = passing-none _ _
-
-pub change_at-requires : goal.change_at-requires
-change_at-requires c = let a = c.args in omega (arith, change-fits a.form a.at a.n _ _ c.loop-i-test.true c.requires.1)
 
 pub returns-then-no-ne0 : goal.returns-then-no-ne0
 returns-then-no-ne0 c indices = passing-hit (c.loop-i.invariant indices) (nth (goal.at.returns-then-no-ne0 c).After-change_at) (c.change_no-no.ensures indices) c.if-no-ne0.true

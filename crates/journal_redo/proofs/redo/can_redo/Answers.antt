@@ -7,7 +7,6 @@ use Rattle.edit_checks.specs.Marks.{Checkable}
 use Rattle.journal_record.specs.Record.{stride}
 use Rattle.journal_read.proofs.Rooms.{lies-bare, list-markable, read-list, read-room}
 use Rattle.journal_redo.proofs.Redos.{too_many, head-refused, list-refused, left-decides}
-use borrow.Author.Rules.{rules}
 use Rattle.journal_redo.proofs.redo.can_redo.Goals as goal
 use Rattle.journal_redo.proofs.redo.can_redo.Goals.{After-list_offset}
 
@@ -31,9 +30,6 @@ edit_at-edit-requires c = lies-bare _ _ _ c.requires.lies
 
 pub returns-then-head_no-ne0 : goal.returns-then-head_no-ne0
 returns-then-head_no-ne0 c lab = head-refused c.requires.lies _ _ c.if-count-gt-MAX_CHANGES.false c.edit_at-edit.ensures (c.head_no.ensures _ _ lab _) c.if-head_no-ne0.true
-
-pub overflow_add-at : goal.overflow_add-at
-overflow_add-at c = omega (arith, room c)
 
 pub check_list_in-requires : goal.check_list_in-requires
 check_list_in-requires c = record { checkable = checkable (goal.at.check_list_in-requires c).After-list_offset _ (omega arith); n_in_bounds = room (goal.at.check_list_in-requires c).After-list_offset }

@@ -1,11 +1,9 @@
 -- `redo_record`: the list painted, the marks moved, then the rest done. Assumes nothing.
 use Prim.Native.Nat.{◌+◌, ◌*◌, ◌≤◌}
-use native.Mathlib.Omega.{arith}
 use lib.ListN.{length}
 use Rattle.journal_record.specs.Record.{stride}
 use Rattle.journal_read.proofs.Rooms.{lies-bare, read-room}
 use Rattle.journal_redo.proofs.RedoneAt.{list-paints, rest-finishes, redone-by, marks-move, marks-done}
-use borrow.Author.Rules.{rules}
 use Rattle.journal_redo.proofs.redo.redo_record.Goals as goal
 use Rattle.journal_redo.proofs.redo.redo_record.Goals.{After-list_offset}
 
@@ -15,9 +13,6 @@ room c = read-room c.requires.lies c.edit_at-edit.ensures c.list_of-list.ensures
 
 pub edit_at-edit-requires : goal.edit_at-edit-requires
 edit_at-edit-requires c = lies-bare _ _ _ c.requires.lies
-
-pub overflow_add-at : goal.overflow_add-at
-overflow_add-at c = omega (arith, room c)
 
 pub paint_list_in-requires : goal.paint_list_in-requires
 paint_list_in-requires c = (room (goal.at.paint_list_in-requires c).After-list_offset, list-paints c.requires.lies c.edit_at-edit.ensures c.list_of-list.ensures c.list_offset.ensures c.requires.redoable)

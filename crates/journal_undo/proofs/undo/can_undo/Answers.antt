@@ -1,5 +1,4 @@
 -- `can_undo`: each kind by its lemma. Assumes nothing.
-use borrow.Author.Rules.{rules}
 use mathlib.Core.Path.{◌≡◌, refl}
 use native.Mathlib.Omega.{arith}
 use Rattle.journal_read.proofs.Rooms.{pixels-room, set_room, remove-room, last-kind}

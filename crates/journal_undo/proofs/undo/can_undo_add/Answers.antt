@@ -1,5 +1,4 @@
 -- `can_undo_add`: `can_revert`, then 1 to 3 on the sheet with an entry less. Assumes nothing.
-use borrow.Author.Rules.{rules}
 use native.Mathlib.Omega.{arith}
 use borrow.Author.Tests.{lt-ltb, le-ltb}
 use Rattle.edit.specs.Apply.{reverted, can_revert}

@@ -1,6 +1,5 @@
 -- `can_undo_lock`: the two tests are the definition's. Assumes nothing.
 use native.Mathlib.Omega.{arith}
-use borrow.Author.Rules.{rules}
 use borrow.Author.Tests.{lt-ltb, le-ltb}
 use mathlib.Core.Path.{refl}
 use Rattle.journal_read.proofs.Rooms.{lock-room}

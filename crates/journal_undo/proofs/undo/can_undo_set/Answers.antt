@@ -1,5 +1,4 @@
 -- `can_undo_set`: the two tests are the definition's. Assumes nothing.
-use borrow.Author.Rules.{rules}
 use borrow.Author.Tests.{lt-ltb, le-ltb}
 use Rattle.journal_undo.specs.UndoTests.{set_back}
 use Rattle.journal_undo.proofs.undo.can_undo_set.Goals as goal

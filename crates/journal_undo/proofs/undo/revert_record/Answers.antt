@@ -1,5 +1,4 @@
 -- `revert_record`: each kind by its lemma. Assumes nothing.
-use borrow.Author.Rules.{rules}
 use mathlib.Core.Path.{◌≡◌}
 use native.Mathlib.Omega.{arith}
 use Rattle.sheet.proofs.Strays.{stray-more}

@@ -1,7 +1,6 @@
 -- `undo_record`: the marks moved, then the sheet reverted. Assumes nothing.
-use borrow.Author.Rules.{rules}
 use Rattle.journal_read.proofs.Rooms.{lies-bare}
-use Rattle.journal_undo.proofs.UndoKinds.{marks-undo, marks-undone}
+use Rattle.journal_undo.proofs.UndoKinds.{marks-undo}
 use Rattle.journal_undo.proofs.undo.undo_record.Goals as goal
 
 pub edit_at-requires : goal.edit_at-requires
@@ -11,11 +10,3 @@ pub undo_locks-requires : goal.undo_locks-requires
 undo_locks-requires c =
     let p = c.requires in
     marks-undo _ _ _ c.edit_at.ensures _ _ p.well_formed.0 _ _ p.count_value _ p.well_formed.1
-
-pub revert_record-requires : goal.revert_record-requires
-revert_record-requires c =
-    let p = c.requires in
-    record { lies = p.lies; well_formed = p.well_formed.0; fact = record { locks = _; takes = p.count_value } }
-
-pub returns : goal.returns
-returns c = record { indices_after = c.revert_record.ensures; locks_after = marks-undone _ _ _ c.edit_at.ensures _ _ c.undo_locks.ensures }

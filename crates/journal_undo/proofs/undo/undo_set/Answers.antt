@@ -1,7 +1,6 @@
 -- `undo_set`: the two stores. Assumes nothing.
 use mathlib.Core.Path.{◌∙◌}
 use native.Mathlib.Omega.{arith}
-use borrow.Author.Rules.{rules}
 use Rattle.edit_entries.proofs.Entries.{lab-stored}
 use Rattle.journal_undo.proofs.undo.undo_set.Goals as goal
 

@@ -3,7 +3,6 @@ use Prim.Native.Nat.{◌*◌, ◌^◌, ◌%◌, ◌<◌}
 use native.Mathlib.Omega.{arith}
 use Rattle.edit.specs.Change.{unpacked, place}
 use Rattle.journal_write.proofs.Changes.{low-place, low_fits}
-use borrow.Author.Rules.{rules}
 use Rattle.journal_write.proofs.write.low_place.Goals as goal
 use Rattle.journal_write.proofs.write.low_place.Goals.{After-row-y}
 

@@ -3,7 +3,6 @@ use native.Mathlib.Omega.{arith}
 use mathlib.Core.List.{[], ◌∷◌}
 use Rattle.journal_record.specs.Bytes.{splice}
 use Rattle.journal_record.proofs.Splice.{splice-sets}
-use borrow.Author.Rules.{rules}
 use Rattle.journal_write.proofs.write.put_kind.Goals as goal
 
 pub returns : goal.returns

@@ -1,7 +1,6 @@
 -- `write::put_lab` meets its contract: three doubles one behind the other. Assumes nothing.
 use native.Mathlib.Omega.{arith}
 use Rattle.journal_write.proofs.Written.{lab-written}
-use borrow.Author.Rules.{rules}
 use Rattle.journal_write.proofs.write.put_lab.Goals as goal
 
 pub returns : goal.returns

@@ -2,7 +2,6 @@
 use lib.ListN.{length-map}
 use Rattle.edit.specs.List.{filled_list}
 use Rattle.journal_write.specs.List.{within, Puttable}
-use borrow.Author.Rules.{rules}
 use Rattle.journal_write.proofs.write.put_list.Goals as goal
 
 pub put_changes-requires : goal.put_changes-requires

@@ -2,14 +2,9 @@
 use native.Mathlib.Omega.{arith}
 use native.Mathlib.Numerals.{add-one}
 use mathlib.Core.List.{[], ◌∷◌}
-use lib.ListN.{length-set}
 use Rattle.journal_record.specs.Record.{mark_byte}
 use Rattle.journal_record.proofs.Splice.{splice-sets}
-use borrow.Author.Rules.{rules}
 use Rattle.journal_write.proofs.write.put_marks.Goals as goal
-
-pub bounds-part-at-2 : goal.bounds-part-at-2
-bounds-part-at-2 c = simp length-set (omega arith)
 
 pub returns : goal.returns
 returns c =

@@ -1,7 +1,6 @@
 -- `write::put_placed` meets its contract: the place, and then old and new, which are the number's upper half. Assumes nothing.
 use native.Mathlib.Omega.{arith}
 use Rattle.journal_write.proofs.Changes.{placed-bytes}
-use borrow.Author.Rules.{rules}
 use Rattle.journal_write.proofs.write.put_placed.Goals as goal
 
 pub returns : goal.returns

@@ -1,17 +1,12 @@
 -- `write::write_add` meets its contract: kind, colour and length one behind the other. Assumes nothing.
 use native.Mathlib.Omega.{arith}
-use mathlib.Core.Path.{refl, ◌∙◌}
+use mathlib.Core.Path.{refl}
 use mathlib.Core.List.{[], ◌∷◌}
-use lib.ListN.{length-set}
 use Rattle.edit.specs.Storage.{bytes_of}
 use Rattle.journal_record.specs.Bytes.{splice}
 use Rattle.journal_record.proofs.Splice.{over-then, splice-sets}
 use Rattle.journal_write.proofs.Written.{add-written}
-use borrow.Author.Rules.{rules}
 use Rattle.journal_write.proofs.write.write_add.Goals as goal
-
-pub put_rgb-requires : goal.put_rgb-requires
-put_rgb-requires c = simp length-set (omega arith)
 
 pub returns : goal.returns
 unfolding splice

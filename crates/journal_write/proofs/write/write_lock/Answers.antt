@@ -1,6 +1,5 @@
 -- `write::write_lock` meets its contract: kind and index, the marks and the length one behind the other. Assumes nothing.
 use Rattle.journal_write.proofs.Written.{lock-written}
-use borrow.Author.Rules.{rules}
 use Rattle.journal_write.proofs.write.write_lock.Goals as goal
 
 pub returns : goal.returns

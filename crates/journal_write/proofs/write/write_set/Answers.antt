@@ -1,6 +1,5 @@
 -- `write::write_set` meets its contract: kind and index, the colours, LAB and the length one behind the other. Assumes nothing.
 use Rattle.journal_write.proofs.Written.{set-written}
-use borrow.Author.Rules.{rules}
 use Rattle.journal_write.proofs.write.write_set.Goals as goal
 
 pub returns : goal.returns

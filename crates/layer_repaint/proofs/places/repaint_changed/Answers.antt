@@ -1,7 +1,5 @@
 -- `repaint_changed`: the edited layer's parts of the buffers. Assumes nothing.
 use Prim.Native.Nat.{◌+◌, ◌*◌, ◌≤◌}
-use native.Mathlib.Omega.{arith}
-use borrow.Author.Rules.{rules}
 use lib.ListN.{length}
 use Rattle.layer_shown.proofs.Stack.{palette-part, indices-part, part, part_length, part-known}
 use Rattle.layer_repaint.proofs.Repainting.{part-places}
@@ -11,15 +9,6 @@ use Rattle.layer_repaint.proofs.places.repaint_changed.Goals.{Start}
 -- the layer's indices are there
 inside : (c : Start) → length c.args.earlier.now * c.args.edited + length c.args.earlier.now ≤ length c.args.indices.now
 inside c = indices-part c.requires.0 c.args.edited c.requires.1
-
-pub overflow_mul-q : goal.overflow_mul-q
-overflow_mul-q c = let h = inside (goal.at.overflow_mul-q c).Start in search rules
-
-pub overflow_add-q_end : goal.overflow_add-q_end
-overflow_add-q_end c = let h = inside (goal.at.overflow_add-q_end c).Start in search rules
-
-pub offset_bounds-indices-q : goal.offset_bounds-indices-q
-offset_bounds-indices-q c = let h = inside (goal.at.offset_bounds-indices-q c).Start in search rules
 
 pub slice_bounds-repaint_places-end-2 : goal.slice_bounds-repaint_places-end-2
 slice_bounds-repaint_places-end-2 c = inside (goal.at.slice_bounds-repaint_places-end-2 c).Start

@@ -5,7 +5,6 @@ use Rattle.sheet_lent.specs.Lent.{lent_of, LentJudged}
 use Rattle.need_model.proofs.Judging.{judged-long, judged-sheet, judged-lent, judged-unread, judged-list, judged-scratch, judged-fine}
 use mathlib.Core.Path.{refl, sym, ◌∙◌}
 use native.Mathlib.Omega.{arith}
-use borrow.Author.Rules.{rules}
 use Rattle.need.proofs.checks.need_no.Goals as goal
 use Rattle.need.proofs.checks.need_no.Goals.{Else-lent-ne0, Else-no-ne0}
 
@@ -21,9 +20,6 @@ returns-then-journal-gt-MAX_JOURNAL c = judged-long _ _ _ _ _ _ c.if-journal-gt-
 
 pub returns-then-no-ne0 : goal.returns-then-no-ne0
 returns-then-no-ne0 c = judged-sheet _ _ _ _ _ _ c.if-journal-gt-MAX_JOURNAL.false _ c.check_marked-no.ensures c.if-no-ne0.true
-
-pub lent_no-lent-requires : goal.lent_no-lent-requires
-lent_no-lent-requires c = ((j2 c).fine refl).formed.limits.cells
 
 pub returns-then-lent-ne0 : goal.returns-then-lent-ne0
 returns-then-lent-ne0 c = judged-lent _ _ _ _ _ _ c.if-journal-gt-MAX_JOURNAL.false (j2 (goal.at.returns-then-lent-ne0 c).Else-no-ne0) _ c.lent_no-lent.ensures c.if-lent-ne0.true

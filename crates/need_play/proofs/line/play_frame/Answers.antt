@@ -3,7 +3,6 @@ use Rattle.panel_model.proofs.Bringing.{pixels-fit, roomy-pixels, roomy-other, a
 use mathlib.Core.Path.{◌∙◌}
 use native.Mathlib.Omega.{arith}
 use Rattle.panel_act.proofs.Others.{no_pixels}
-use borrow.Author.Rules.{rules}
 use Rattle.need_play.proofs.line.play_frame.Goals as goal
 
 pub take_changes-requires : goal.take_changes-requires

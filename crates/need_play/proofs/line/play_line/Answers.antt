@@ -1,7 +1,6 @@
 -- `play_line`: the frame that the line is read as. Assumes nothing.
 use Rattle.need_play.proofs.Frames.{line-read}
 use mathlib.Core.Path.{◌∙◌}
-use borrow.Author.Rules.{rules}
 use Rattle.need_play.proofs.line.play_line.Goals as goal
 
 pub returns : goal.returns

@@ -2,7 +2,6 @@
 use mathlib.Core.Path.{◌≡◌}
 use mathlib.Core.List.{List, [], ◌++◌}
 use borrow.Author.Tests.{le-leb, lt-leb}
-use borrow.Author.Rules.{rules}
 use Rattle.base.specs.Checks.{Check, first_of, refused_or}
 use Rattle.sheet.specs.Sheet.{sheet_of}
 use Rattle.edit.specs.Checks.{permitted_of}

@@ -1,6 +1,5 @@
 -- `check_color`: 1, then 10. Assumes nothing.
 use mathlib.Core.Path.{sym, ◌∙◌}
-use borrow.Author.Rules.{rules}
 use Rattle.base.specs.Checks.{first_of, refused_or}
 use Rattle.base.proofs.First.{first_past, first-here, refused-first}
 use Rattle.palette_model.specs.Colours.{check_color_of}

@@ -1,6 +1,5 @@
 -- `marked_no`: the permitted colours, then the sheet and its marks. Assumes nothing.
 use mathlib.Core.Path.{sym, ◌∙◌}
-use borrow.Author.Rules.{rules}
 use Rattle.palette_model.proofs.Opening.{opened-permitted, opened-sheet}
 use Rattle.palette.proofs.colours.marked_no.Goals as goal
 

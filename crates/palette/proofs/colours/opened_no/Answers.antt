@@ -1,6 +1,5 @@
 -- `opened_no`: the permitted colours, then the sheet. Assumes nothing.
 use mathlib.Core.Path.{sym, ◌∙◌}
-use borrow.Author.Rules.{rules}
 use Rattle.palette_model.proofs.Opening.{opened-permitted, opened-sheet}
 use Rattle.palette.proofs.colours.opened_no.Goals as goal
 

@@ -1,5 +1,4 @@
 -- `other_no`: 1 to 3, 7, 9. Assumes nothing.
-use borrow.Author.Rules.{rules}
 use Rattle.sheet.specs.Sheet.{sheet_of}
 use Rattle.sheet.specs.Checks.{WellFormed}
 use Rattle.palette_model.proofs.Answers.{other-refused, other_none, other_last, other-fine}

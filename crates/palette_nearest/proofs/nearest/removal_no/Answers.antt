@@ -1,6 +1,5 @@
 -- `removal_no`: 1 to 3 with the marks, 7, 24, 9. Assumes nothing.
 use native.Mathlib.Omega.{arith}
-use borrow.Author.Rules.{rules}
 use Rattle.palette_model.proofs.Answers.{removal-refused, removal-none, removal-locked, removal-last, removal-fine}
 use Rattle.palette_nearest.proofs.nearest.removal_no.Goals as goal
 

@@ -1,5 +1,4 @@
 -- `nearest_other`: 1 to 3, 7, 9, then the search. Assumes nothing.
-use borrow.Author.Rules.{rules}
 use Rattle.palette_model.proofs.RemoveAnswers.{near-refused, near-found}
 use Rattle.palette_remove.proofs.nearest.nearest_other.Goals as goal
 

@@ -1,7 +1,6 @@
 -- `merge_entries`: 1 to 3, 18, 24, then the remap. Assumes nothing.
 use mathlib.Core.Path.{◌∙◌}
 use native.Mathlib.Omega.{arith}
-use borrow.Author.Rules.{rules}
 use Rattle.base.proofs.First.{no_zero}
 use Rattle.sheet.specs.Sheet.{sheet_of}
 use Rattle.sheet.specs.Checks.{Marked}

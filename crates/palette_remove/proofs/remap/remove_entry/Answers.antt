@@ -1,7 +1,6 @@
 -- `remove_entry`: 1 to 3, 7, 24, 9, then the remap to the nearest other entry, which is handed back. Assumes nothing.
 use mathlib.Core.Path.{sym, ◌∙◌}
 use native.Mathlib.Omega.{arith}
-use borrow.Author.Rules.{rules}
 use Rattle.palette_model.specs.Removal.{remove_entry_of}
 use Rattle.palette_model.proofs.RemoveAnswers.{remove-refused, remove-past, remove-with}
 use Rattle.palette_remove.proofs.remap.remove_entry.Goals as goal

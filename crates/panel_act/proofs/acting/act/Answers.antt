@@ -5,7 +5,6 @@ use Rattle.panel_model.proofs.Marking.{leaves-marked}
 use mathlib.Core.Path.{sym, ◌∙◌}
 use lib.ListN.{length}
 use lib.Seq.{length-take-le}
-use borrow.Author.Rules.{rules}
 use Rattle.panel_act.proofs.acting.act.Goals as goal
 
 pub slice_bounds-push-end-in-Push-2 : goal.slice_bounds-push-end-in-Push-2

@@ -1,7 +1,6 @@
 -- `asked`: the frame decides. Assumes nothing.
 use Rattle.panel_model.specs.Acts.{Roomy}
 use Rattle.panel_model.proofs.Asking.{asks-opening, asks-pixels, asks_set, asks-add, asks-merge, asks-undo, asks-redo, asks-mark, asks-malformed}
-use borrow.Author.Rules.{rules}
 use Rattle.panel_act.proofs.asking.asked.Goals as goal
 
 pub returns-in-Open : goal.returns-in-Open

@@ -1,7 +1,6 @@
 -- `lay_changes`: a pixel frame brings its changes, any other none. Assumes nothing.
 use Rattle.panel_model.proofs.Bringing.{pixels-fit, brought-pixels, brought-other}
 use native.Mathlib.Omega.{arith}
-use borrow.Author.Rules.{rules}
 use Rattle.panel_act.proofs.Others.{no_pixels}
 use Rattle.panel_act.proofs.laying.lay_changes.Goals as goal
 

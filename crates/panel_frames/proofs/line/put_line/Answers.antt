@@ -2,7 +2,6 @@
 use Rattle.panel_frames.proofs.Lines.{length-line, line-written}
 use mathlib.Core.Path.{refl}
 use native.Mathlib.Omega.{arith}
-use borrow.Author.Rules.{rules}
 use Rattle.panel_frames.proofs.line.put_line.Goals as goal
 
 pub returns : goal.returns

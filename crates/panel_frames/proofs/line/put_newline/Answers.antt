@@ -2,7 +2,6 @@
 use Rattle.journal_record.proofs.Splice.{splice-sets}
 use mathlib.Core.List.{◌∷◌, []}
 use native.Mathlib.Omega.{arith}
-use borrow.Author.Rules.{rules}
 use Rattle.panel_frames.proofs.line.put_newline.Goals as goal
 
 pub returns : goal.returns

@@ -1,7 +1,6 @@
 -- `put_number`: two digits and the newline. Assumes nothing.
 use native.Mathlib.Omega.{arith}
 use Rattle.panel_frames.proofs.Lines.{length-number, number-written}
-use borrow.Author.Rules.{rules}
 use Rattle.panel_frames.proofs.line.put_number.Goals as goal
 
 pub returns : goal.returns

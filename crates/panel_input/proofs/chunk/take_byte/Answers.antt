@@ -4,23 +4,10 @@ use Rattle.panel_calls.specs.Panel.{step_of}
 use Rattle.panel_input.proofs.Turns.{byte-ends}
 use Rattle.panel_session.proofs.Steps.{refits}
 use Rattle.panel_open.specs.Memory.{panel_in}
-use lib.Seq.{length-take-le}
 use lib.ListN.{length-set, take}
 use native.Mathlib.Omega.{arith}
-use mathlib.Core.Path.{sym, ◌∙◌}
-use borrow.Author.Rules.{rules}
+use mathlib.Core.Path.{◌∙◌}
 use Rattle.panel_input.proofs.chunk.take_byte.Goals as goal
-
-pub slice_bounds-step-end : goal.slice_bounds-step-end
-slice_bounds-step-end c =
-    omega (arith, c.requires.holds.line-length, c.requires.holds.within)
-
-pub slice_bounds-step-end-then-b-eq10 : goal.slice_bounds-step-end-then-b-eq10
-slice_bounds-step-end-then-b-eq10 c =
-    sym (length-take-le _ _ (omega (arith, c.requires.holds.line-length, c.requires.holds.within)))
-
-pub step-s-requires : goal.step-s-requires
-step-s-requires c = record { fits = c.requires.fits; at_in_bounds = c.requires.at_in_bounds }
 
 pub returns-then-b-eq10 : goal.returns-then-b-eq10
 returns-then-b-eq10 c =
@@ -32,10 +19,6 @@ returns-then-b-eq10 c =
       fits_2 = refits c.requires.fits s.ensures.small s.auto.palette s.auto.lab s.auto.indices s.auto.locks s.auto.journal s.auto.bytes s.auto.list;
       holds_2 = (record { line-length = hold.line-length; within = omega arith }, omega (arith, s.ensures.end_is, s.ensures.short));
     }
-
-pub bounds-line-len : goal.bounds-line-len
-bounds-line-len c =
-    omega (arith, c.requires.holds.line-length, c.if-len-lt-HELD.true)
 
 pub returns-then-len-lt-HELD : goal.returns-then-len-lt-HELD
 returns-then-len-lt-HELD c =

@@ -2,7 +2,6 @@
 use Rattle.panel_frames.proofs.Lines.{length-number}
 use native.Mathlib.Omega.{arith}
 use mathlib.Core.Path.{refl}
-use borrow.Author.Rules.{rules}
 use Rattle.panel_open.proofs.text.number.Goals as goal
 
 pub returns : goal.returns

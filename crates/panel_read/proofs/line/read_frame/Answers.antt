@@ -5,7 +5,6 @@ use mathlib.Core.List.{List}
 use Rattle.base.specs.Numbers.{unread_frame}
 use Rattle.base.specs.Checks.{Check}
 use Rattle.base.specs.Answer.Told.{alone}
-use Rattle.panel_frames.specs.Reading.{size_of}
 use Rattle.panel_frames.specs.Opening.{sheet_in}
 use Rattle.panel_frames.specs.declared.Frame.{Frame}
 use Rattle.panel_frames.specs.declared.Frame.TheVariants.{Open, Pixels, Set, Add, Merge, Undo, Redo, Mark, Malformed}
@@ -24,16 +23,6 @@ sheet-other more Undo bs o = refl
 sheet-other more Redo bs o = refl
 sheet-other more Mark bs o = refl
 sheet-other more Malformed bs o = refl
-
-pub read_open-requires : goal.read_open-requires
-unfolding size_of
-read_open-requires c =
-    rw c.in-Open.is at c.requires
-
-pub returns-in-Open : goal.returns-in-Open
-unfolding sheet_in
-returns-in-Open c =
-    rw c.in-Open.is c.read_open.ensures
 
 pub returns-in_default : goal.returns-in_default
 returns-in_default c =

@@ -1,7 +1,6 @@
 -- `read_line`: the frame, then its sheet. Assumes nothing.
 use mathlib.Core.Path.{◌∙◌}
 use Rattle.panel_read.proofs.Taking.{line-by}
-use borrow.Author.Rules.{rules}
 use Rattle.panel_read.proofs.line.read_line.Goals as goal
 
 pub returns : goal.returns

@@ -3,7 +3,6 @@ use mathlib.Core.Path.{refl, ◌∙◌}
 use Prim.Native.Nat.{◌+◌, ◌*◌, ◌-◌}
 use native.Mathlib.Omega.{arith}
 use Rattle.panel_read.proofs.Judging.{judged-indices, too_wide, too-tall, too_many, bad-palette, bad-lab, stray-opening, openable}
-use borrow.Author.Rules.{rules}
 use Rattle.panel_read.proofs.opening.open_no.Goals as goal
 
 pub returns-then-w-gt-MAX_OPEN : goal.returns-then-w-gt-MAX_OPEN

@@ -1,7 +1,6 @@
 -- `read_open`: the checks, the room, then the parts. Assumes nothing.
 use native.Mathlib.Omega.{arith}
 use Rattle.panel_read.proofs.Taking.{read-refused, read_short, read_done}
-use borrow.Author.Rules.{rules}
 use Rattle.panel_read.proofs.opening.read_open.Goals as goal
 
 pub returns-then-no-ne0 : goal.returns-then-no-ne0
@@ -9,12 +8,6 @@ returns-then-no-ne0 c = read-refused _ _ _ _ _ _ _ _ c.open_no-no.ensures c.if-n
 
 pub returns-then-indices-n : goal.returns-then-indices-n
 returns-then-indices-n c = read_short _ _ _ _ _ _ _ _ c.open_no-no.ensures c.if-no-ne0.false c.if-indices-n.true
-
-pub take_sheet-requires : goal.take_sheet-requires
-take_sheet-requires c =
-    let j = c.open_no-no.ensures in
-    let z = c.if-no-ne0.false in
-    record { n_in_bounds = (c.requires, j.few z, c.if-indices-n.false); palette_len = (j.palette-long z, j.lab-long z) }
 
 pub returns : goal.returns
 returns c =

@@ -4,7 +4,6 @@ use Rattle.panel_session.proofs.Steps.{unopened-call}
 use Rattle.panel_frames.specs.Opening.{sheet_in}
 use Rattle.panel_calls.specs.Panel.{unopened_of}
 use Rattle.panel_frames.specs.Reading.{size_of}
-use borrow.Author.Rules.{rules}
 use Rattle.panel_session.proofs.line.unopened.Goals as goal
 
 pub open_sheet-requires : goal.open_sheet-requires

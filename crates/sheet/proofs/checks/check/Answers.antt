@@ -1,8 +1,6 @@
 -- `check`: the limits, then the two scans. Assumes nothing.
 use mathlib.Core.Path.{◌≡◌, sym, ◌∙◌}
 use native.Mathlib.Omega.{arith}
-use borrow.Author.Rules.{rules}
-use lib.Seq.{length-take-le}
 use mathlib.Core.Bool.{false}
 use Rattle.base.specs.Lists.{some}
 use Rattle.sheet.specs.Sheet.{sheet_of, stray}

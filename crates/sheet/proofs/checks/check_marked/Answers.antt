@@ -1,5 +1,4 @@
 -- `check_marked`: the marks' number, then `check`. Assumes nothing.
-use borrow.Author.Rules.{rules}
 use Rattle.sheet.proofs.Marks.{marked-short, marked-sheet}
 use Rattle.sheet.proofs.checks.check_marked.Goals as goal
 

@@ -1,5 +1,4 @@
 -- `is_stray`: the two tests are the definition's. Assumes nothing.
-use borrow.Author.Rules.{rules}
 use mir.Facts.{to_z-of_z}
 use Rattle.sheet.specs.Sheet.{stray_z}
 use Rattle.sheet.proofs.checks.is_stray.Goals as goal

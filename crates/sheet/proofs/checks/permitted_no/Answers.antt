@@ -1,5 +1,4 @@
 -- `permitted_no`: the tests are the definition's. Assumes nothing.
-use borrow.Author.Rules.{rules}
 use borrow.Author.Tests.{le-ltb, lt-ltb, eq-eqb, ne_eqb, not-true, not-false}
 use Rattle.base.specs.Checks.{first_of}
 use Rattle.sheet.specs.Checks.{permitted_checks}

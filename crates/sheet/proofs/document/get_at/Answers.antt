@@ -1,6 +1,5 @@
 -- `get_at`: 1 to 3, then 15 for either coordinate. Assumes nothing.
 use mathlib.Core.Path.{◌≡◌, sym}
-use borrow.Author.Rules.{rules}
 use mir.Facts.{to_z-of_z}
 use Rattle.base.specs.Checks.{first_of, refused_or}
 use Rattle.base.specs.Ints.{far}

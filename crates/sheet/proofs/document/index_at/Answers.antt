@@ -2,13 +2,13 @@
 use mathlib.Core.Path.{◌≡◌, ap, ◌∙◌}
 use Prim.Native.Nat.{◌+◌, ◌*◌, ◌<◌}
 use native.Mathlib.Omega.{arith}
-use borrow.Author.Rules.{rules}
 use lib.IntN.{ℤ, pos}
 use lib.ListN.{length, get_or}
 use mir.Syntax.{w16}
 use mir.Facts.{to_z-of_z}
 use Rattle.base.specs.Ints.{on_axis}
-use Rattle.base.proofs.Back.{back}
+use mir.Val.{SFits}
+use borrow.Author.Rules.{rules}
 use mathlib.Core.Option.{some}
 use Rattle.base.specs.Answer.Told.{result}
 use Rattle.sheet.proofs.Places.{place, index-inside, off-column, off-row}
@@ -40,7 +40,9 @@ bounds-indices-row c = here c
 
 pub returns-then-row-h : goal.returns-then-row-h
 returns-then-row-h c =
-    ap (λ (z : ℤ). result (some z)) (back w16 (get_or c.args.indices.now (c.on_axis-row.result * c.args.w + c.on_axis-column.result) (pos 0)) c.result-1.given)
+    let z : ℤ = get_or c.args.indices.now (c.on_axis-row.result * c.args.w + c.on_axis-column.result) (pos 0) in
+    let fits : SFits w16 z = search rules in
+    ap (λ (z : ℤ). result (some z)) (to_z-of_z fits)
     ∙ ap result (index-inside _ _ _ _ _ _ _ (column c.before.before.before) (row c.before.before.before) c.if-column-w.true c.if-row-h.true)
 
 pub returns-else-row-h : goal.returns-else-row-h

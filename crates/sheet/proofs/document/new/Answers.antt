@@ -1,7 +1,6 @@
 -- `new`: the limits, the marks' number, the indices, then the LAB and the marks of the k entries. Assumes nothing.
 use mathlib.Core.Path.{refl, sym, ◌∙◌}
 use native.Mathlib.Omega.{arith}
-use borrow.Author.Rules.{rules}
 use Rattle.base.specs.Checks.{first_of}
 use Rattle.sheet.specs.Sheet.{sheet_of}
 use Rattle.sheet.specs.Checks.{Limits}

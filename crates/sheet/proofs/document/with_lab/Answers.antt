@@ -1,6 +1,5 @@
 -- `with_lab`: what `check_marked` finds, then the marks. Assumes nothing.
 use native.Mathlib.Omega.{arith}
-use borrow.Author.Rules.{rules}
 use Rattle.sheet.proofs.Answers.{lab-refused, lab-done}
 use Rattle.sheet.proofs.document.with_lab.Goals as goal
 

@@ -1,18 +1,14 @@
--- `clear_locks`: i marks are false. Assumes nothing.
-use mathlib.Core.Path.{◌≡◌}
-use Prim.Native.Nat.{◌≤◌, ◌-◌}
-use native.Mathlib.Omega.{arith}
-use borrow.Author.Rules.{rules}
-use lib.ListN.{length}
+-- `clear_locks`: k marks are false, and then come the others. Assumes nothing.
+use mathlib.Core.Bool.{false}
+use lib.ListN.{length-replicate}
+use lib.Seq.{length-take-le}
+use Rattle.base.proofs.Over.{over-is}
 use Rattle.sheet.specs.Document.{cleared_marks}
-use Rattle.sheet.proofs.Marks.{cleared-none, cleared-next, cleared-all}
 use Rattle.sheet.proofs.locks.clear_locks.Goals as goal
 
-pub loop-i-init : goal.loop-i-init
-loop-i-init c = (search rules, search rules, cleared-none _)
-
-pub loop-i-preserved : goal.loop-i-preserved
-loop-i-preserved c = (search rules, search rules, cleared-next _ _ _ c.loop-i.invariant.2 (omega arith))
-
 pub returns : goal.returns
-returns c = cleared-all _ _ _ _ c.loop-i.invariant.2 c.loop-i.invariant.0 c.loop-i-test.false
+unfolding cleared_marks
+returns c =
+    let k = c.args.k in
+    let locks = c.args.locks.now in
+    rw (c.fill.ensures.after (λ y e. e), length-take-le k locks c.requires) (over-is _ locks k (length-replicate k false))

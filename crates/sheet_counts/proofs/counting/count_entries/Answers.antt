@@ -1,41 +1,35 @@
--- `counting::count_entries` meets its contract. The loop's invariant: the counts of the first i pixels, then what stood there. Assumes nothing.
+-- `counting::count_entries` meets its contract. The loop's invariant: the counts of the first pixels, then what stood there. Assumes nothing.
 use mathlib.Core.Path.{◌≡◌, refl, ◌∙◌}
 use mathlib.Core.Bool.{false}
-use Prim.Native.Nat.{◌≤◌, ◌-◌}
 use borrow.Author.Rules.{rules}
-use lib.IntN.{pos}
-use lib.ListN.{length, drop, get_or}
+use lib.IntN.{ℤ, pos}
+use lib.ListN.{get_or}
+use lib.Seq.{length-take-le}
 use mir.Syntax.{w16}
-use mir.Val.{to_z, of_z}
-use Rattle.base.proofs.Back.{back}
+use mir.Val.{SFits}
+use mir.Facts.{to_z-of_z}
 use Rattle.sheet.specs.Sheet.{stray}
-use Rattle.sheet.proofs.Pixels.{read_none}
+use Rattle.base.proofs.Scan.{some-none}
 use Rattle.base.proofs.Over.{over-is}
 use Rattle.sheet_counts.proofs.Totals.{counts-length}
-use Rattle.sheet_counts.proofs.Turns.{Counted, counted_none, counted-room, counted_next, counted-all}
+use Rattle.sheet_counts.proofs.Turns.{counted_none, counted-room, counted_next, counted-all}
 use Rattle.sheet_counts.proofs.counting.count_entries.Goals as goal
-use Rattle.sheet_counts.proofs.counting.count_entries.Goals.{After-count_one-arg-in-loop-i-1, At-loop-i, Start}
 
--- the start of the function, seen from the loop
-abbrev start : At-loop-i → Start
-start c = (goal.at.At-loop-i c).Start
-
--- the pixel is not stray
-fine : (c : After-count_one-arg-in-loop-i-1) → stray (start c.before.before.before).args.k (to_z w16 (of_z w16 (get_or (start c.before.before.before).args.indices.now c.loop-i.i (pos 0)))) ≡ false
-fine c = read_none _ _ _ (start (goal.at.After-count_one-arg-in-loop-i-1 c).At-loop-i).requires.1 c.loop-i-test.true c.count_one-arg-in-loop-i-1.given
-
-pub loop-i-init : goal.loop-i-init
-loop-i-init c = (search rules, refl, counted_none _ _ _ _ c.clear.ensures)
+pub loop-z-init : goal.loop-z-init
+loop-z-init c = let h = length-take-le c.args.k c.args.out.now c.requires.2 in counted_none _ _ _ _ (rw (c.fill.ensures.after (λ y e. e), h))
 
 pub count_one-requires : goal.count_one-requires
-count_one-requires c = counted-room c.loop-i.invariant.2 (start (goal.at.count_one-requires c).At-loop-i).requires.0 _ (fine c)
+count_one-requires c =
+    let z : ℤ = get_or c.args.indices.now c.loop-z.z-index (pos 0) in
+    let fits : SFits w16 z = search rules in
+    rw (to_z-of_z fits) (counted-room c.loop-z.invariant c.requires.0 z (some-none (stray c.args.k) c.args.indices.now c.loop-z.z-index (pos 0) c.requires.1 c.loop-z-test.true))
 
-pub loop-i-preserved : goal.loop-i-preserved
-loop-i-preserved c = (
-  search rules,
-  search rules,
-  counted_next c.loop-i.invariant.2 c.loop-i-test.true (back w16 _ c.count_one-arg-in-loop-i-1.given) (fine (goal.at.loop-i-preserved c).After-count_one-arg-in-loop-i-1) c.count_one.ensures,
-)
+pub loop-z-preserved : goal.loop-z-preserved
+loop-z-preserved c =
+    let z : ℤ = get_or c.args.indices.now c.loop-z.z-index (pos 0) in
+    let fits : SFits w16 z = search rules in
+    let fine : stray c.args.k z ≡ false = some-none (stray c.args.k) c.args.indices.now c.loop-z.z-index (pos 0) c.requires.1 c.loop-z-test.true in
+    counted_next c.loop-z.invariant c.loop-z-test.true refl fine (rw (to_z-of_z fits) at c.count_one.ensures)
 
 pub returns : goal.returns
-returns c = counted-all _ c.loop-i.invariant.2 c.clear.ensures c.loop-i-test.false ∙ over-is _ _ _ (counts-length _ _)
+returns c = counted-all c.loop-z.invariant c.loop-z-test.false ∙ over-is _ _ _ (counts-length _ _)

@@ -1,6 +1,5 @@
 -- `counts`: 1 to 3, then 16, then one pass over the indices. Assumes nothing.
 use native.Mathlib.Omega.{arith}
-use borrow.Author.Rules.{rules}
 use Rattle.sheet.specs.Sheet.{sheet_of}
 use Rattle.sheet.specs.Checks.{WellFormed}
 use Rattle.sheet_counts.proofs.Answers.{counts-refused, counts-short, counts-done}

@@ -1,6 +1,5 @@
 -- `diff_mask`: 1 to 3, the baseline's 1 and 2, then 16, then one pass over both lists of indices. Assumes nothing.
 use mathlib.Core.Path.{refl, sym, subst, ◌∙◌}
-use borrow.Author.Rules.{rules}
 use Rattle.sheet.specs.Sheet.{sheet_of}
 use Rattle.sheet.specs.Checks.{WellFormed}
 use Rattle.sheet_diff.specs.Mask.{baseline_of, Based}

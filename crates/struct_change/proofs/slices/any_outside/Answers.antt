@@ -1,8 +1,11 @@
-use Rattle.std.proofs.Common.{arith, ◌∙◌, ap, ◌≡◌}
-use Rattle.struct_change.proofs.Loops.{off_upto, off-all}
+-- `any_outside`: the flag and the structs that are left say what all say. Assumes nothing.
+use mathlib.Core.Path.{◌∙◌}
+use Rattle.base.proofs.Scan.{flag-step, flag-end}
+use Rattle.struct_change.proofs.Loops.{none, off-all}
 use Rattle.struct_change.proofs.slices.any_outside.Goals as goal
 
+pub loop-c-preserved : goal.loop-c-preserved
+loop-c-preserved c = flag-step none c.loop-c.invariant c.loop-c-test.true (rw c.packed.ensures at c.is_outside.ensures) c.either-off.ensures
+
 pub returns : goal.returns
-returns c =
-    let done : c.loop-i.i ≡ c.args.n = omega arith in
-    c.loop-i.invariant.1 ∙ ap (off_upto c.args.w c.args.h c.args.list.now) done ∙ off-all c.args.w c.args.h c.args.list.now c.args.n c.requires
+returns c = flag-end c.loop-c.invariant c.loop-c-test.false ∙ off-all c.args.w c.args.h c.args.list.now c.args.n

@@ -1,8 +1,11 @@
-use Rattle.std.proofs.Common.{arith, ◌∙◌, ap, ◌≡◌}
-use Rattle.struct_change.proofs.Loops.{packs, packs-over}
+-- `pack`: the first i, packed, over the front. Assumes nothing.
+use borrow.Author.Rules.{rules}
+use Rattle.base.proofs.Over.{over_none}
+use Rattle.struct_change.proofs.Loops.{pack-next}
 use Rattle.struct_change.proofs.slices.pack.Goals as goal
 
-pub returns : goal.returns
-returns c =
-    let done : c.loop-i.i ≡ c.args.n = omega arith in
-    c.loop-i.invariant.1 ∙ ap (packs c.args.list.now c.args.flat.now) done ∙ packs-over c.args.list.now c.args.flat.now c.args.n (omega arith) (omega arith)
+pub loop-i-init : goal.loop-i-init
+loop-i-init c = over_none _
+
+pub loop-i-preserved : goal.loop-i-preserved
+loop-i-preserved c = pack-next c.args.list.now c.args.flat.now c.requires.0 c.requires.1 (search rules) c.packed.ensures c.loop-i.invariant

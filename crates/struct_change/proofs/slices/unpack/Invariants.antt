@@ -1,10 +1,10 @@
--- The first numbers are unpacked over the front.
-use Rattle.std.proofs.Common.{◌≡◌, ◌≤◌, ◌-◌}
-use Rattle.struct_change.proofs.Loops.{unpacks, Unpacked}
+-- `unpack`: the first i, as structs, over the front. Assumes nothing.
+use mathlib.Core.List.{map}
+use mathlib.Core.Path.{◌≡◌}
+use lib.ListN.{take}
+use Rattle.base.specs.Lists.{over}
+use Rattle.struct_change.specs.Struct.{packed_of}
 use Rattle.struct_change.proofs.slices.unpack.Given as goal
 
-abbrev pub invariant-loop-filled : goal.invariant-loop-filled
-invariant-loop-filled l = (l.filled ≤ l.n) × ((l.out ≡ unpacks l.flat l.fn.out l.filled) × Unpacked l.flat l.fn.out l.filled)
-
-abbrev pub decreases-loop-filled : goal.decreases-loop-filled
-decreases-loop-filled l = l.n - l.filled
+abbrev pub invariant-loop-i : goal.invariant-loop-i
+invariant-loop-i l = map packed_of l.out ≡ over (take l.i l.flat) (map packed_of l.fn.out)

@@ -3,7 +3,6 @@ use mathlib.Core.Path.{sym, ◌∙◌}
 use lib.Seq.{length-take-le}
 use Rattle.change_list.proofs.Fronts.{front-within}
 use Rattle.struct_extend.proofs.Joined.{ready, parts-fit, over-refused, over_done}
-use borrow.Author.Rules.{rules}
 use Rattle.struct_extend.proofs.strokes.extend_packed.Goals as goal
 
 pub returns-then-no-ne0 : goal.returns-then-no-ne0

@@ -1,12 +1,8 @@
 -- `fill_global_in`: with too little scratch 16, where nothing else refuses the call; else the call, with the front of the scratch for its buffer. Assumes nothing.
-use mathlib.Core.Path.{refl, sym}
-use native.Mathlib.Omega.{arith}
-use lib.ListN.{length}
-use lib.Seq.{length-take-le}
+use mathlib.Core.Path.{refl}
 use mir.Facts.{to_z-of_z}
 use Rattle.sheet.specs.Sheet.{Sheet, sheet_of}
 use Rattle.struct_fill.proofs.Counts.{short-scratch, in-scratch, global-is, global-few}
-use borrow.Author.Rules.{rules}
 use Rattle.struct_fill.proofs.index.fill_global_in.Goals as goal
 use Rattle.struct_fill.proofs.index.fill_global_in.Goals.{Start}
 
@@ -19,14 +15,8 @@ returns-then-scratch-indices c =
     let s = sheet (goal.at.returns-then-scratch-indices c).Start in
     short-scratch _ _ (global-is s a.area a.x a.y a.index) _ _ c.if-scratch-indices.true (rw (to_z-of_z c.ranges.x, to_z-of_z c.ranges.y, to_z-of_z c.ranges.index) at c.fill_global-r.ensures) c.no_room.ensures
 
-pub slice_bounds-fill_global-end-2 : goal.slice_bounds-fill_global-end-2
-slice_bounds-fill_global-end-2 c = omega (arith, c.min_usize-m.ensures)
-
-pub slice_bounds-fill_global-end-3 : goal.slice_bounds-fill_global-end-3
-slice_bounds-fill_global-end-3 c = sym (length-take-le _ _ (omega (arith, c.min_usize-m.ensures)))
-
 pub returns : goal.returns
 returns c =
     let a = c.args in
     let s = sheet (goal.at.returns c).Start in
-    in-scratch _ _ (global-is s a.area a.x a.y a.index) _ _ a.scratch.now _ _ c.if-scratch-indices.false refl c.min_usize-m.ensures (global-few s a.area a.x a.y a.index) (rw (to_z-of_z c.ranges.x, to_z-of_z c.ranges.y, to_z-of_z c.ranges.index) at c.fill_global.ensures)
+    in-scratch _ _ (global-is s a.area a.x a.y a.index) _ _ a.scratch.now _ _ c.if-scratch-indices.false refl c.min-m.ensures (global-few s a.area a.x a.y a.index) (rw (to_z-of_z c.ranges.x, to_z-of_z c.ranges.y, to_z-of_z c.ranges.index) at c.fill_global.ensures)

@@ -5,7 +5,6 @@ use Rattle.sheet.specs.Sheet.{Sheet, sheet_of}
 use Rattle.tile_mirror_checks.specs.Calls.{stage_of}
 use Rattle.tile_mirror_checks.proofs.Staging.{Passed, passed}
 use Rattle.struct_mirror.proofs.Laying.{packed-mirrorable, packed-refused, packed-done}
-use borrow.Author.Rules.{rules}
 use Rattle.struct_mirror.proofs.packed.mirror_packed.Goals as goal
 use Rattle.struct_mirror.proofs.packed.mirror_packed.Goals.{After-prepare, In-Canvas, Start}
 

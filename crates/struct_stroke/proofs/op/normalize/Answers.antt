@@ -1,6 +1,6 @@
 -- `normalize`: the list is packed into flat, `normalize_packed` leaves its list in the scratch, and that is unpacked into out. Assumes nothing.
-use mathlib.Core.Path.{◌≡◌, sym}
-use mathlib.Core.List.{List, map}
+use mathlib.Core.Path.{sym}
+use mathlib.Core.List.{map}
 use Prim.Native.Nat.{ℕ, min}
 use lib.ListN.{length, length-map}
 use Rattle.base.specs.Answer.{filled}
@@ -18,8 +18,8 @@ left : (c : After-count_of-count) → let a = c.args in
     (normalize_call (min (length a.flat.now) (length a.scratch.now)) (map packed_of a.list.now))
 left c =
     let a = c.args in
-    told (λ (i : ℕ). normalize_call (min i (length a.scratch.now))) (map packed_of a.list.now) a.flat.now c.pack.new.flat c.normalize_packed-r.new.scratch (length a.list.now) c.min_usize-m.result
-    c.normalize_packed-r.ensures (length-map a.list.now packed_of) c.min_usize-m.ensures c.pack.auto.flat c.pack.ensures
+    told (λ (i : ℕ). normalize_call (min i (length a.scratch.now))) (map packed_of a.list.now) a.flat.now c.pack.new.flat c.normalize_packed-r.new.scratch (length a.list.now) c.min-m.result
+    c.normalize_packed-r.ensures (length-map a.list.now packed_of) c.min-m.ensures c.pack.auto.flat c.pack.ensures
 
 pub unpack-requires : goal.unpack-requires
 unpack-requires c = copy-fits (left (goal.at.unpack-requires c).After-count_of-count) c.count_of-count.ensures

@@ -1,8 +1,5 @@
 -- `normalize_packed`: 21 and 16; then the numbers, normalised. Assumes nothing.
-use mathlib.Core.Path.{sym}
-use lib.Seq.{length-take-le}
 use Rattle.struct_stroke.proofs.Packed.{first-long, first_short, first_done}
-use borrow.Author.Rules.{rules}
 use Rattle.struct_stroke.proofs.op.normalize_packed.Goals as goal
 
 pub returns-then-n-gt-MAX_CHANGES : goal.returns-then-n-gt-MAX_CHANGES
@@ -10,9 +7,6 @@ returns-then-n-gt-MAX_CHANGES c list e q = first-long _ list _ _ e q c.if-n-gt-M
 
 pub returns-then-flat-n : goal.returns-then-flat-n
 returns-then-flat-n c list e q = first_short _ list _ _ e q c.if-n-gt-MAX_CHANGES.false c.if-flat-n.true
-
-pub slice_bounds-normalize_in-end : goal.slice_bounds-normalize_in-end
-slice_bounds-normalize_in-end c = sym (length-take-le _ _ c.if-flat-n.false)
 
 pub returns : goal.returns
 returns c list e q = first_done _ list _ _ e q c.if-n-gt-MAX_CHANGES.false c.if-flat-n.false c.normalize_in.ensures.in_scratch

@@ -1,6 +1,6 @@
 -- `pixels`: the list is packed into flat, `pixels_packed` leaves its list in the scratch, and that is unpacked into out. Assumes nothing.
-use mathlib.Core.Path.{◌≡◌, sym}
-use mathlib.Core.List.{List, map}
+use mathlib.Core.Path.{sym}
+use mathlib.Core.List.{map}
 use Prim.Native.Nat.{ℕ, min}
 use lib.ListN.{length, length-map}
 use Rattle.change_list.specs.Listed.{InScratch}
@@ -17,8 +17,8 @@ left : (c : After-made_count-count) → let a = c.args in
     (pixels_call a.tool (min (length a.flat.now) (length a.scratch.now)) (map packed_of a.list.now))
 left c =
     let a = c.args in
-    told (λ (i : ℕ). pixels_call a.tool (min i (length a.scratch.now))) (map packed_of a.list.now) a.flat.now c.pack.new.flat c.pixels_packed-r.new.scratch (length a.list.now) c.min_usize-m.result
-    c.pixels_packed-r.ensures (length-map a.list.now packed_of) c.min_usize-m.ensures c.pack.auto.flat c.pack.ensures
+    told (λ (i : ℕ). pixels_call a.tool (min i (length a.scratch.now))) (map packed_of a.list.now) a.flat.now c.pack.new.flat c.pixels_packed-r.new.scratch (length a.list.now) c.min-m.result
+    c.pixels_packed-r.ensures (length-map a.list.now packed_of) c.min-m.ensures c.pack.auto.flat c.pack.ensures
 
 pub unpack-requires : goal.unpack-requires
 unpack-requires c = copy-fits (left (goal.at.unpack-requires c).After-made_count-count) c.made_count-count.ensures

@@ -1,6 +1,5 @@
 -- `pixels_packed`: by what `normalize_packed` answers. Assumes nothing.
 use Rattle.change_op.proofs.Normalizing.{pixels-in}
-use borrow.Author.Rules.{rules}
 use Rattle.struct_stroke.proofs.op.pixels_packed.Goals as goal
 
 pub returns : goal.returns

@@ -1,6 +1,5 @@
 -- `key`: the numbers of the four flips. Assumes nothing.
 use native.Mathlib.Omega.{arith}
-use borrow.Author.Rules.{rules}
 use Rattle.tile_cells.proofs.Flipping.{key-seen}
 use Rattle.tile_cells.proofs.keys.key.Goals as goal
 

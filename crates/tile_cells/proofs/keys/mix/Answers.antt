@@ -1,6 +1,5 @@
 -- `mix`: one index. Assumes nothing.
 use native.Mathlib.Omega.{arith}
-use borrow.Author.Rules.{rules}
 use mir.Syntax.{w16}
 use mir.Val.{of_z}
 use Rattle.base.proofs.Back.{by_value}

@@ -1,11 +1,13 @@
 -- `mix_row`: the first x indices of a row. Assumes nothing.
-use mathlib.Core.List.{map}
 use mathlib.Core.Path.{◌≡◌, refl}
-use Prim.Native.Nat.{◌<◌, ◌≤◌, ◌-◌, ◌^◌}
+use Prim.Native.Nat.{◌+◌}
 use native.Mathlib.Omega.{arith}
 use borrow.Author.Rules.{rules}
+use lib.IntN.{pos}
+use lib.ListN.{get_or}
 use mir.Syntax.{w16}
-use Rattle.base.proofs.Back.{back}
+use mir.Val.{SFits}
+use mir.Facts.{to_z-of_z}
 use Rattle.base.specs.Lists.{range}
 use Rattle.tile_cells.specs.Seen.{in_row, row_seen}
 use Rattle.tile_cells.specs.Key.{mixed_all}
@@ -15,11 +17,14 @@ use Rattle.tile_cells.proofs.keys.mix_row.Goals as goal
 
 pub loop-x-init : goal.loop-x-init
 unfolding mixed_all range
-loop-x-init c = (search rules, (refl, search rules))
+loop-x-init c = (refl, search rules)
 
 pub loop-x-preserved : goal.loop-x-preserved
-loop-x-preserved c = let a = c.args in (search rules, (mixed-next a.n (in_row a.src.now a.at a.t a.fh) c.loop-x.x c.loop-x.invariant.1.0 c.mix-n.ensures.0 (in-row a.src.now a.at a.t a.fh c.loop-x.x (back w16 _ c.mix-arg-1.given) c.turn.ensures.0), c.mix-n.ensures.1))
+loop-x-preserved c =
+    let a = c.args in
+    let p : SFits w16 (get_or a.src.now (a.at + c.turn.result) (pos 0)) = search rules in
+    (mixed-next a.n (in_row a.src.now a.at a.t a.fh) c.loop-x.x c.loop-x.invariant.0 c.mix-n.ensures.0 (in-row a.src.now a.at a.t a.fh c.loop-x.x (to_z-of_z p) c.turn.ensures.0), c.mix-n.ensures.1)
 
 pub returns : goal.returns
 unfolding row_seen
-returns c = let e : c.loop-x.x ≡ c.args.t = omega arith in (rw e at c.loop-x.invariant.1.0, c.loop-x.invariant.1.1)
+returns c = let e : c.loop-x.x ≡ c.args.t = omega arith in (rw e at c.loop-x.invariant.0, c.loop-x.invariant.1)

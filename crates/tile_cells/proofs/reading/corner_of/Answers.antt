@@ -1,18 +1,11 @@
 -- `corner_of`: the sums that it forms fit. Assumes nothing.
 use mathlib.Core.Path.{refl}
-use Prim.Native.Nat.{◌<◌, ◌*◌, ◌/◌}
-use native.Mathlib.Nat.{mul-le-mul_left, le-div_iff_mul-le}
+use Prim.Native.Nat.{◌*◌, ◌/◌}
+use native.Mathlib.Nat.{mul-le-mul_left}
 use native.Mathlib.Omega.{arith}
-use borrow.Author.Rules.{rules}
 use Rattle.tile_cells.specs.Cells.{corner_of}
 use Rattle.tile_cells.proofs.reading.corner_of.Goals as goal
 use Rattle.tile_cells.proofs.reading.corner_of.Goals.{Start}
-
-wide : (c : Start) → 0 < c.args.w / c.args.t
-wide c = (le-div_iff_mul-le {k = c.args.t} {x = 1} {y = c.args.w} c.requires.0).1 (omega arith)
-
-pub nonzero_div-result : goal.nonzero_div-result
-nonzero_div-result c = wide c
 
 pub overflow_mul-result : goal.overflow_mul-result
 unfolding corner_of
@@ -21,13 +14,6 @@ overflow_mul-result c = omega (arith, mul-le-mul_left {m = 1} {n = c.args.w} (c.
 pub overflow_mul-result-2 : goal.overflow_mul-result-2
 unfolding corner_of
 overflow_mul-result-2 c = omega arith
-
-pub nonzero_rem-result : goal.nonzero_rem-result
-nonzero_rem-result c = wide c
-
-pub overflow_mul-result-3 : goal.overflow_mul-result-3
-unfolding corner_of
-overflow_mul-result-3 c = omega arith
 
 pub overflow_add-result : goal.overflow_add-result
 unfolding corner_of

@@ -1,7 +1,6 @@
 -- `turn`: from either side. Assumes nothing.
 use mathlib.Core.Path.{refl}
 use native.Mathlib.Omega.{arith}
-use borrow.Author.Rules.{rules}
 use Rattle.tile_cells.specs.Tile.{turned}
 use Rattle.tile_cells.proofs.reading.turn.Goals as goal
 

@@ -6,7 +6,6 @@ use Rattle.tile_cells.specs.Cells.{cell_count, code_of}
 use Rattle.tile_cells.proofs.Corners.{fits, corner-small, corner-lies, count_small, area, order_is}
 use Rattle.tile_cells.proofs.Firsts.{code-small}
 use Rattle.tile_classes.proofs.Entering.{code-none, code-some, some-inside}
-use borrow.Author.Rules.{rules}
 use Rattle.tile_classes.proofs.firsts.code.Goals as goal
 use Rattle.tile_classes.proofs.firsts.code.Goals.{After-order_to-order, Else-f-eq0}
 

@@ -6,15 +6,12 @@ use lib.ListN.{get_or}
 use Rattle.tile_classes.specs.Places.{key_in}
 use Rattle.tile_classes.specs.Ranks.{key_at}
 use Rattle.tile_classes.proofs.Ranks.{fresh-first, fresh-same-at, fresh-other-at}
-use borrow.Author.Rules.{rules}
-use Rattle.tile_classes.proofs.ranking.fresh.Reads as reads
-use Rattle.tile_classes.proofs.ranking.fresh.Lts as lts
-use Rattle.tile_classes.proofs.ranking.key_in.Reads as key-in-reads
 use Rattle.tile_classes.proofs.ranking.fresh.Goals as goal
 use Rattle.tile_classes.proofs.ranking.fresh.Goals.{After-key_in-2}
 
 -- src/ranking.rt:37:9
 -- the number before it
+
 later : (c : After-key_in-2) → let a = c.args in a.i ≡ suc (a.i - 1)
 later c = omega (arith, c.if-i-eq0.false)
 

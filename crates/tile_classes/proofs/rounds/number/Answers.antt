@@ -4,7 +4,6 @@ use native.Mathlib.Omega.{arith}
 use Rattle.tile_cells.proofs.Corners.{fits, corner-small, corner-lies, count_small, area}
 use Rattle.tile_classes.specs.Places.{class_in}
 use Rattle.tile_classes.proofs.Pixels.{pixel-digit, number_is}
-use borrow.Author.Rules.{rules}
 use Rattle.tile_classes.proofs.rounds.number.Goals as goal
 use Rattle.tile_classes.proofs.rounds.number.Goals.{After-digit-d}
 

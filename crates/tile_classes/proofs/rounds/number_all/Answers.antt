@@ -1,34 +1,25 @@
 -- `number_all`: the cells below c are numbered. Assumes nothing.
 use mathlib.Core.Path.{◌≡◌}
-use Prim.Native.Nat.{◌+◌, ◌≤◌, ◌-◌, ◌<◌, ◌^◌}
+use Prim.Native.Nat.{◌+◌, ◌<◌, ◌^◌}
 use native.Mathlib.Omega.{arith}
 use lib.ListN.{length, get_or}
 use Rattle.tile_cells.proofs.Corners.{count_small, area}
-use Rattle.tile_least.specs.Least.{Digit}
 use Rattle.tile_classes.specs.Places.{class_in}
-use Rattle.tile_classes.specs.Classes.{Numbered}
-use Rattle.tile_classes.specs.Pixels.{pixel_of}
-use Rattle.tile_classes.proofs.Writing.{written_none, written_next}
-use borrow.Author.Rules.{rules}
+use Rattle.tile_classes.proofs.Writing.{written_next}
 use Rattle.tile_classes.proofs.rounds.number_all.Goals as goal
 use Rattle.tile_classes.proofs.rounds.number_all.Goals.{In-loop-c}
 
 -- the place is as it was, and there is room for the number
+
 here : (c : In-loop-c)
     → get_or c.loop-c.s c.loop-c.c 0 ≡ get_or c.args.s.now c.loop-c.c 0
-here c = c.loop-c.invariant.1.places _ c.loop-c-test.true
+here c = c.loop-c.invariant.places _ c.loop-c-test.true
 
 small : (c : In-loop-c) → class_in (get_or c.args.s.now c.loop-c.c 0) < 2 ^ 20
 small c = let p = c.requires in omega (arith, p.told.classed.small _ c.loop-c-test.true, p.tiled.1, count_small p.tiled.0, area p.tiled.0)
 
 long : (c : In-loop-c) → c.args.n + c.loop-c.c < length c.args.s.now
 long c = omega (arith, c.requires.told.classed.room, c.loop-c-test.true)
-
-pub loop-c-init : goal.loop-c-init
-loop-c-init c = (omega arith, written_none _ _ _)
-
-pub bounds-s-c : goal.bounds-s-c
-bounds-s-c c = omega (arith, long (goal.at.bounds-s-c c).In-loop-c)
 
 pub number-v-requires : goal.number-v-requires
 number-v-requires c =
@@ -38,24 +29,7 @@ number-v-requires c =
           (small (goal.at.number-v-requires c).In-loop-c, p.told.least _ c.loop-c-test.true));
     }
 
-pub overflow_add-s : goal.overflow_add-s
-overflow_add-s c = omega (arith, long (goal.at.overflow_add-s c).In-loop-c)
-
-pub offset_bounds-s-n : goal.offset_bounds-s-n
-offset_bounds-s-n c = omega (arith, long (goal.at.offset_bounds-s-n c).In-loop-c)
-
-pub bounds-s-n : goal.bounds-s-n
-bounds-s-n c = omega (arith, long (goal.at.bounds-s-n c).In-loop-c, c.loop-c.invariant.1.long)
-
 pub loop-c-preserved : goal.loop-c-preserved
-loop-c-preserved c = (
-  omega (arith, c.loop-c-test.true),
-  written_next _ _ c.loop-c.invariant.1 (long (goal.at.loop-c-preserved c).In-loop-c) _
-      (rw (here (goal.at.loop-c-preserved c).In-loop-c) at c.number-v.ensures),
-)
-
-pub shape_of-s : goal.shape_of-s
-shape_of-s c = c.loop-c.invariant.1.long
-
-pub returns : goal.returns
-returns c = let e : c.loop-c.c ≡ c.args.n = omega (arith, c.loop-c.invariant.0) in rw e at c.loop-c.invariant.1
+loop-c-preserved c =
+    written_next _ _ c.loop-c.invariant (long (goal.at.loop-c-preserved c).In-loop-c) _
+    (rw (here (goal.at.loop-c-preserved c).In-loop-c) at c.number-v.ensures)

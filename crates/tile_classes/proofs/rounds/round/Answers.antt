@@ -6,7 +6,6 @@ use borrow.Rule.Slice.PartMut.{put_mid}
 use Rattle.tile_cells.proofs.Corners.{count_small, area}
 use Rattle.tile_classes.proofs.Shuffles.{Shuffled, shuffled}
 use Rattle.tile_classes.proofs.Pixels.{round-listed, told-next}
-use borrow.Author.Rules.{rules}
 use Rattle.tile_classes.proofs.rounds.round.Goals as goal
 use Rattle.tile_classes.proofs.rounds.round.Goals.{After-sort}
 

@@ -9,6 +9,3 @@ use Rattle.tile_copies.proofs.waiting.emit.Given as goal
 
 abbrev pub invariant-loop-p : goal.invariant-loop-p
 invariant-loop-p l = Emitting l.w l.indices l.initial.s l.s l.m l.p
-
-abbrev pub decreases-loop-p : goal.decreases-loop-p
-decreases-loop-p l = length l.initial.s - l.p

@@ -11,29 +11,29 @@ use Rattle.tile_copies.proofs.waiting.pend_all.Goals as goal
 use Rattle.tile_copies.proofs.waiting.pend_all.Goals.{After-place_of-q}
 
 at : (c : After-place_of-q) → c.place_of-q.result < length c.args.s.now
-at c = rw c.place_of-q.ensures (c.requires.on c.loop-i.i c.loop-i-test.true)
+at c = rw c.place_of-q.ensures (c.requires.on c.loop-change.change-index c.loop-change-test.true)
 
-pub loop-i-init : goal.loop-i-init
-loop-i-init c = (omega arith, running-start _ _ _)
+pub loop-change-init : goal.loop-change-init
+loop-change-init c = running-start _ _ _
 
 pub place_of-q-requires : goal.place_of-q-requires
-place_of-q-requires c = let p = c.requires in omega (arith, p.on c.loop-i.i c.loop-i-test.true, p.small)
+place_of-q-requires c = let p = c.requires in omega (arith, p.on c.loop-change.change-index c.loop-change-test.true, p.small)
 
 pub offset_bounds-s-q : goal.offset_bounds-s-q
 offset_bounds-s-q c = record { fits = omega (arith, at (goal.at.offset_bounds-s-q c).After-place_of-q, c.requires.small) }
 
 pub bounds-s-q : goal.bounds-s-q
-bounds-s-q c = omega (arith, at (goal.at.bounds-s-q c).After-place_of-q, c.loop-i.invariant.1.long)
+bounds-s-q c = omega (arith, at (goal.at.bounds-s-q c).After-place_of-q, c.loop-change.invariant.long)
 
-pub offset_bounds-s-q-in-loop-i : goal.offset_bounds-s-q-in-loop-i
-offset_bounds-s-q-in-loop-i c = record { fits = omega (arith, at (goal.at.offset_bounds-s-q-in-loop-i c).After-place_of-q, c.requires.small) }
+pub offset_bounds-s-q-in-loop-change : goal.offset_bounds-s-q-in-loop-change
+offset_bounds-s-q-in-loop-change c = record { fits = omega (arith, at (goal.at.offset_bounds-s-q-in-loop-change c).After-place_of-q, c.requires.small) }
 
-pub bounds-s-q-in-loop-i : goal.bounds-s-q-in-loop-i
-bounds-s-q-in-loop-i c = omega (arith, at (goal.at.bounds-s-q-in-loop-i c).After-place_of-q, c.loop-i.invariant.1.long)
+pub bounds-s-q-in-loop-change : goal.bounds-s-q-in-loop-change
+bounds-s-q-in-loop-change c = omega (arith, at (goal.at.bounds-s-q-in-loop-change c).After-place_of-q, c.loop-change.invariant.long)
 
-pub loop-i-preserved : goal.loop-i-preserved
-loop-i-preserved c = (omega (arith, c.loop-i-test.true), running-step _ _ _ _ _ c.loop-i.invariant.1 _ _ c.place_of-q.ensures (at (goal.at.loop-i-preserved c).After-place_of-q) c.pend_by-v.ensures)
+pub loop-change-preserved : goal.loop-change-preserved
+loop-change-preserved c = running-step _ _ _ _ _ c.loop-change.invariant _ _ c.place_of-q.ensures (at (goal.at.loop-change-preserved c).After-place_of-q) c.pend_by.ensures
 
 pub returns : goal.returns
 unfolding pending
-returns c = λ p h. let e : c.loop-i.i ≡ length c.args.list.now = omega (arith, c.loop-i.invariant.0, c.loop-i-test.false) in rw e at (c.loop-i.invariant.1.at p h)
+returns c = λ p h. let e : c.loop-change.change-index ≡ length c.args.list.now = omega arith in rw e at (c.loop-change.invariant.at p h)

@@ -9,8 +9,5 @@ use Rattle.tile_copies.specs.Pending.{pending_by, pending}
 use borrow.Author.Rules.{rules}
 use Rattle.tile_copies.proofs.waiting.pend_all.Given as goal
 
-abbrev pub invariant-loop-i : goal.invariant-loop-i
-invariant-loop-i l = (l.i ≤ length l.list) × Running (place_at l.w l.list) (λ j. pending_by (get_or l.list j 0)) l.initial.s l.s l.i
-
-abbrev pub decreases-loop-i : goal.decreases-loop-i
-decreases-loop-i l = length l.list - l.i
+abbrev pub invariant-loop-change : goal.invariant-loop-change
+invariant-loop-change l = Running (place_at l.w l.list) (λ j. pending_by (get_or l.list j 0)) l.initial.s l.s l.change-index

@@ -22,7 +22,7 @@ column : (c : Start) → c.args.p % c.args.w < 1024
 column c = omega (arith, mod-lt c.args.p c.requires.0, c.requires.1)
 
 old : (c : After-old_in-old) → let a = c.args in c.old_in-old.result ≡ old_in (of_z w16 (get_or a.indices.now a.p (pos 0))) (get_or a.s.now a.p 0)
-old c = let a = c.args in rw (back w16 (get_or a.indices.now a.p (pos 0)) c.old_in-arg-1.given) at c.old_in-old.ensures.0
+old c = let a = c.args in rw (back w16 (get_or a.indices.now a.p (pos 0)) (search rules)) at c.old_in-old.ensures.0
 
 pub overflow_mul-place : goal.overflow_mul-place
 overflow_mul-place c = record { fits = omega (arith, row (goal.at.overflow_mul-place c).Start) }

@@ -1,7 +1,5 @@
 -- `compare_rows`: the first x indices are the same. Assumes nothing.
-use mathlib.Core.List.{map}
 use mathlib.Core.Path.{◌≡◌, refl, sym}
-use Prim.Native.Nat.{◌≤◌, ◌-◌}
 use native.Mathlib.Omega.{arith}
 use borrow.Author.Rules.{rules}
 use lib.IntN.{ℤ}
@@ -16,6 +14,7 @@ use Rattle.tile_least.proofs.least.compare_rows.Goals as goal
 use Rattle.tile_least.proofs.least.compare_rows.Goals.{After-compare-n, At-loop-x}
 
 -- the two indices of a turn
+
 abbrev one : At-loop-x → ℤ
 one i = let a = i.args in in_row a.src.now a.p a.t a.ph i.loop-x.x
 
@@ -28,25 +27,25 @@ read c =
     let a = c.args in
     let x = c.loop-x.x in
     indices-are a.src.now a.p a.q a.t a.ph a.qh x c.compare-n.ensures
-    (in-row a.src.now a.p a.t a.ph x (back w16 _ c.compare-arg-1.given) c.turn.ensures.0)
-    (in-row a.src.now a.q a.t a.qh x (back w16 _ c.compare-arg-in-loop-x-1.given) c.turn-in-loop-x.ensures.0)
+    (in-row a.src.now a.p a.t a.ph x (back w16 _ (search rules)) c.turn.ensures.0)
+    (in-row a.src.now a.q a.t a.qh x (back w16 _ (search rules)) c.turn-in-loop-x.ensures.0)
 
 pub loop-x-init : goal.loop-x-init
 unfolding compared range
-loop-x-init c = (search rules, refl)
+loop-x-init c = refl
 
 pub returns-then-n-ne0 : goal.returns-then-n-ne0
 returns-then-n-ne0 c =
     let a = c.args in
     let i = c.loop-x in
-    index-decides a.src.now a.p a.q a.t a.ph a.qh i.x i.invariant.1 (read (goal.at.returns-then-n-ne0 c).After-compare-n) c.loop-x-test.true (search rules)
+    index-decides a.src.now a.p a.q a.t a.ph a.qh i.x i.invariant (read (goal.at.returns-then-n-ne0 c).After-compare-n) c.loop-x-test.true (search rules)
 
 pub loop-x-preserved : goal.loop-x-preserved
 loop-x-preserved c =
     let a = c.args in
     let i = c.loop-x in
-    (search rules, index_same a.src.now a.p a.q a.t a.ph a.qh i.x i.invariant.1 (read (goal.at.loop-x-preserved c).After-compare-n) (search rules))
+    index_same a.src.now a.p a.q a.t a.ph a.qh i.x i.invariant (read (goal.at.loop-x-preserved c).After-compare-n) (search rules)
 
 pub returns : goal.returns
 unfolding row_seen
-returns c = let e : c.loop-x.x ≡ c.args.t = omega arith in sym (rw e at c.loop-x.invariant.1)
+returns c = let e : c.loop-x.x ≡ c.args.t = omega arith in sym (rw e at c.loop-x.invariant)

@@ -1,5 +1,4 @@
 -- `least_order`: the lesser of two, of the other two, and of those. Assumes nothing.
-use borrow.Author.Rules.{rules}
 use Rattle.tile_least.specs.Least.{least_of}
 use Rattle.tile_least.proofs.least.least_order.Goals as goal
 

@@ -10,6 +10,7 @@ use Rattle.tile_least.proofs.least.lesser_order.Goals as goal
 use Rattle.tile_least.proofs.least.lesser_order.Goals.{After-compare_flips-n, Start}
 
 -- the tile in the first order and in the second
+
 abbrev one : Start → List ℤ
 one c = let a = c.args in seen_in a.src.now a.corner a.stride a.t a.o
 

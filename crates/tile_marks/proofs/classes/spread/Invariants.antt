@@ -8,6 +8,3 @@ use Rattle.tile_marks.proofs.classes.spread.Given as goal
 
 abbrev pub invariant-loop-p : goal.invariant-loop-p
 invariant-loop-p l = Spreading l.w l.t l.initial.s l.s l.p
-
-abbrev pub decreases-loop-p : goal.decreases-loop-p
-decreases-loop-p l = l.p

@@ -30,4 +30,4 @@ pub loop-p-preserved : goal.loop-p-preserved
 loop-p-preserved c = let p = c.requires in landing-step _ _ _ _ p.1.few p.2 _ _ c.loop-p.invariant (inside (goal.at.loop-p-preserved c).In-loop-p) _ refl _ c.land_by-v.ensures.0
 
 pub returns : goal.returns
-returns c = landing-end _ _ _ _ _ _ c.loop-p.invariant c.loop-p-test.false
+returns c = landing-end _ _ _ _ _ _ c.loop-p.invariant (omega (arith, c.loop-p.invariant.long))

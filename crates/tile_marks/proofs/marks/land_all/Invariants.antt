@@ -9,6 +9,3 @@ use Rattle.tile_marks.proofs.marks.land_all.Given as goal
 
 abbrev pub invariant-loop-p : goal.invariant-loop-p
 invariant-loop-p l = Landing l.w l.region l.list l.initial.s l.s l.p
-
-abbrev pub decreases-loop-p : goal.decreases-loop-p
-decreases-loop-p l = length l.initial.s - l.p

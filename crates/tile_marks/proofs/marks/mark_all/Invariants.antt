@@ -9,7 +9,4 @@ use borrow.Author.Rules.{rules}
 use Rattle.tile_marks.proofs.marks.mark_all.Given as goal
 
 abbrev pub invariant-loop-i : goal.invariant-loop-i
-invariant-loop-i l = (l.i ≤ length l.list) × Running (λ j. get_or l.initial.s (place_at l.w l.list j) 0) (marked_by l.w l.list) l.initial.s l.s l.i
-
-abbrev pub decreases-loop-i : goal.decreases-loop-i
-decreases-loop-i l = length l.list - l.i
+invariant-loop-i l = Running (λ j. get_or l.initial.s (place_at l.w l.list j) 0) (marked_by l.w l.list) l.initial.s l.s l.i

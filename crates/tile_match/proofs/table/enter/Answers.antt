@@ -1,51 +1,14 @@
 -- `enter`: what is found, and a first cell at the head of its chain. Assumes nothing.
 use mathlib.Core.Path.{◌≡◌, sym}
 use mathlib.Core.Bool.{false≢true}
-use native.Mathlib.Omega.{arith}
-use lib.ListN.{length-set}
 use Rattle.tile_cells.specs.Cells.{cell_count, code_of}
 use Rattle.tile_match.proofs.Entering.{head-is, entered-old, entered-new}
-use borrow.Author.Rules.{rules}
 use Rattle.tile_match.proofs.table.enter.Goals as goal
 use Rattle.tile_match.proofs.table.enter.Goals.{Else-found-ge-FOUND}
 
 found : (c : Else-found-ge-FOUND) → let a = c.args in
     c.find-found.result ≡ code_of a.w a.t a.indices.now a.c
 found c = c.find-found.ensures.value c.if-found-ge-FOUND.false
-
-pub find-found-requires : goal.find-found-requires
-find-found-requires c =
-    let a = c.args in
-    let p = c.requires in
-    let b = c.bucket-b.ensures in
-    record {
-      tiled = p.tiled;
-      chained = p.chained;
-      p_value = head-is a.w a.t a.indices.now (cell_count a.w a.h a.t) a.c p.chained b.0 b.1 c.head_in-head.ensures.0;
-    }
-
-pub returns-then-found-ge-FOUND : goal.returns-then-found-ge-FOUND
-returns-then-found-ge-FOUND c = record { chained_2 = λ e. absurd (false≢true e); most_lt_c = λ e. c.find-found.ensures.most_lt_c c.if-found-ge-FOUND.true }
-
-pub bounds-s-b-then-found-c : goal.bounds-s-b-then-found-c
-bounds-s-b-then-found-c c =
-    let a = c.args in
-    omega (
-      arith,
-      length-set a.s.now a.c c.with_found-v.result,
-      c.requires.chained.long,
-      c.bucket-b.ensures.1,
-    )
-
-pub bounds-s-b-then-found-c-2 : goal.bounds-s-b-then-found-c-2
-bounds-s-b-then-found-c-2 c =
-    let a = c.args in
-    omega (
-      arith,
-      length-set a.s.now a.c c.with_found-v.result,
-      c.requires.chained.long,
-      c.bucket-b.ensures.1,
-    )
 
 pub returns-then-found-c : goal.returns-then-found-c
 returns-then-found-c c =

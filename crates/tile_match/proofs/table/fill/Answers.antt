@@ -2,8 +2,6 @@
 use mathlib.Core.Path.{sym, ◌∙◌}
 use mathlib.Core.Bool.{false≢true}
 use Rattle.tile_match.proofs.Entering.{entered-none, entered-all}
-use borrow.Author.Tests.{not-true, not-false}
-use borrow.Author.Rules.{rules}
 use Rattle.tile_match.proofs.table.fill.Goals as goal
 
 pub enter_all-requires : goal.enter_all-requires
@@ -11,11 +9,8 @@ enter_all-requires c =
     let a = c.args in record {
       tiled = c.requires.0;
       chained = entered-none a.w a.h a.t a.indices.now _
-          (rw c.requires.1 at c.clear.ensures);
+          (rw c.requires.1 at (c.fill.ensures.after (λ y e. e)));
     }
-
-pub returns-then-not-enter_all : goal.returns-then-not-enter_all
-returns-then-not-enter_all c = record { s_after = λ e. absurd (false≢true e); most_bound = λ e. c.enter_all.ensures.most_bound (c.if-not-enter_all.true) }
 
 pub returns : goal.returns
 returns c =

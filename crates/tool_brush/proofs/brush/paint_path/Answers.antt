@@ -44,13 +44,23 @@ loop-i-preserved c =
     let m = more (goal.at.loop-i-preserved c).In-loop-i in
     path-next _ _ _ _ _ _ _ _ _ c.loop-i.invariant m (rw (to_z-of_z (number_fits l n (i - 2) (omega arith)), to_z-of_z (number_fits l n (i - 1) (omega arith)), to_z-of_z (number_fits l n i (omega arith)), to_z-of_z (number_fits l n (i + 1) (omega arith))) at c.paint_line.ensures) c.paint_line.auto.scratch
 
-pub shape_of-scratch : goal.shape_of-scratch
-shape_of-scratch c = c.loop-i.invariant.long ∙ c.paint_stamp.auto.scratch
-
-pub returns : goal.returns
-returns c =
+-- the loop ends where the next place is past the last point, or after the last one
+pub returns-else-points-lt2 : goal.returns-else-points-lt2
+returns-else-points-lt2 c =
     let l = c.args.points.now in
     let n = c.requires.2 in
     let t = c.if-points-lt2.false in
     path-end _ _ _ _ _ _ _ _ c.loop-i.invariant c.loop-i-test.false
+    ∙ path-whole _ _ _ _ l _ t _ (rw (to_z-of_z (number_fits l n 0 (omega arith)), to_z-of_z (number_fits l n 1 (omega arith))) at c.paint_stamp.ensures)
+
+pub returns-else-points-lt2-2 : goal.returns-else-points-lt2-2
+returns-else-points-lt2-2 c =
+    let l = c.args.points.now in
+    let n = c.requires.2 in
+    let t = c.if-points-lt2.false in
+    let i = c.loop-i.i in
+    let m = more (goal.at.returns-else-points-lt2-2 c).In-loop-i in
+    path-end _ _ _ _ _ _ _ _
+    (path-next _ _ _ _ _ _ _ _ _ c.loop-i.invariant m (rw (to_z-of_z (number_fits l n (i - 2) (omega arith)), to_z-of_z (number_fits l n (i - 1) (omega arith)), to_z-of_z (number_fits l n i (omega arith)), to_z-of_z (number_fits l n (i + 1) (omega arith))) at c.paint_line.ensures) c.paint_line.auto.scratch)
+    (omega arith)
     ∙ path-whole _ _ _ _ l _ t _ (rw (to_z-of_z (number_fits l n 0 (omega arith)), to_z-of_z (number_fits l n 1 (omega arith))) at c.paint_stamp.ensures)

@@ -13,6 +13,3 @@ use Rattle.tool_clip.proofs.copying.copy_rows.Given as goal
 
 abbrev pub invariant-loop-j : goal.invariant-loop-j
 invariant-loop-j l = (l.j ≤ l.height) × Rows (index_of l.indices) l.w l.x l.y l.width l.initial.out l.out l.j
-
-abbrev pub decreases-loop-j : goal.decreases-loop-j
-decreases-loop-j l = l.height - l.j

@@ -10,6 +10,3 @@ use Rattle.tool_clip.proofs.rgba.put_clip.Given as goal
 
 abbrev pub invariant-loop-i : goal.invariant-loop-i
 invariant-loop-i l = Put l.k l.palette l.clip l.initial.out l.out l.i
-
-abbrev pub decreases-loop-i : goal.decreases-loop-i
-decreases-loop-i l = length l.clip - l.i

@@ -5,18 +5,16 @@ use borrow.Author.Rules.{rules}
 use lib.IntN.{pos}
 use lib.ListN.{length, get_or}
 use mir.Syntax.{w32}
+use mir.Val.{SFits}
 use Rattle.base.proofs.Scan.{Flagged, flag-step, flag-end}
-use Rattle.base.proofs.Back.{back}
+use Rattle.base.proofs.Back.{by_value}
 use Rattle.base.specs.Ints.{far}
 use Rattle.tool_draw.proofs.calls.any_far.Goals as goal
-use Rattle.tool_draw.proofs.calls.any_far.Goals.{After-is_far}
 
--- the test of the element at i
-tested : (c : After-is_far) → c.is_far.result ≡ far (get_or c.args.points.now c.loop-i.i (pos 0))
-tested c = rw (back w32 (get_or c.args.points.now c.loop-i.i (pos 0)) c.is_far-arg-1.given) at c.is_far.ensures
-
-pub loop-i-preserved : goal.loop-i-preserved
-loop-i-preserved c = (search rules, flag-step (pos 0) c.loop-i.invariant.1 c.loop-i-test.true (tested (goal.at.loop-i-preserved c).After-is_far) c.either-bad.ensures)
+pub loop-z-preserved : goal.loop-z-preserved
+loop-z-preserved c =
+    let fits : SFits w32 (get_or c.args.points.now c.loop-z.z-index (pos 0)) = search rules in
+    flag-step (pos 0) c.loop-z.invariant c.loop-z-test.true (by_value far fits c.is_far.ensures) c.either-bad.ensures
 
 pub returns : goal.returns
-returns c = flag-end c.loop-i.invariant.1 c.loop-i-test.false
+returns c = flag-end c.loop-z.invariant c.loop-z-test.false

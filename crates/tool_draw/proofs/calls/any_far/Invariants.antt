@@ -10,8 +10,5 @@ use Rattle.base.proofs.Back.{back}
 use Rattle.base.specs.Ints.{far}
 use Rattle.tool_draw.proofs.calls.any_far.Given as goal
 
-abbrev pub invariant-loop-i : goal.invariant-loop-i
-invariant-loop-i l = (l.i ≤ length l.points) × Flagged far l.points l.i l.bad
-
-abbrev pub decreases-loop-i : goal.decreases-loop-i
-decreases-loop-i l = length l.points - l.i
+abbrev pub invariant-loop-z : goal.invariant-loop-z
+invariant-loop-z l = Flagged far l.points l.z-index l.bad

@@ -14,5 +14,5 @@ pub returns : goal.returns
 returns c =
     let s = c.args in
     let e : c.pair_of-pair.result ≡ pair_of (get_or s.indices.now s.start (pos 0)) s.index =
-    rw (back w16 (get_or s.indices.now s.start (pos 0)) c.pair_of-arg-1.given, to_z-of_z c.ranges.index) at c.pair_of-pair.ensures.0 in
+    rw (back w16 (get_or s.indices.now s.start (pos 0)) (search rules), to_z-of_z c.ranges.index) at c.pair_of-pair.ensures.0 in
     rw (← is-flood _ _ _ _ _ _ _ (c.reach.auto.s ∙ c.requires.cells) c.reach.ensures e) c.emit.ensures

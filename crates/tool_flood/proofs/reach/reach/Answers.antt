@@ -13,11 +13,11 @@ push-requires c =
     let g = c.requires in
     let e = g.cells in
     let b = g.begins in
-    let k = c.clear.auto.s in
-    (omega arith, omega arith, omega (arith, few g), rw c.clear.ensures (zeros-even (length c.args.s.now) c.args.start))
+    let k = c.fill.ensures.len in
+    (omega arith, omega arith, omega (arith, few g), rw (c.fill.ensures.after (λ y e. e)) (zeros-even (length c.args.s.now) c.args.start))
 
 pub loop-head-init : goal.loop-head-init
-loop-head-init c = fill-begin _ _ _ _ c.requires.wide c.requires.begins _ _ (c.clear.ensures ∙ ap (λ n. replicate n 0) c.requires.cells) c.push.ensures
+loop-head-init c = fill-begin _ _ _ _ c.requires.wide c.requires.begins _ _ (c.fill.ensures.after (λ y e. e) ∙ ap (λ n. replicate n 0) c.requires.cells) c.push.ensures
 
 pub offset_bounds-s-head : goal.offset_bounds-s-head
 offset_bounds-s-head c = record { fits = (let t = tail-in _ _ _ _ _ _ _ _ c.loop-head.invariant in omega (arith, few c.requires)) }

@@ -11,9 +11,6 @@ use Rattle.tool_flood.proofs.reach.reach.Given as goal
 abbrev pub invariant-loop-d : goal.invariant-loop-d
 invariant-loop-d l = Side l.w l.indices l.region l.start l.p l.s l.head l.tail l.d
 
-abbrev pub decreases-loop-d : goal.decreases-loop-d
-decreases-loop-d l = 4 - l.d
-
 abbrev pub invariant-loop-head : goal.invariant-loop-head
 invariant-loop-head l = Flow l.w l.indices l.region l.start l.s l.head l.tail 0
 

@@ -18,9 +18,9 @@ change_at-requires c = (c.requires.0, c.requires.1, (let l = c.loop-p.invariant.
 pub loop-p-preserved : goal.loop-p-preserved
 loop-p-preserved c =
     elim c.if-s-p-eq1.branch [
-      | then-s-p-eq1 w ↦ rw (w.s-is, w.m-is) (emitting-hit _ _ _ c.loop-p.s c.loop-p.m c.loop-p.p w.change_at.result c.loop-p.invariant c.loop-p-test.true w.if-s-p-eq1.true w.change_at.ensures)
-      | else-s-p-eq1 w ↦ rw (w.s-is, w.m-is) (emitting-miss _ _ _ c.loop-p.s c.loop-p.m c.loop-p.p c.loop-p.invariant c.loop-p-test.true w.if-s-p-eq1.false)
+      | then-s-p-eq1 w ↦ rw (w.s-is, w.m-is) (emitting-hit _ _ _ c.loop-p.s c.loop-p.m c.loop-p.p w.change_at.result c.loop-p.invariant (omega (arith, c.loop-p.invariant.long, c.loop-p-test.true)) w.if-s-p-eq1.true w.change_at.ensures)
+      | else-s-p-eq1 w ↦ rw (w.s-is, w.m-is) (emitting-miss _ _ _ c.loop-p.s c.loop-p.m c.loop-p.p c.loop-p.invariant (omega (arith, c.loop-p.invariant.long, c.loop-p-test.true)) w.if-s-p-eq1.false)
     ]
 
 pub returns : goal.returns
-returns c = front_of (emitting-end _ _ _ _ _ _ c.loop-p.invariant c.loop-p-test.false) (let l = c.loop-p.invariant.low in let g = c.loop-p.invariant.high in let k = c.loop-p.invariant.long in omega arith)
+returns c = front_of (emitting-end _ _ _ _ _ _ c.loop-p.invariant (omega (arith, c.loop-p.invariant.long))) (let l = c.loop-p.invariant.low in let g = c.loop-p.invariant.high in let k = c.loop-p.invariant.long in omega arith)

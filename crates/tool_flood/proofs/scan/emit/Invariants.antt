@@ -10,6 +10,3 @@ use Rattle.tool_flood.proofs.scan.emit.Given as goal
 
 abbrev pub invariant-loop-p : goal.invariant-loop-p
 invariant-loop-p l = Emitting l.w l.pair l.initial.s l.s l.m l.p
-
-abbrev pub decreases-loop-p : goal.decreases-loop-p
-decreases-loop-p l = length l.initial.s - l.p

@@ -10,4 +10,4 @@ returns c =
     let f = c.ranges in
     let across = by_values side f.ax f.bx c.side.ensures in
     let down = by_values side f.ay f.by c.side-2.ensures in
-    rw (across, down) at c.max_usize.ensures
+    rw (across, down) at c.max.ensures

@@ -22,4 +22,4 @@ overflow_add-to c =
 
 pub returns : goal.returns
 returns c =
-    move-hull c.args.s c.args.dy c.requires.0 c.requires.1 (lands (goal.at.returns c).After-landing_on) c.landed_rows-to.ensures c.min_usize-first.ensures c.max_usize-end.ensures
+    move-hull c.args.s c.args.dy c.requires.0 c.requires.1 (lands (goal.at.returns c).After-landing_on) c.landed_rows-to.ensures c.min-first.ensures c.max-end.ensures

@@ -1,15 +1,8 @@
 -- `reach_of`: the rows of the points passed lie between the two bounds. Assumes nothing.
-use Prim.Native.Nat.{◌-◌}
-use native.Mathlib.Omega.{arith}
-use lib.ListN.{length}
-use mir.Facts.{to_z-of_z}
-use Rattle.tool_reach.proofs.Paths.{number_fits}
-use Rattle.tool_reach.proofs.Reached.{Reaching, reaching-start, reaching-next, reaching-end}
-use borrow.Author.Rules.{rules}
+use mathlib.Core.Path.{◌≡◌}
+use Rattle.std.specs.Slice.Iter.{chunks_exact_rest, chunks_exact_size}
+use Rattle.tool_reach.proofs.Reached.{Passed}
 use Rattle.tool_reach.proofs.rows.reach_of.Given as goal
 
-abbrev pub invariant-loop-i : goal.invariant-loop-i
-invariant-loop-i l = Reaching l.points l.r l.i
-
-abbrev pub decreases-loop-i : goal.decreases-loop-i
-decreases-loop-i l = length l.points - l.i
+abbrev pub invariant-loop-point : goal.invariant-loop-point
+invariant-loop-point l = (chunks_exact_size l.point-iterator ≡ 2) × Passed l.points l.r (chunks_exact_rest l.point-iterator)

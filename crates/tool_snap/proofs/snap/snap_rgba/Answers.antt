@@ -10,7 +10,7 @@ use Rattle.sheet.specs.Sheet.{sheet_of}
 use Rattle.sheet.specs.Checks.{WellFormed}
 use Rattle.tool_snap.proofs.Answers.{snap-sheet, snap-unfit, snap-wide, snap-high, snap-few, snap-short, snap-done}
 use Rattle.tool_snap.proofs.snap.snap_rgba.Goals as goal
-use Rattle.tool_snap.proofs.snap.snap_rgba.Goals.{After-min_usize-ch, Else-no-ne0, Else-unfit-ne0}
+use Rattle.tool_snap.proofs.snap.snap_rgba.Goals.{After-min-ch, Else-no-ne0, Else-unfit-ne0}
 
 -- past the first test the sheet is well-formed
 past : (c : Else-no-ne0) → let a = c.args in WellFormed (sheet_of a.w a.h a.k a.palette.now a.lab.now a.indices.now)
@@ -24,9 +24,9 @@ formed : (c : Else-unfit-ne0) → let a = c.args in WellFormed (sheet_of a.w a.h
 formed c = past (goal.at.Else-unfit-ne0 c).Else-no-ne0
 
 -- the part that fits
-inside : (c : After-min_usize-ch) → let a = c.args in
-    (c.min_usize-cw.result ≤ a.image_w) × (c.min_usize-cw.result ≤ 1024) × (c.min_usize-ch.result ≤ a.image_h) × (c.min_usize-ch.result ≤ 1024)
-inside c = (omega (arith, c.min_usize-cw.ensures), omega (arith, c.min_usize-cw.ensures, c.if-image_w-gt-MAX_SIDE.false), omega (arith, c.min_usize-ch.ensures), omega (arith, c.min_usize-ch.ensures, c.if-image_h-gt-MAX_SIDE.false))
+inside : (c : After-min-ch) → let a = c.args in
+    (c.min-cw.result ≤ a.image_w) × (c.min-cw.result ≤ 1024) × (c.min-ch.result ≤ a.image_h) × (c.min-ch.result ≤ 1024)
+inside c = (omega (arith, c.min-cw.ensures), omega (arith, c.min-cw.ensures, c.if-image_w-gt-MAX_SIDE.false), omega (arith, c.min-ch.ensures), omega (arith, c.min-ch.ensures, c.if-image_h-gt-MAX_SIDE.false))
 
 pub returns-then-no-ne0 : goal.returns-then-no-ne0
 returns-then-no-ne0 c = snap-sheet _ _ _ _ _ _ _ c.check-no.ensures c.if-no-ne0.true
@@ -54,8 +54,8 @@ overflow_mul-cw c = omega (arith, mul-le-mul (inside c).1 (inside c).3)
 
 pub returns-then-out-cw : goal.returns-then-out-cw
 returns-then-out-cw c =
-    snap-short _ _ _ _ _ _ (formed (goal.at.returns-then-out-cw c).Else-unfit-ne0) (fits (goal.at.returns-then-out-cw c).Else-unfit-ne0) c.if-image_w-gt-MAX_SIDE.false c.if-image_h-gt-MAX_SIDE.false c.if-rgba-image_w.false _ _ c.min_usize-cw.ensures c.min_usize-ch.ensures c.if-out-cw.true
+    snap-short _ _ _ _ _ _ (formed (goal.at.returns-then-out-cw c).Else-unfit-ne0) (fits (goal.at.returns-then-out-cw c).Else-unfit-ne0) c.if-image_w-gt-MAX_SIDE.false c.if-image_h-gt-MAX_SIDE.false c.if-rgba-image_w.false _ _ c.min-cw.ensures c.min-ch.ensures c.if-out-cw.true
 
 pub returns : goal.returns
 returns c =
-    snap-done _ _ _ _ _ _ (formed (goal.at.returns c).Else-unfit-ne0) (fits (goal.at.returns c).Else-unfit-ne0) c.if-image_w-gt-MAX_SIDE.false c.if-image_h-gt-MAX_SIDE.false c.if-rgba-image_w.false _ _ c.min_usize-cw.ensures c.min_usize-ch.ensures c.if-out-cw.false _ c.snap_rows.ensures
+    snap-done _ _ _ _ _ _ (formed (goal.at.returns c).Else-unfit-ne0) (fits (goal.at.returns c).Else-unfit-ne0) c.if-image_w-gt-MAX_SIDE.false c.if-image_h-gt-MAX_SIDE.false c.if-rgba-image_w.false _ _ c.min-cw.ensures c.min-ch.ensures c.if-out-cw.false _ c.snap_rows.ensures

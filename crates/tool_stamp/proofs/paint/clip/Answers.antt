@@ -15,4 +15,4 @@ high c = by_value up_to c.ranges.b c.up_to.ensures
 
 pub returns : goal.returns
 unfolding clipped
-returns c = rw (c.saturating_sub.ensures, c.min_usize-stop.ensures, high (goal.at.returns c).After-up_to, c.min_usize-start.ensures, c.max_usize.ensures, low (goal.at.returns c).After-from_zero)
+returns c = rw (c.saturating_sub.ensures, c.min-stop.ensures, high (goal.at.returns c).After-up_to, c.min-start.ensures, c.max.ensures, low (goal.at.returns c).After-from_zero)

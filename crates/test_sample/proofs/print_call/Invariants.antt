@@ -1,8 +1,0 @@
-use Rattle.std.proofs.Common.{◌≤◌, ◌-◌}
-use Rattle.test_sample.proofs.print_call.Given as goal
-
-abbrev pub invariant-loop-i : goal.invariant-loop-i
-invariant-loop-i g l = l.i ≤ 60
-
-abbrev pub decreases-loop-i : goal.decreases-loop-i
-decreases-loop-i g l = 60 - l.i
