@@ -12,7 +12,9 @@ pub fn copy_out(scratch: &[u64], n: usize, out: &mut [u64])
     requires n_in_bounds_2 { n ≤ length out.old }
     ensures { out.new ≡ over (take n scratch.now) out.old }
 {
-    out[..n].copy_from_slice(&scratch[..n]);
+    for (i, c) in scratch[..n].iter().enumerate() {
+        out[i] = *c;
+    }
 }
 
 // The end of every call that leaves n changes at the front of scratch: how many they are, or 16 where the buffer

@@ -9,6 +9,7 @@ use base::Joined;
 use history_handle::fresh;
 use join_checks::joinable;
 use join_palette::{put_entries, send_indices};
+use sheet_lent::copy;
 
 // Joins two sheets: the first's entries in order, then each colour of the second that is not yet there, in its order.
 // An entry has LAB and lock mark of the sheet that brought it. Both outcomes are written, each to a lent sheet of its
@@ -111,7 +112,7 @@ pub fn join(
         to_lab2,
         to_locks2,
     );
-    to_indices.copy_from_slice(indices);
+    copy(indices, to_indices);
     let all = k + n;
     let end = 3 * all;
     send_indices(

@@ -5,6 +5,8 @@ ghost use Rattle.base.specs.Lists.{over};
 ghost use Rattle.join_model.specs.Stored.{Below};
 ghost use Rattle.join_palette.specs.Pieces.{pieces};
 
+use sheet_lent::copy;
+
 // The entries that a list names, in its order.
 fn put_named<T: Copy, const N: usize>(from: &[T], named: &[usize], out: &mut [T])
     requires { Below 255 named.now × (length from.now ≡ N * 255) × (N * length named.now ≤ length out.old) }
@@ -30,6 +32,6 @@ pub(crate) fn put_joined<T: Copy, const N: usize>(
     ensures { out.new ≡ over (take (N * k) first.now ++ pieces N second.now named.now) out.old }
 {
     let at = N * k;
-    out[..at].copy_from_slice(&first[..at]);
+    copy(&first[..at], &mut out[..at]);
     put_named::<T, N>(second, named, &mut out[at..]);
 }

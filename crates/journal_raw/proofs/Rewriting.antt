@@ -5,8 +5,8 @@ use mathlib.Core.List.{List, [], ◌∷◌, ◌++◌, flat_map, append_assoc}
 use native.Mathlib.Nat.{add_assoc, add-zero, mul-zero, mod-lt}
 use native.Mathlib.Numerals.{add-one}
 use native.Mathlib.Omega.{arith}
-use lib.ListN.{length, take, drop, set, length-append, length-drop}
-use lib.Seq.{length-take-le}
+use lib.ListN.{length, take, drop, get_or, set, length-append, length-drop}
+use lib.Seq.{take-suc, get_or-drop, length-take-le}
 use Rattle.base.specs.declared.Form.{Form}
 use Rattle.base.specs.declared.Form.TheVariants.{Coordinates, Places}
 use Rattle.base.proofs.Collect.{flat_map-append, flat_map-one}
@@ -40,6 +40,12 @@ put_next l to v u s t n e room p q =
 
 pub set-put : (s : List ℕ) (n b : ℕ) → n < length s → set s n b ≡ splice s n (b ∷ [])
 set-put s n b h = splice-sets (b ∷ []) s n (omega arith)
+
+-- ---- bytes copied
+pub one-copied : (bytes : List ℕ) (at i : ℕ) → at + i < length bytes → take (i + 1) (drop at bytes) ≡ take i (drop at bytes) ++ (get_or bytes (at + i) 0 ∷ [])
+one-copied bytes at i h =
+    let inside : i < length (drop at bytes) = rw length-drop (omega arith) in
+    rw (add-one i, take-suc (drop at bytes) i 0 inside, get_or-drop at bytes i 0)
 
 -- ---- changes read one by one
 last-read : (f : Form) (w : ℕ) (bytes : List ℕ) (at i : ℕ) → changes_in f w bytes at (suc i) ≡ changes_in f w bytes at i ++ (change_in f w bytes (at + stride f * i) ∷ [])
@@ -89,6 +95,15 @@ module _ (w : ℕ) (bytes : List ℕ) (at : ℕ) where
       (sym (append_assoc (le 2 (p % w)) (le 2 (p / w)) (le 2 old ++ le 2 new)))
 
 -- ---- the loops and the calls in a row
+pub copy-next : (l : List ℕ) (to : ℕ) (bytes : List ℕ) (at i n : ℕ) (out : List ℕ) → at + n ≤ length bytes → to + n ≤ length l → i < n → Put l to (take i (drop at bytes)) out
+    → Put l to (take (i + 1) (drop at bytes)) (set out (to + i) (get_or bytes (at + i) 0))
+copy-next l to bytes at i n out from room more p =
+    let b : ℕ = get_or bytes (at + i) 0 in
+    let long : length (take i (drop at bytes)) ≡ i = length-take-le i (drop at bytes) (rw length-drop (omega arith)) in
+    rw (one-copied bytes at i (omega arith))
+    (put_next l to (take i (drop at bytes)) (b ∷ []) out (set out (to + i) b) (to + i) (omega arith) (omega arith) p
+    (set-put out (to + i) b (omega (arith, p.same_length))))
+
 pub change-next : (f g : Form) (w : ℕ) (l : List ℕ) (to : ℕ) (bytes : List ℕ) (at i n : ℕ) (out out' : List ℕ) → to + stride g * n ≤ length l → i < n
     → Put l to (flat_map (change_bytes g w) (changes_in f w bytes at i)) out
     → out' ≡ splice out (to + stride g * i) (change_bytes g w (change_in f w bytes (at + stride f * i)))

@@ -28,7 +28,9 @@ fn copy(bytes: &[u8], at: usize, n: usize, out: &mut [u8], to: usize)
     requires { (at + n ≤ length bytes.now) × (to + n ≤ length out.old) }
     ensures { out.new ≡ splice out.old to (take n (drop at bytes.now)) }
 {
-    out[to..to + n].copy_from_slice(&bytes[at..at + n]);
+    for i in 0..n {
+        out[to + i] = bytes[at + i];
+    }
 }
 
 // A change from its place to column and row; old and new as they are.

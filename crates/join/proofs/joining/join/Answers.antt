@@ -48,4 +48,4 @@ put_entries-requires-2 c =
 pub returns : goal.returns
 returns c =
     join-done _ _ _ _ _ _ c.joinable-found.ensures c.if-no-ne0.false c.put_entries.ensures c.put_entries-2.ensures _ _ _ _ c.fresh.ensures c.fresh-2.ensures
-    c.copy_from_slice.ensures.after c.send_indices.ensures
+    c.copy.ensures c.send_indices.ensures

@@ -17,5 +17,5 @@ returns g c =
     let long : length (take n a.first.now) ≡ n =
     length-take-le n a.first.now (omega (arith, mul-le-mul_left g.row.N k)) in
     over-lent (take n a.first.now) (pieces g.row.N a.second.now a.named.now) a.out.now _ _ n long
-    (rw c.copy_from_slice.ensures.after (over-is (take n a.first.now) a.out.now n long))
+    (rw c.copy.ensures (over-is (take n a.first.now) a.out.now n long))
     c.put_named.ensures

@@ -1,6 +1,5 @@
 -- `lent_no`: each test that is taken denies one of the facts, and past them all hold. Assumes nothing.
 use Rattle.sheet_lent.proofs.Judging.{lent-fine, lent-bad}
-use borrow.Author.Rules.{rules}
 use Rattle.sheet_lent.proofs.checks.lent_no.Goals as goal
 
 pub returns-then-to_w-w : goal.returns-then-to_w-w
