@@ -9,8 +9,8 @@ use borrow.Rule.Slice.PartMut.{put_mid, mid_of, post_of, same_len_mid}
 use lib.ListN.{length, take, drop, get_or, length-take, length-drop, get_or-append}
 use lib.Seq.{length-take-le, get_or-take, get_or-drop, get_or-append-add}
 use Rattle.base.proofs.Each.{at_all}
-use Rattle.base_sort.specs.Order.{sorted}
-use Rattle.base_sort.proofs.Order.{Sorted, count, sorted-sorted, count-sorted, one_same, one-other}
+use Rattle.base_sort.specs.Order.{sorted, count}
+use Rattle.base_sort.proofs.Order.{Sorted, sorted-sorted, count-sorted, one_same, one-other}
 use Rattle.tile_classes.specs.Ranks.{number_at}
 
 -- where a number stands
