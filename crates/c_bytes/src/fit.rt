@@ -37,7 +37,7 @@ pub fn sheet_misfits(src: &[u8]) -> bool
     if src.len() != 7146 + 2 * places {
         return true;
     }
-    any_over_one(&src[6891 + 2 * places..])
+    any_over_one(&src[6891 + 2 * places..7146 + 2 * places])
 }
 
 #[tactic(auto, unfolding(c_form::specs::Flat::handle_misfits))]
