@@ -93,6 +93,10 @@ module _ (w t : ℕ) (l : List ℤ) where
   pub first-is : (c f : ℕ) → first f ≡ f → order c f < 4 → first c ≡ f
   first-is c f e h = first-same c f h ∙ e
 
+  -- a first cell is itself unflipped
+  pub first-order : (c : ℕ) → first c ≡ c → order c (first c) ≡ 0
+  first-order c e = rw e (order-self c)
+
   -- ---- the code has both
   pub code-small : (c : ℕ) → code_of w t l c < c * 4 + 4
   unfolding code_of

@@ -11,7 +11,7 @@ use Rattle.base.specs.Lists.{range, over}
 use Rattle.tile_cells.specs.Tile.{turned, same_tile}
 use Rattle.tile_cells.specs.Seen.{in_row, row_seen, row_of, tile_seen, tile_at, Lies}
 use Rattle.tile_cells.specs.Key.{mixed_all}
-use Rattle.tile_cells.proofs.Rows.{length-first}
+use Rattle.tile_cells.proofs.Rows.{length-first, length-rows}
 use Rattle.tile_cells.proofs.Sameness.{same_rows, differ-rows}
 
 pub in-row : (l : List ℤ) (at t : ℕ) (fh : Bool) (x : ℕ) {v : ℤ} {r : ℕ} → v ≡ get_or l (at + r) (pos 0) → r ≡ turned fh t x → v ≡ in_row l at t fh x
@@ -20,6 +20,10 @@ in-row l at t fh x p e = p ∙ ap (λ (i : ℕ). get_or l (at + i) (pos 0)) e
 pub length-row-seen : (l : List ℤ) (at t : ℕ) (fh : Bool) → length (row_seen l at t fh) ≡ t
 unfolding row_seen
 length-row-seen l at t fh = length-first (in_row l at t fh) t
+
+pub length-tile-seen : (l : List ℤ) (corner stride t : ℕ) (fh fv : Bool) → length (tile_seen l corner stride t fh fv) ≡ t * t
+unfolding tile_seen
+length-tile-seen l corner stride t fh fv = length-rows (row_of l corner stride t fh fv) t (λ y. length-row-seen l (corner + turned fv t y * stride) t fh) t
 
 -- a row of a tile that lies inside lies inside
 pub row_lies : (size corner stride t : ℕ) {r : ℕ} → Lies size corner stride t → r < t → corner + r * stride + t ≤ size

@@ -54,6 +54,10 @@ module _ (t : ℕ) (tile u : List ℤ) where
       let o : ℕ = position (tries t tile u) (range 0 4) in
       same-equal (turned_by t o tile) u (rw (range_at 4 o 0 h) at (position-has (tries t tile u) 0 (range 0 4) (omega (arith, length-range 0 4))))
 
+  pub order-most : order_to t tile u ≤ 4
+  unfolding order_to
+  order-most = omega (arith, position-le (tries t tile u) (range 0 4), length-range 0 4)
+
   -- no order below it does
   pub order-before : (o : ℕ) → o < order_to t tile u → tries t tile u o ≡ false
   unfolding order_to

@@ -3,16 +3,18 @@ use mathlib.Core.Path.{◌≡◌, refl, sym, ap, ◌∙◌}
 use mathlib.Core.Bool.{Bool, true, false}
 use mathlib.Core.List.{List}
 use Prim.Native.Nat.{ℕ, ◌*◌, ◌<◌}
+use borrow.Author.Tests.{lt-ltb, ltb-true}
 use lib.Dec.{eqb}
-use lib.IntN.{ℤ}
-use lib.ListN.{length}
-use Rattle.tile_cells.specs.Tile.{flipped, flips, flip_at, turned_by}
-use Rattle.tile_cells.specs.Cells.{cell_of, order_of}
+use lib.IntN.{ℤ, pos}
+use lib.ListN.{length, get_or}
+use Rattle.tile_cells.specs.Tile.{flipped, flips, flip_at, turned_by, order_to, is_flip_of}
+use Rattle.tile_cells.specs.Cells.{cell_of, corner_of, order_of}
+use Rattle.tile_cells.specs.Seen.{tile_at}
 use Rattle.tile_cells.proofs.Flipping.{joint, flipped-twice, length-flipped}
 use Rattle.tile_cells.proofs.Orders.{FlipOf, order_flip, flip-order, flip-trans, flip-sym}
-use Rattle.tile_cells.proofs.Corners.{length-cell}
+use Rattle.tile_cells.proofs.Corners.{length-cell, cell-seen}
 use Rattle.tile_cells.proofs.Positions.{cases}
-use Rattle.tile_least.specs.Least.{compared, lesser, least_of}
+use Rattle.tile_least.specs.Least.{compared, lesser, seen_in, least_of, Digit}
 use Rattle.tile_least.proofs.Comparing.{lesser-swap}
 
 -- the lesser of two is one of them
@@ -77,6 +79,14 @@ module _ (t : ℕ) where
   least-flips-of : (a b : List ℤ) → length b ≡ t * t → least_of t a ≡ least_of t b → FlipOf t a b
   least-flips-of a b h e = flip-trans t (least-flips a) (rw e (flip-sym t h (least-flips b)))
 
+  pub flip-least : (a b : List ℤ) → is_flip_of t a b ≡ true → least_of t a ≡ least_of t b
+  unfolding is_flip_of
+  flip-least a b e = flips-least (order_flip t a b (ltb-true (order_to t a b) 4 e))
+
+  pub least-flip : (a b : List ℤ) → length b ≡ t * t → least_of t a ≡ least_of t b → is_flip_of t a b ≡ true
+  unfolding is_flip_of
+  least-flip a b h e = lt-ltb (order_to t a b) 4 (flip-order t a b (least-flips-of a b h e))
+
 -- ---- the same of cells
 module _ (w t : ℕ) (l : List ℤ) (c : ℕ) where
   abbrev cell : ℕ → List ℤ
@@ -89,3 +99,9 @@ module _ (w t : ℕ) (l : List ℤ) (c : ℕ) where
   pub least-alike : (d : ℕ) → least_of t (cell c) ≡ least_of t (cell d) → order_of w t l c d < 4
   unfolding order_of
   least-alike d e = flip-order t (cell c) (cell d) (least-flips-of t (cell c) (cell d) (length-cell w t l d) e)
+
+  -- what was read at the order in which the cell reads least
+  pub least-digit : {corner r : ℕ} (o p : ℕ) → corner ≡ corner_of w t c → seen_in l corner w t o ≡ least_of t (tile_at l corner w t)
+      → Digit (get_or (seen_in l corner w t o) p (pos 0)) r
+      → Digit (get_or (least_of t (cell c)) p (pos 0)) r
+  least-digit o p a e d = rw (← cell-seen w t l c, ← a, ← e) d

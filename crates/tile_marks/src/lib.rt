@@ -6,4 +6,5 @@ mod classes;
 mod marks;
 
 pub use classes::spread;
+pub use edit::{NEW, PART};
 pub use marks::{PENDING, land_all, mark_all, new_bits};
